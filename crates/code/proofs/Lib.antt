@@ -1,0 +1,27 @@
+-- Words and their symbols
+pub mod Symbols
+pub mod Merge
+pub mod Distance
+pub mod Alternate
+-- Why a balance can always be found
+pub mod Balance
+pub mod Pair
+-- The component code
+pub mod Weights
+pub mod Syndrome
+pub mod Columns
+pub mod Reduced
+pub mod Component
+-- Why one bad symbol is never taken for another pair
+pub mod Moves
+pub mod Lawful
+pub mod Apart
+pub mod Reading
+-- The pair that a codeword carries
+pub mod Restored
+pub mod Delta
+pub mod Encoded
+-- The table, the starred cases, and every claim
+pub mod Profiles
+pub mod Cases
+pub mod Claims

@@ -1,0 +1,68 @@
+-- The four profiles are sized and prime: a test that is computed over the table, and what it says of each row.
+-- Assumes nothing.
+use mathlib.Core.Path.{_≡_, refl, sym, subst}
+use mathlib.Core.Logic.{⊎-elim}
+use mathlib.Core.Bool.{Bool, not, _&&_, _||_}
+use Prim.Native.Nat.{ℕ, zero, suc, _-_, _%_, _^_, _≤_, _<_}
+use native.Mathlib.Nat.{not-le-of-lt}
+use lib.Dec.{T, leb, ltb, eqb, leb→le, ltb→lt, eqb→eq, T-not}
+use Rattle.modular.specs.Search.{allBelow}
+use Rattle.modular.specs.Residue.{Prime}
+use Rattle.modular.proofs.Search.{and-left, and-right, and-parts, or-cases, all-at}
+use Rattle.code.specs.Parameters.{Parameters, Sized, balancingValue, delta}
+use Rattle.code.specs.Profiles.{isProfile, profile, derivedRow}
+use Rattle.code.specs.Claims.{ProfilesFit}
+
+-- no number from 2 up to q - 1 divides q
+abbrev isPrime : ℕ → Bool
+isPrime q = leb 2 q && allBelow (λ d. ltb d 2 || not (eqb (q % d) 0)) q
+
+prime : (q : ℕ) → T (isPrime q) → Prime q
+prime q h = record { large = leb→le 2 q (and-left (leb 2 q) tests h); no-divisor = no-divisor }
+  where
+    tests : Bool
+    tests = allBelow (λ d. ltb d 2 || not (eqb (q % d) 0)) q
+
+    no-divisor : (d : ℕ) → 2 ≤ d → d < q → q % d ≡ 0 → ⊥
+    no-divisor d two below e =
+        ⊎-elim (λ k. not-le-of-lt (ltb→lt d 2 k) two) (λ k. T-not (eqb (q % d) 0) k (subst (λ (x : ℕ). T (eqb x 0)) (sym e) tt))
+        (or-cases (ltb d 2) (not (eqb (q % d) 0)) (all-at (λ d. ltb d 2 || not (eqb (q % d) 0)) q (and-right (leb 2 q) tests h) d below))
+
+abbrev isSized : Parameters → Bool
+isSized p = eqb (p .q % 2) 1 && leb 3 (p .q) && ltb (p .n) (p .q ^ (p .r - 1)) && (leb 2 (p .n) && leb (p .q ^ (p .r - 2)) (p .n))
+
+sized : (p : Parameters) → T (isSized p) → Sized p
+sized p h = from (and-parts (eqb (p .q % 2) 1) (leb 3 (p .q)) (ltb (p .n) (p .q ^ (p .r - 1))) room h)
+  where
+    room : Bool
+    room = leb 2 (p .n) && leb (p .q ^ (p .r - 2)) (p .n)
+
+    from : T (eqb (p .q % 2) 1) × T (leb 3 (p .q)) × T (ltb (p .n) (p .q ^ (p .r - 1))) × T room → Sized p
+    from t =
+        record {
+          odd = eqb→eq _ _ (t .0);
+          levels = leb→le _ _ (t .1);
+          columns = ltb→lt _ _ (t .2);
+          second = leb→le _ _ (and-left (leb 2 (p .n)) (leb (p .q ^ (p .r - 2)) (p .n)) (t .3));
+          highest = leb→le _ _ (and-right (leb 2 (p .n)) (leb (p .q ^ (p .r - 2)) (p .n)) (t .3));
+        }
+
+-- the test of profile i + 1
+fits : ℕ → Bool
+fits i = isSized (profile (suc i)) && isPrime (profile (suc i) .q)
+
+all-fit : T (allBelow fits 4)
+unfolding fits profile
+all-fit = tt
+
+pub profiles-fit : ProfilesFit
+unfolding fits profile derivedRow balancingValue delta
+profiles-fit = (row-fits, refl)
+  where
+    row-fits : (i : ℕ) → T (isProfile i) → Sized (profile i) × Prime (profile i .q)
+    row-fits zero h = absurd h
+    row-fits (suc i) h =
+        let f : T (fits i) = all-at fits 4 all-fit i (leb→le (suc i) 4 (and-right (leb 1 (suc i)) (leb (suc i) 4) h)) in (
+          sized (profile (suc i)) (and-left (isSized (profile (suc i))) (isPrime (profile (suc i) .q)) f),
+          prime (profile (suc i) .q) (and-right (isSized (profile (suc i))) (isPrime (profile (suc i) .q)) f),
+        )

@@ -1,0 +1,9 @@
+pub mod Parameters
+pub mod Component
+pub mod Balance
+pub mod Codeword
+pub mod Reading
+pub mod Profiles
+pub mod Operations
+pub mod Cases
+pub mod Claims
