@@ -1,0 +1,74 @@
+//! A file of cases in the making: its input, its expected output, and the names of its groups.
+
+use coder::profile::{Profile, PROFILES};
+use coder::refusal::Refusal;
+
+/// What a buffer holds before a call, so that a byte changed by a refusal shows.
+pub const FILLER: u8 = 170;
+
+/// A run of cases with a name, by the lines of the input (and of the expected output).
+pub struct Group {
+    pub name: String,
+    pub first: usize,
+    pub last: usize,
+}
+
+#[derive(Default)]
+pub struct CaseFile {
+    pub input: Vec<u8>,
+    pub expected: Vec<u8>,
+    pub groups: Vec<Group>,
+    lines: usize,
+}
+
+impl CaseFile {
+    /// Begins a group; the cases that follow belong to it.
+    pub fn group(&mut self, name: impl Into<String>) {
+        self.groups.push(Group { name: name.into(), first: self.lines + 1, last: self.lines });
+    }
+
+    /// Adds one case: a line of input and the line that answers it.
+    pub fn case(&mut self, input: impl AsRef<[u8]>, expected: &str) {
+        for (file, line) in
+            [(&mut self.input, input.as_ref()), (&mut self.expected, expected.as_bytes())]
+        {
+            assert!(!line.contains(&b'\n'), "a case is one line");
+            file.extend(line);
+            file.push(b'\n');
+        }
+        self.lines += 1;
+        if let Some(group) = self.groups.last_mut() {
+            group.last = self.lines;
+        }
+    }
+
+    /// How many cases there are.
+    pub fn lines(&self) -> usize {
+        self.lines
+    }
+
+    /// A file of one group, whose input is not made of ended lines.
+    pub fn whole(name: &str, input: &[u8], expected: &str) -> CaseFile {
+        let lines = expected.lines().count();
+        let group = Group { name: name.to_string(), first: 1, last: lines };
+        CaseFile {
+            input: input.to_vec(),
+            expected: expected.as_bytes().to_vec(),
+            groups: vec![group],
+            lines,
+        }
+    }
+}
+
+/// How a refusal stands in the expected output.
+pub fn refusal_text(refusal: Refusal) -> String {
+    format!("R {}", refusal.number())
+}
+
+/// The profiles, and numbers that name none.
+pub const PROFILE_NUMBERS: [u8; 8] = [0, 1, 2, 3, 4, 5, 9, 255];
+
+/// The profile of a number, or profile 1 to choose lengths by where the number names none.
+pub fn row_for(number: u8) -> &'static Profile {
+    Profile::lookup(number).unwrap_or(&PROFILES[0])
+}

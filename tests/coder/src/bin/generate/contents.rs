@@ -1,0 +1,57 @@
+//! The page that says which lines of which file hold what, so that a case has a name.
+
+use std::fmt::Write;
+
+use crate::case_file::{CaseFile, Group};
+
+const HEAD: &str = "\
+# The vectors
+
+`generate` makes this page with the vectors; the formats are in [../README.md](../README.md).
+Lines are those of the input and, equally, of the expected output, which has one line for each.
+A near miss is a decoder with one slip; coder/src/near_miss.rs says what the slip is.
+";
+
+const GROUP_HEAD: &str = "
+## What stands where
+
+| file | lines | cases |
+|---|---|---|
+";
+
+const FILE_HEAD: &str = "
+## Files
+
+| input | lines | bytes | longest line |
+|---|---|---|---|
+";
+
+pub struct Page {
+    files: String,
+    groups: String,
+}
+
+impl Page {
+    pub fn new() -> Page {
+        Page { files: FILE_HEAD.to_string(), groups: GROUP_HEAD.to_string() }
+    }
+
+    /// Adds a file's row and the rows of its groups.
+    pub fn add(&mut self, path: &str, file: &CaseFile) {
+        let lines = file.input.split(|&byte| byte == b'\n');
+        let longest = lines.map(<[u8]>::len).max().unwrap_or(0);
+        let (count, bytes) = (file.lines(), file.input.len());
+        writeln!(self.files, "| {path} | {count} | {bytes} | {longest} |")
+            .expect("a string takes any text");
+        for Group { name, first, last } in &file.groups {
+            let lines = if last < first { "none".into() } else { format!("{first} to {last}") };
+            writeln!(self.groups, "| {path} | {lines} | {name} |")
+                .expect("a string takes any text");
+        }
+    }
+
+    /// The whole page.
+    pub fn text(&self) -> String {
+        [HEAD, &self.files, &self.groups].concat()
+    }
+}

@@ -1,0 +1,182 @@
+//! pairs: messages of all profiles, and the word that encoding makes.
+
+use std::iter::repeat_with;
+
+use coder::codeword::{codewords, Messages};
+use coder::encode::{encode, encoded_word};
+use coder::examples;
+use coder::profile::{Profile, PROFILES};
+use coder::rng::Rng;
+use coder::text::{digits, symbols};
+
+use crate::case_file::{refusal_text, row_for, CaseFile, FILLER, PROFILE_NUMBERS};
+
+const SEED: u64 = 0x7061_6972;
+
+/// Pairs of each profile whose word depends on the order in which s and v are tried.
+const OF_EACH_ORDER: usize = 20;
+
+/// Random pairs of each profile.
+const RANDOM: usize = 400;
+
+pub fn make() -> CaseFile {
+    let mut file = CaseFile::default();
+    let rng = &mut Rng::new(SEED);
+    cases_of_01(&mut file);
+    constant_messages(&mut file);
+    unit_messages(&mut file);
+    order_of_choices(&mut file, rng);
+    random(&mut file, rng);
+    order_of_refusals(&mut file, rng);
+    file
+}
+
+/// Adds the case of two messages, with an output buffer of this length.
+fn add(file: &mut CaseFile, profile: u8, [first, second]: &Messages, length: usize) {
+    let mut output = vec![FILLER; length];
+    let expected = match encode(profile, first, second, &mut output) {
+        Ok(()) => digits(&output),
+        Err(refusal) => refusal_text(refusal),
+    };
+    file.case(input_line(profile, first, second, length), &expected);
+}
+
+/// profile, both messages, length of the output.
+fn input_line(profile: u8, first: &[u8], second: &[u8], length: usize) -> String {
+    format!("{profile} {} {} {length}", digits(first), digits(second))
+}
+
+/// Adds the case of two messages with an output of the right length.
+fn add_pair(file: &mut CaseFile, profile: &Profile, messages: &Messages) {
+    add(file, profile.number, messages, profile.word_length());
+}
+
+/// 01's own cases, with 01's words.
+fn cases_of_01(file: &mut CaseFile) {
+    file.group("cases of 01");
+    for case in examples::encoded() {
+        let (first, second) = (symbols(&case.first), symbols(&case.second));
+        let line = input_line(case.profile, &first, &second, case.word.len());
+        file.case(line, &case.word);
+    }
+}
+
+/// Every pair of messages of one level each: the zero pair first, then up to all q−1.
+fn constant_messages(file: &mut CaseFile) {
+    file.group("the zero pair of each profile, then every other pair of constant messages");
+    for profile in &PROFILES {
+        for first in 0..profile.q {
+            for second in 0..profile.q {
+                let pair = [first, second].map(|symbol| vec![symbol; profile.k()]);
+                add_pair(file, profile, &pair);
+            }
+        }
+    }
+}
+
+/// Adds pairs of zeros with one other symbol, each of these at every position of both messages.
+fn single_symbols(file: &mut CaseFile, symbols: fn(&Profile) -> [u8; 2]) {
+    for profile in &PROFILES {
+        let k = profile.k();
+        for symbol in symbols(profile) {
+            for index in 0..2 * k {
+                let mut pair = [vec![0; k], vec![0; k]];
+                pair[index / k][index % k] = symbol;
+                add_pair(file, profile, &pair);
+            }
+        }
+    }
+}
+
+/// Pairs with a single 1 or q−1, and with a single symbol out of range.
+fn unit_messages(file: &mut CaseFile) {
+    file.group("unit messages, of 1 and of q-1: wrong if position 2 of a component holds data");
+    single_symbols(file, |profile| [1, profile.q - 1]);
+    file.group("a symbol of q and of 9 at every position");
+    single_symbols(file, |profile| [profile.q, 9]);
+}
+
+/// A near miss of the encoder: the word that is found first if v is tried before s.
+fn encoded_v_first(profile: &Profile, messages: &Messages) -> Vec<u8> {
+    let words = codewords(profile, messages).into_iter();
+    let first = words.min_by_key(|(choice, _)| (choice.v, choice.s));
+    first.expect("01: a balancing choice always exists").1
+}
+
+/// Whether the word depends on the order in which s and v are tried.
+fn depends_on_order(profile: &Profile, messages: &Messages) -> bool {
+    encoded_v_first(profile, messages) != encoded_word(profile, messages)
+}
+
+/// Pairs that an encoder which tries v before s gets wrong.
+fn order_of_choices(file: &mut CaseFile, rng: &mut Rng) {
+    file.group("another word if v is tried before s");
+    for profile in &PROFILES {
+        let pairs = repeat_with(|| rng.messages(profile));
+        let told = pairs.filter(|pair| depends_on_order(profile, pair));
+        for pair in told.take(OF_EACH_ORDER) {
+            add_pair(file, profile, &pair);
+        }
+    }
+}
+
+/// Random pairs of every profile.
+fn random(file: &mut CaseFile, rng: &mut Rng) {
+    file.group("random pairs");
+    for profile in &PROFILES {
+        for _ in 0..RANDOM {
+            add_pair(file, profile, &rng.messages(profile));
+        }
+    }
+}
+
+/// Every profile number with every fault of both messages and of the output.
+fn order_of_refusals(file: &mut CaseFile, rng: &mut Rng) {
+    file.group("refusals, alone and together, in 01's order");
+    for number in PROFILE_NUMBERS {
+        let profile = row_for(number);
+        let [firsts, seconds] = rng.messages(profile).map(|message| variants(profile, &message));
+        for first in &firsts {
+            for second in &seconds {
+                add_every_length(file, number, &[first.clone(), second.clone()]);
+            }
+        }
+    }
+}
+
+/// Adds the case of two messages with an output of the right length, and of wrong ones.
+fn add_every_length(file: &mut CaseFile, profile: u8, messages: &Messages) {
+    let length = row_for(profile).word_length();
+    for length in [length, length - 1, length + 1, 0] {
+        add(file, profile, messages, length);
+    }
+}
+
+/// A message as it is, and with each fault: short, long with a symbol out of range, empty, and a
+/// symbol out of range at either end.
+fn variants(profile: &Profile, message: &[u8]) -> [Vec<u8>; 6] {
+    let k = message.len();
+    [
+        message.to_vec(),
+        message[1..].to_vec(),
+        [message, &[9]].concat(),
+        vec![],
+        [&message[..k - 1], &[profile.q]].concat(),
+        [&[9], &message[1..]].concat(),
+    ]
+}
+
+#[cfg(test)]
+mod tests {
+    use super::*;
+
+    /// The zero pair is balanced by s = 0 and v = 1, which both orders try first.
+    #[test]
+    fn the_order_of_trying_matters_to_some_pairs() {
+        let depends = |first: &str, second: &str| {
+            depends_on_order(&PROFILES[0], &[symbols(first), symbols(second)])
+        };
+        assert!(!depends("00000", "00000"));
+        assert!(depends("20000", "12002"));
+    }
+}

@@ -1,0 +1,67 @@
+//! Random messages, codewords and received words of a profile.
+
+use coder::balance::weight;
+use coder::codeword::codewords;
+use coder::component::encode_component;
+use coder::decode::replaced;
+use coder::encode::encoded_word;
+use coder::profile::Profile;
+use coder::rng::Rng;
+
+/// A way to build a word of a profile; an attempt may give none.
+pub type Build = fn(&Profile, &mut Rng) -> Option<Vec<u8>>;
+
+/// The components of random messages.
+pub fn components(profile: &Profile, rng: &mut Rng) -> [Vec<u8>; 2] {
+    rng.messages(profile).map(|message| encode_component(profile, &message))
+}
+
+/// The encoder's codeword of random messages.
+pub fn encoded(profile: &Profile, rng: &mut Rng) -> Vec<u8> {
+    encoded_word(profile, &rng.messages(profile))
+}
+
+/// A codeword of random messages by another choice than the encoder's, if they have one.
+pub fn by_another_choice(profile: &Profile, rng: &mut Rng) -> Option<Vec<u8>> {
+    let words = codewords(profile, &rng.messages(profile));
+    (words.len() > 1).then(|| words[rng.from_one_to(words.len() - 1)].1.clone())
+}
+
+/// A codeword of random messages by any choice.
+pub fn codeword(profile: &Profile, rng: &mut Rng) -> Vec<u8> {
+    let words = codewords(profile, &rng.messages(profile));
+    rng.pick(&words).1.clone()
+}
+
+/// The word with another level at each of these positions.
+pub fn changed_at(profile: &Profile, word: &[u8], positions: &[usize], rng: &mut Rng) -> Vec<u8> {
+    positions.iter().fold(word.to_vec(), |word, &position| {
+        let symbol = rng.other_level(profile.q, word[position - 1]);
+        replaced(&word, position, symbol)
+    })
+}
+
+/// A codeword with another level at `count` positions.
+pub fn with_changes(profile: &Profile, count: usize, rng: &mut Rng) -> Vec<u8> {
+    let word = codeword(profile, rng);
+    let mut positions: Vec<usize> = Vec::new();
+    while positions.len() < count {
+        let position = rng.from_one_to(word.len());
+        if !positions.contains(&position) {
+            positions.push(position);
+        }
+    }
+    changed_at(profile, &word, &positions, rng)
+}
+
+/// A codeword with another level at both check symbols.
+pub fn both_check_symbols(profile: &Profile, rng: &mut Rng) -> Option<Vec<u8>> {
+    let word = codeword(profile, rng);
+    let checks = [profile.m() + 1, profile.m() + 2];
+    Some(changed_at(profile, &word, &checks, rng))
+}
+
+/// How far the weight of w is above the balancing value.
+pub fn excess(profile: &Profile, w: &[u8]) -> i64 {
+    i64::from(weight(w)) - i64::from(profile.balancing_value())
+}

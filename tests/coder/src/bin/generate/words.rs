@@ -1,0 +1,174 @@
+//! words: received words of all profiles, and what decoding answers.
+
+use std::iter::repeat_with;
+
+use coder::balance::balanced_words;
+use coder::codeword::with_check_symbols;
+use coder::decode::{decode, replaced, within_one};
+use coder::examples::DECODED;
+use coder::profile::{Profile, PROFILES};
+use coder::rng::Rng;
+use coder::text::{digits, symbols};
+
+use crate::case_file::{refusal_text, row_for, CaseFile, FILLER, PROFILE_NUMBERS};
+use crate::near_misses::NEAR_MISSES;
+use crate::random_words::{
+    both_check_symbols, by_another_choice, changed_at, codeword, encoded, with_changes, Build,
+};
+
+const SEED: u64 = 0x776f_7264;
+
+/// Words of each near miss and profile.
+const OF_EACH_NEAR_MISS: usize = 4;
+
+/// What is received, how many words of it for each profile, and how one is built.
+const RECEIVED: [(&str, usize, Build); 9] = [
+    ("the encoder's word", 40, |profile, rng| Some(encoded(profile, rng))),
+    ("codeword by another choice", 60, by_another_choice),
+    ("one symbol changed", 200, |profile, rng| Some(with_changes(profile, 1, rng))),
+    ("two symbols changed", 100, |profile, rng| Some(with_changes(profile, 2, rng))),
+    ("three symbols changed", 60, |profile, rng| Some(with_changes(profile, 3, rng))),
+    ("a check symbol changed", 30, one_check_symbol),
+    ("both check symbols changed", 30, both_check_symbols),
+    ("noise", 40, |profile, rng| Some(rng.word(profile.q, profile.word_length()))),
+    ("noise, balanced and with right check symbols", 40, balanced_noise),
+];
+
+pub fn make() -> CaseFile {
+    let mut file = CaseFile::default();
+    let rng = &mut Rng::new(SEED);
+    cases_of_01(&mut file);
+    near_misses(&mut file, rng);
+    every_position_and_level(&mut file, rng);
+    received(&mut file, rng);
+    symbols_out_of_range(&mut file, rng);
+    order_of_refusals(&mut file, rng);
+    file
+}
+
+/// Adds the case of a word, with output buffers of these lengths.
+fn add(file: &mut CaseFile, profile: u8, word: &[u8], lengths: [usize; 2]) {
+    let [mut first, mut second] = lengths.map(|length| vec![FILLER; length]);
+    let expected = match decode(profile, word, &mut first, &mut second) {
+        Ok(decoded) => {
+            let (kind, place, symbol) = decoded.parts();
+            format!("{kind} {place} {symbol} {} {}", digits(&first), digits(&second))
+        }
+        Err(refusal) => refusal_text(refusal),
+    };
+    file.case(input_line(profile, word, lengths), &expected);
+}
+
+/// profile, word, lengths of both outputs.
+fn input_line(profile: u8, word: &[u8], [first, second]: [usize; 2]) -> String {
+    format!("{profile} {} {first} {second}", digits(word))
+}
+
+/// Adds the case of a word with outputs of the right length.
+fn add_word(file: &mut CaseFile, profile: &Profile, word: &[u8]) {
+    add(file, profile.number, word, [profile.k(); 2]);
+}
+
+/// 01's own cases, with 01's answers.
+fn cases_of_01(file: &mut CaseFile) {
+    file.group("cases of 01");
+    for (word, expected) in DECODED {
+        let profile = &PROFILES[0];
+        let line = input_line(profile.number, &symbols(word), [profile.k(); 2]);
+        file.case(line, expected);
+    }
+}
+
+/// The words of every near miss, for every profile in which it does harm.
+fn near_misses(file: &mut CaseFile, rng: &mut Rng) {
+    for near_miss in &NEAR_MISSES {
+        file.group(format!("near miss {:?}: {}", near_miss.slip, near_miss.name));
+        for profile in &PROFILES {
+            for word in near_miss.words(profile, OF_EACH_NEAR_MISS, rng) {
+                add_word(file, profile, &word);
+            }
+        }
+    }
+}
+
+/// A codeword and all its neighbours in one position.
+fn every_position_and_level(file: &mut CaseFile, rng: &mut Rng) {
+    file.group("a codeword of each profile, and every position and level of it");
+    for profile in &PROFILES {
+        let word = codeword(profile, rng);
+        for (_, neighbour) in within_one(profile, &word) {
+            add_word(file, profile, &neighbour);
+        }
+    }
+}
+
+/// Random words of every kind in RECEIVED.
+fn received(file: &mut CaseFile, rng: &mut Rng) {
+    for (name, count, build) in RECEIVED {
+        file.group(name);
+        for profile in &PROFILES {
+            for word in repeat_with(|| build(profile, rng)).flatten().take(count) {
+                add_word(file, profile, &word);
+            }
+        }
+    }
+}
+
+/// A codeword with another level at one check symbol.
+fn one_check_symbol(profile: &Profile, rng: &mut Rng) -> Option<Vec<u8>> {
+    let word = codeword(profile, rng);
+    let position = profile.m() + rng.from_one_to(2);
+    Some(changed_at(profile, &word, &[position], rng))
+}
+
+/// A word that only its components give away as no codeword, as a rule.
+fn balanced_noise(profile: &Profile, rng: &mut Rng) -> Option<Vec<u8>> {
+    let x = rng.word(profile.q, profile.m());
+    let (_, w) = balanced_words(profile.q, &x).next()?;
+    Some(with_check_symbols(profile, &w))
+}
+
+/// A symbol of q, and one of 9, at every position of a codeword.
+fn symbols_out_of_range(file: &mut CaseFile, rng: &mut Rng) {
+    file.group("a symbol of q and of 9 at every position");
+    for profile in &PROFILES {
+        let word = codeword(profile, rng);
+        for position in 1..=word.len() {
+            for symbol in [profile.q, 9] {
+                add_word(file, profile, &replaced(&word, position, symbol));
+            }
+        }
+    }
+}
+
+/// Every profile number with every fault of the word and of the outputs.
+fn order_of_refusals(file: &mut CaseFile, rng: &mut Rng) {
+    file.group("refusals, alone and together, in 01's order");
+    for number in PROFILE_NUMBERS {
+        let profile = row_for(number);
+        let word = codeword(profile, rng);
+        let last = word.len();
+        let words = [
+            word.clone(),
+            word[1..].to_vec(),
+            [&word[..], &[0]].concat(),
+            vec![],
+            replaced(&word, last, profile.q),
+            [&replaced(&word, 1, 9)[..], &[0]].concat(),
+            changed_at(profile, &word, &[1, 2], rng),
+        ];
+        for word in &words {
+            add_every_length(file, number, word);
+        }
+    }
+}
+
+/// Adds the case of a word with outputs of the right length, and of wrong ones.
+fn add_every_length(file: &mut CaseFile, profile: u8, word: &[u8]) {
+    let k = row_for(profile).k();
+    for first in [k, k - 1, k + 1, 0] {
+        for second in [k, k - 1, k + 1, 0] {
+            add(file, profile, word, [first, second]);
+        }
+    }
+}

@@ -1,0 +1,78 @@
+//! The cases of document 01, copied from it by hand. Nothing here is computed by the coder: its
+//! tests compare it with these, and the vectors begin with them.
+
+/// The example input of "The line program"; "the last line is empty but ended".
+pub const BOXLINES_INPUT: &str = "\
+1 1111111111111111102
+1 1200021111111112220
+1 2211111111111111102
+1 3111111111111111102
+5 11
+1 111
+
+";
+
+/// The example output of "The line program", "whole".
+pub const BOXLINES_OUTPUT: &str = "\
+1 C 0 0 00000 00000
+1 M 6 1 00001 00000
+R 4
+R 3
+R 1
+R 2
+R 9
+";
+
+/// A pair and the line word that 01 gives for it.
+pub struct Encoded {
+    pub profile: u8,
+    pub first: String,
+    pub second: String,
+    pub word: String,
+}
+
+/// "Checked by hand": the zero pairs, and the pair 0 0 0 0 1 and zeros.
+pub fn encoded() -> Vec<Encoded> {
+    let zero_pair = |profile: u8, k: usize, symbol: &str, m: usize, checks: &str| Encoded {
+        profile,
+        first: "0".repeat(k),
+        second: "0".repeat(k),
+        word: symbol.repeat(m) + checks,
+    };
+    vec![
+        zero_pair(1, 5, "1", 17, "02"),
+        zero_pair(3, 21, "2", 49, "13"),
+        zero_pair(4, 45, "3", 97, "24"),
+        Encoded {
+            profile: 1,
+            first: "00001".to_string(),
+            second: "00000".to_string(),
+            word: "1200011111111112220".to_string(),
+        },
+    ]
+}
+
+/// Received words of profile 1, from "Checked by hand" and the line program's example, and what
+/// reading them answers: kind, place, symbol sent and both user words, or R and the number.
+pub const DECODED: [(&str, &str); 5] = [
+    ("1111111111111111102", "C 0 0 00000 00000"),
+    ("1200021111111112220", "M 6 1 00001 00000"),
+    ("1111111111111111101", "M 19 2 00000 00000"),
+    ("1111111111111111111", "R 4"),
+    ("2211111111111111102", "R 4"),
+];
+
+/// "Checked by hand": user words of profile 1 and their halves.
+pub const COMPONENTS: [(&str, &str); 2] = [("10000", "12210000"), ("00001", "10100001")];
+
+/// The profile table: profile, q, r, n, k, m, N, middle, δ.
+pub const PROFILE_TABLE: [[u32; 9]; 4] = [
+    [1, 3, 3, 8, 5, 17, 19, 17, 0],
+    [2, 3, 4, 26, 22, 53, 55, 53, 0],
+    [3, 5, 3, 24, 21, 49, 51, 98, 1],
+    [4, 7, 3, 48, 45, 97, 99, 291, 2],
+];
+
+/// A w of profile 1 in which a component has a syndrome of zeros with a last 1. It is no case of
+/// 01, but follows from its definition of a lawful word; its word is refused with 4.
+pub const POSITION_ZERO_W: &str = "00200111222111021";

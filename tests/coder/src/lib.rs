@@ -1,0 +1,20 @@
+//! A coder written from documents 01 and 002 alone. It shares nothing with the crates that it is
+//! used to test: what 01 says exists is looked for by trying everything, and what 01 calls right
+//! is tested condition by condition. Clarity comes before speed throughout.
+//!
+//! Quoted sentences are document 01's. Positions count from 1, as there.
+
+pub mod balance;
+pub mod codeword;
+pub mod component;
+pub mod decode;
+pub mod encode;
+pub mod examples;
+pub mod lines;
+pub mod list;
+pub mod near_miss;
+pub mod profile;
+pub mod queue;
+pub mod refusal;
+pub mod rng;
+pub mod text;

@@ -1,0 +1,199 @@
+//! A second decoder, by 002's steps (section IV-B) as 01 corrects them, in which one step can be
+//! got wrong on purpose. Without a slip it must answer as the search in `decode` does; with one it
+//! shows that a test word tells the right decoder from that near miss.
+
+use crate::balance::{subtract, weight};
+use crate::codeword::{components_of, Messages};
+use crate::component::{message_in, syndrome};
+use crate::decode::{replaced, Decoded};
+use crate::encode::encoded_word;
+use crate::profile::Profile;
+
+/// One step got wrong: 01's "Wrong turns seen in drafts", and others of their kind.
+#[derive(Debug, Clone, Copy, PartialEq, Eq)]
+pub enum Slip {
+    /// δ is 002's printed 2(q−1)(2−m).
+    PrintedDelta,
+    /// The received check symbols are added, as 002 prints it, and not subtracted.
+    CheckSymbolsAdded,
+    /// A balanced word is clean, whatever its check symbols say.
+    BalanceIsClean,
+    /// An excess of weight of q or more is reduced mod q.
+    ExcessReduced,
+    /// A check sum may be off by any amount, and not only by the excess of weight mod q.
+    CheckSumOffByAny,
+    /// The error is removed mod q, and not by plain subtraction.
+    RemovedModQ,
+    /// The first position whose symbol stays in range is taken, whatever the components say.
+    FirstInRange,
+    /// A syndrome of zeros with a last 1 names no position, and is taken as nothing to undo.
+    PositionZero,
+    /// The last row is not looked at, so any amount at one position passes for a 1.
+    LastRowIgnored,
+    /// Both components may have a 1 to be taken away.
+    BothTaken,
+    /// Only the first component is tested.
+    FirstComponentOnly,
+    /// Only the second component is tested.
+    SecondComponentOnly,
+    /// Only the word that the encoder makes is accepted, and no other codeword of the pair.
+    EncodedWordOnly,
+}
+
+/// What the decoder answers with this slip, or with none.
+pub fn decode(profile: &Profile, word: &[u8], slip: Option<Slip>) -> Option<(Decoded, Messages)> {
+    let answer = Decoder { profile, slip }.decode(word)?;
+    if slip == Some(Slip::EncodedWordOnly) {
+        let sent = match answer.0 {
+            Decoded::Clean => word.to_vec(),
+            Decoded::Corrected { position, symbol } => replaced(word, position, symbol),
+        };
+        return (sent == encoded_word(profile, &answer.1)).then_some(answer);
+    }
+    Some(answer)
+}
+
+/// 002's printed δ, 2(q−1)(2−m) mod q, "which among these profiles agrees for q = 3 only".
+pub fn printed_delta(profile: &Profile) -> u8 {
+    let (q, m) = (i64::from(profile.q), profile.m() as i64);
+    (2 * (q - 1) * (2 - m)).rem_euclid(q) as u8
+}
+
+struct Decoder<'a> {
+    profile: &'a Profile,
+    slip: Option<Slip>,
+}
+
+impl Decoder<'_> {
+    fn slips(&self, slip: Slip) -> bool {
+        self.slip == Some(slip)
+    }
+
+    fn q(&self) -> i64 {
+        i64::from(self.profile.q)
+    }
+
+    /// A number mod q.
+    fn reduce(&self, number: i64) -> u8 {
+        number.rem_euclid(self.q()) as u8
+    }
+
+    /// Steps 1 and 2: the excess of weight, and how far each check sum is off.
+    fn decode(&self, word: &[u8]) -> Option<(Decoded, Messages)> {
+        let (w, received) = word.split_at(self.profile.m());
+        let mut excess = i64::from(weight(w)) - i64::from(self.profile.balancing_value());
+        if self.slips(Slip::ExcessReduced) {
+            excess %= self.q();
+        }
+        let off = self.check_sums_off(w, received);
+        if excess == 0 {
+            self.decode_balanced(w, received, off)
+        } else {
+            self.decode_unbalanced(w, excess, off)
+        }
+    }
+
+    /// 002's γ and γ′, with the received check symbol subtracted ("000 decides").
+    fn check_sums_off(&self, w: &[u8], received: &[u8]) -> [u8; 2] {
+        let delta = if self.slips(Slip::PrintedDelta) {
+            printed_delta(self.profile)
+        } else {
+            self.profile.delta()
+        };
+        let sign = if self.slips(Slip::CheckSymbolsAdded) { 1 } else { -1 };
+        [0, 1].map(|start| {
+            let sum: i64 = w.iter().skip(start).step_by(2).map(|&symbol| i64::from(symbol)).sum();
+            let added = if start == 0 { i64::from(delta) } else { 0 };
+            self.reduce(sum + added + sign * i64::from(received[start]))
+        })
+    }
+
+    /// A balanced w has no wrong symbol; one wrong check symbol is corrected, "two wrong check
+    /// symbols are refused".
+    fn decode_balanced(
+        &self,
+        w: &[u8],
+        received: &[u8],
+        off: [u8; 2],
+    ) -> Option<(Decoded, Messages)> {
+        let corrected = |index: usize| Decoded::Corrected {
+            position: w.len() + 1 + index,
+            symbol: self.reduce(i64::from(received[index]) + i64::from(off[index])),
+        };
+        let decoded = match off {
+            [0, 0] => Decoded::Clean,
+            _ if self.slips(Slip::BalanceIsClean) => Decoded::Clean,
+            [_, 0] => corrected(0),
+            [0, _] => corrected(1),
+            _ => return None,
+        };
+        self.undo(w).map(|messages| (decoded, messages))
+    }
+
+    /// Step 3: the positions of the parity whose check sum is off, in rising order.
+    fn decode_unbalanced(
+        &self,
+        w: &[u8],
+        excess: i64,
+        off: [u8; 2],
+    ) -> Option<(Decoded, Messages)> {
+        let (start, off) = match off {
+            [0, 0] => return None,
+            [odd, 0] => (1, odd),
+            [0, even] => (2, even),
+            _ => return None,
+        };
+        if off != self.reduce(excess) && !self.slips(Slip::CheckSumOffByAny) {
+            return None;
+        }
+        (start..=w.len()).step_by(2).find_map(|position| {
+            let symbol = self.remove(w[position - 1], excess)?;
+            let messages = self.undo(&replaced(w, position, symbol))?;
+            Some((Decoded::Corrected { position, symbol }, messages))
+        })
+    }
+
+    /// The symbol less the excess, where it stays within 0 to q−1.
+    fn remove(&self, symbol: u8, excess: i64) -> Option<u8> {
+        let level = i64::from(symbol) - excess;
+        let in_range = (0..self.q()).contains(&level);
+        (in_range || self.slips(Slip::RemovedModQ)).then(|| self.reduce(level))
+    }
+
+    /// Step 4: the messages of the components, if their syndromes are as equation (4) asks.
+    fn undo(&self, w: &[u8]) -> Option<Messages> {
+        let components = components_of(self.profile, w);
+        let [first, second] = components.each_ref().map(|component| self.added_at(component));
+        let positions = match self.slip {
+            Some(Slip::FirstInRange) => [0, 0],
+            Some(Slip::FirstComponentOnly) => [first?, 0],
+            Some(Slip::SecondComponentOnly) => [0, second?],
+            _ => [first?, second?],
+        };
+        if !positions.contains(&0) && !self.slips(Slip::BothTaken) {
+            return None;
+        }
+        let mut restored = components;
+        for (component, position) in restored.iter_mut().zip(positions) {
+            if position > 0 {
+                component[position - 1] = subtract(self.profile.q, component[position - 1], 1);
+            }
+        }
+        Some(restored.map(|component| message_in(self.profile, &component)))
+    }
+
+    /// Where a component's syndrome says that 1 was added; 0 if the component is in code.
+    fn added_at(&self, component: &[u8]) -> Option<usize> {
+        let syndrome = syndrome(self.profile, component);
+        let (&last, digits) = syndrome.split_last()?;
+        let q = usize::from(self.profile.q);
+        let position = digits.iter().fold(0, |number, &digit| number * q + usize::from(digit));
+        match (position, last) {
+            (0, 0) => Some(0),
+            (0, 1) if self.slips(Slip::PositionZero) => Some(0),
+            (0, _) => None,
+            (_, 1) => Some(position),
+            _ => self.slips(Slip::LastRowIgnored).then_some(position),
+        }
+    }
+}

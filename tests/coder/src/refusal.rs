@@ -1,0 +1,33 @@
+//! The numbers of refusals (01, "Operations and their numbers").
+
+/// "1 profile; 2 length; 3 symbol; 4 unreadable; 5 sheet length; 6 unsound sheet; 7 box number;
+/// 8 no free cell; 9 line form; 10 no such record."
+#[derive(Debug, Clone, Copy, PartialEq, Eq)]
+pub enum Refusal {
+    Profile = 1,
+    Length = 2,
+    Symbol = 3,
+    Unreadable = 4,
+    QueueLength = 5,
+    UnsoundQueue = 6,
+    BoxNumber = 7,
+    NoFreeCell = 8,
+    LineForm = 9,
+    NoSuchRecord = 10,
+}
+
+impl Refusal {
+    /// "A refusal returns its number only."
+    pub fn number(self) -> u8 {
+        self as u8
+    }
+}
+
+/// Refuses where the condition fails; a chain of these is an order of refusals.
+pub fn require(condition: bool, refusal: Refusal) -> Result<(), Refusal> {
+    if condition {
+        Ok(())
+    } else {
+        Err(refusal)
+    }
+}

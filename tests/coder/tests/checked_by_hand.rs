@@ -1,0 +1,98 @@
+//! Every case of document 01, starred or not, against the coder.
+
+use coder::balance::{balanced_words, weight, BalancingChoice};
+use coder::codeword::codewords;
+use coder::component::encode_component;
+use coder::encode::encode;
+use coder::examples::{
+    encoded, BOXLINES_INPUT, BOXLINES_OUTPUT, COMPONENTS, DECODED, PROFILE_TABLE,
+};
+use coder::lines::{answer, boxlines};
+use coder::profile::PROFILES;
+use coder::queue::{dequeue, enqueue, format, is_sound};
+use coder::refusal::Refusal;
+use coder::text::{digits, symbols};
+
+#[test]
+fn the_profile_table() {
+    let rows = PROFILES.map(|p| {
+        let derived = [p.k(), p.m(), p.word_length()].map(|length| length as u32);
+        let [k, m, word_length] = derived;
+        let (number, q, delta) = (p.number.into(), p.q.into(), p.delta().into());
+        [number, q, p.r as u32, p.n as u32, k, m, word_length, p.balancing_value(), delta]
+    });
+    assert_eq!(rows, PROFILE_TABLE);
+}
+
+#[test]
+fn the_balancing_rule_alone() {
+    let x = [4, 2, 1, 0, 0, 0];
+    let (choice, w) = balanced_words(5, &x).next().unwrap();
+    assert_eq!(choice, BalancingChoice { s: 2, v: 5 });
+    assert_eq!(w, [1, 3, 4, 4, 0, 0]);
+    assert_eq!(weight(&w), 12);
+}
+
+#[test]
+fn components_of_profile_1() {
+    for (message, component) in COMPONENTS {
+        assert_eq!(encode_component(&PROFILES[0], &symbols(message)), symbols(component));
+    }
+}
+
+#[test]
+fn encoded_words() {
+    for case in encoded() {
+        let mut output = vec![0; case.word.len()];
+        encode(case.profile, &symbols(&case.first), &symbols(&case.second), &mut output).unwrap();
+        assert_eq!(digits(&output), case.word);
+    }
+}
+
+#[test]
+fn the_choice_for_a_pair_of_profile_1() {
+    let messages = ["00001", "00000"].map(symbols);
+    let (choice, _) = codewords(&PROFILES[0], &messages)[0];
+    assert_eq!(choice, BalancingChoice { s: 1, v: 3 });
+}
+
+#[test]
+fn received_words_of_profile_1() {
+    for (word, expected) in DECODED {
+        let line = answer(format!("1 {word}").as_bytes());
+        assert_eq!(line.strip_prefix("1 ").unwrap_or(&line), expected);
+    }
+}
+
+#[test]
+fn the_example_of_the_line_program() {
+    assert_eq!(boxlines(BOXLINES_INPUT.as_bytes()), BOXLINES_OUTPUT);
+}
+
+#[test]
+fn layout_by_length() {
+    for length in [104, 207, 26_728] {
+        assert_eq!(format(&mut vec![170; length]), Err(Refusal::QueueLength));
+    }
+    let mut smallest = vec![170; 208];
+    format(&mut smallest).unwrap();
+    let mut expected = vec![0; 208];
+    expected[1] = 1;
+    assert_eq!(smallest, expected);
+    let mut largest = vec![170; 26_624];
+    format(&mut largest).unwrap();
+    assert!(is_sound(&largest));
+    let chain: Vec<u8> = largest.chunks(104).skip(1).map(|cell| cell[0]).collect();
+    assert_eq!(chain, (2..=255).chain([0]).collect::<Vec<u8>>());
+}
+
+#[test]
+fn one_cell_is_used_again() {
+    let mut buffer = vec![170; 208];
+    let word = symbols("1111111111111111102");
+    format(&mut buffer).unwrap();
+    assert_eq!(enqueue(&mut buffer, 1, 1, &word), Ok(()));
+    assert_eq!(enqueue(&mut buffer, 1, 1, &word), Err(Refusal::NoFreeCell));
+    assert_eq!(dequeue(&mut buffer, &mut [170; 104]), Ok(()));
+    assert_eq!(enqueue(&mut buffer, 1, 1, &word), Ok(()));
+}

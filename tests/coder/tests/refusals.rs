@@ -1,0 +1,163 @@
+//! The order of refusals of each operation, and that "a refusal .. writes no buffer".
+
+use coder::decode::decode;
+use coder::encode::encode;
+use coder::lines::answer;
+use coder::list::CELL;
+use coder::queue;
+use coder::refusal::Refusal;
+
+/// What every buffer holds before a call.
+const FILLER: u8 = 170;
+
+const RIGHT_MESSAGE: &[u8] = &[0; 5];
+const RIGHT_WORD: &[u8] = &[1, 1, 1, 1, 1, 1, 1, 1, 1, 1, 1, 1, 1, 1, 1, 1, 1, 0, 2];
+const UNREADABLE: &[u8] = &[0; 19];
+
+fn is_untouched(buffer: &[u8]) -> bool {
+    buffer.iter().all(|&byte| byte == FILLER)
+}
+
+/// The number of a refusal.
+fn number<T: std::fmt::Debug>(answer: Result<T, Refusal>) -> u8 {
+    answer.expect_err("the call is to be refused").number()
+}
+
+#[test]
+fn encode_refuses_in_order() {
+    let bad_symbol: &[u8] = &[0, 0, 0, 0, 3];
+    let short: &[u8] = &[255; 4];
+    for (profile, first, second, length, expected) in [
+        (0, short, bad_symbol, 18, 1),
+        (5, RIGHT_MESSAGE, RIGHT_MESSAGE, 19, 1),
+        (255, RIGHT_MESSAGE, RIGHT_MESSAGE, 19, 1),
+        (1, short, bad_symbol, 19, 2),
+        (1, bad_symbol, short, 19, 2),
+        (1, bad_symbol, RIGHT_MESSAGE, 18, 2),
+        (1, RIGHT_MESSAGE, RIGHT_MESSAGE, 20, 2),
+        (2, RIGHT_MESSAGE, RIGHT_MESSAGE, 19, 2),
+        (1, bad_symbol, RIGHT_MESSAGE, 19, 3),
+        (1, RIGHT_MESSAGE, &[255, 0, 0, 0, 0], 19, 3),
+    ] {
+        let mut output = vec![FILLER; length];
+        assert_eq!(number(encode(profile, first, second, &mut output)), expected);
+        assert!(is_untouched(&output));
+    }
+}
+
+#[test]
+fn decode_refuses_in_order() {
+    let bad_symbol: &[u8] = &[3; 19];
+    let short: &[u8] = &[255; 18];
+    for (profile, word, lengths, expected) in [
+        (0, short, [4, 4], 1),
+        (5, RIGHT_WORD, [5, 5], 1),
+        (1, short, [5, 5], 2),
+        (1, bad_symbol, [5, 4], 2),
+        (1, bad_symbol, [6, 5], 2),
+        (4, RIGHT_WORD, [45, 45], 2),
+        (1, bad_symbol, [5, 5], 3),
+        (1, &[&RIGHT_WORD[..18], &[255]].concat(), [5, 5], 3),
+        (1, UNREADABLE, [5, 5], 4),
+    ] {
+        let [mut first, mut second] = lengths.map(|length| vec![FILLER; length]);
+        assert_eq!(number(decode(profile, word, &mut first, &mut second)), expected);
+        assert!(is_untouched(&first) && is_untouched(&second));
+    }
+}
+
+/// A sheet of R = 1 with this many records.
+fn sheet_with(records: usize) -> Vec<u8> {
+    let mut buffer = vec![FILLER; 2 * CELL];
+    queue::format(&mut buffer).unwrap();
+    for _ in 0..records {
+        queue::enqueue(&mut buffer, 1, 1, RIGHT_WORD).unwrap();
+    }
+    buffer
+}
+
+/// A sheet whose length is wrong, an unsound one, and sound ones, empty and full.
+fn sheets() -> [Vec<u8>; 4] {
+    let mut unsound = sheet_with(1);
+    unsound[2] = 1;
+    [vec![FILLER; 2 * CELL - 1], unsound, sheet_with(0), sheet_with(1)]
+}
+
+#[test]
+fn format_refuses_lengths() {
+    for length in [0, 1, 103, 104, 207, 209, 26_623, 26_625, 26_728] {
+        let mut buffer = vec![FILLER; length];
+        assert_eq!(number(queue::format(&mut buffer)), 5);
+        assert!(is_untouched(&buffer));
+    }
+}
+
+#[test]
+fn enqueue_refuses_in_order() {
+    let [wrong_length, unsound, empty, full] = sheets();
+    let short: &[u8] = &[255; 18];
+    for (buffer, box_number, profile, word, expected) in [
+        (&wrong_length, 0, 0, short, 5),
+        (&unsound, 0, 0, short, 6),
+        (&full, 0, 0, short, 7),
+        (&empty, 41, 0, short, 7),
+        (&empty, 255, 0, short, 7),
+        (&full, 1, 0, short, 1),
+        (&empty, 40, 5, short, 1),
+        (&full, 1, 1, short, 2),
+        (&full, 1, 1, &[3; 19], 3),
+        (&full, 1, 1, UNREADABLE, 8),
+    ] {
+        let mut after = buffer.clone();
+        assert_eq!(number(queue::enqueue(&mut after, box_number, profile, word)), expected);
+        assert_eq!(&after, buffer);
+    }
+}
+
+#[test]
+fn peek_and_dequeue_refuse_in_order() {
+    let [wrong_length, unsound, empty, full] = sheets();
+    for (buffer, record, length, expected) in [
+        (&wrong_length, 0, 103, 5),
+        (&unsound, 0, 103, 6),
+        (&empty, 1, 105, 2),
+        (&empty, 1, 0, 2),
+        (&empty, 1, CELL, 10),
+        (&full, 0, 103, 2),
+        (&full, 0, CELL, 10),
+        (&full, 2, CELL, 10),
+        (&full, 257, CELL, 10),
+    ] {
+        let mut output = vec![FILLER; length];
+        assert_eq!(number(queue::peek(buffer, record, &mut output)), expected);
+        if buffer != &full || length != CELL {
+            let mut after = buffer.clone();
+            assert_eq!(number(queue::dequeue(&mut after, &mut output)), expected);
+            assert_eq!(&after, buffer);
+        }
+        assert!(is_untouched(&output));
+    }
+}
+
+/// "A line not of this form gives 9, an empty one included; then the order of Read."
+#[test]
+fn a_line_is_refused_in_order() {
+    let longest = format!("5 {}", "9".repeat(99));
+    for (line, expected) in [
+        ("", "R 9"),
+        ("1", "R 9"),
+        ("1 ", "R 9"),
+        ("1  1", "R 9"),
+        ("1 1 ", "R 9"),
+        ("1\t1", "R 9"),
+        ("1 1\r", "R 9"),
+        ("0 9", "R 1"),
+        (&longest, "R 1"),
+        (&(longest.clone() + "9"), "R 9"),
+        ("1 9", "R 2"),
+        ("1 1111111111111111103", "R 3"),
+        ("1 0000000000000000000", "R 4"),
+    ] {
+        assert_eq!(answer(line.as_bytes()), expected);
+    }
+}
