@@ -8,7 +8,7 @@ use lib.ListN.{length}
 use Rattle.code.specs.Parameters.{messageLength, codewordLength}
 use Rattle.code.specs.Component.{symbolsBelow}
 use Rattle.code.specs.Codeword.{encoded}
-use Rattle.code.specs.Reading.{Reading, read, unreadable, reading}
+use Rattle.code.specs.Reading.{Kind, Reading, read, unreadable, reading}
 use Rattle.code.specs.Profiles.{isProfile, profile}
 
 -- 01: Write, the number of the refusal, or 0: profile i, messages a and b, an output of l symbols
@@ -40,11 +40,15 @@ decodeAnswer i u k l =
           [ false ↦ refused 2 | true ↦ elim (symbolsBelow (profile i .q) u) [ false ↦ refused 3 | true ↦ answered (reading (profile i) u) ] ]
     ]
 
--- 01: the number that refuses, or 0
-abbrev pub answerNumber : Answer → ℕ
-answerNumber (refused k) = k
-answerNumber (answered unreadable) = 4
-answerNumber (answered (read k i y a b)) = 0
+-- what is answered beside the outputs: the number of a refusal, or kind, position and symbol
+pub data Report : Type 0 where
+  refusal : ℕ → Report
+  success : Kind → ℕ → ℕ → Report
+
+abbrev pub report : Answer → Report
+report (refused k) = refusal k
+report (answered unreadable) = refusal 4
+report (answered (read k i y a b)) = success k i y
 
 -- the first output afterwards (true) and the second (false): the message, or what it held where the word is refused
 abbrev pub decodeOutput : Bool → Answer → List ℕ → List ℕ
