@@ -9,11 +9,11 @@ use native.Mathlib.Nat.{suc-inj, zero-add, pos-of-ne-zero}
 use native.Mathlib.Omega.{arith}
 use lib.Dec.{T}
 use lib.ListN.{length, getD, set}
-use lib.Seq.{getD-set-other, lt-length-set, getD-take}
+use lib.Seq.{getD-set-other, lt-length-set}
 use Rattle.modular.specs.Sum.{weight, dot}
 use Rattle.modular.specs.Residue.{Congruent, Invertible, minus}
 use Rattle.modular.proofs.Residue.{of-eq, same, symm, _then_, add, scale, small, cancel, minus-add, minus-below, prime-inverse}
-use Rattle.modular.proofs.Sum.{dot-set, dot-one}
+use Rattle.modular.proofs.Sum.{dot-set, dot-one, weight-set}
 use Rattle.code.specs.Parameters.{Parameters, Sized, balancedLength, delta}
 use Rattle.code.specs.Codeword.{alternate, alpha, beta, withChecks, body, codeword}
 use Rattle.code.specs.Reading.{distance}
@@ -23,11 +23,7 @@ use Rattle.code.proofs.Columns.{q-positive}
 use Rattle.code.proofs.Moves.{Move, Near, kept, told, no-move}
 use Rattle.code.proofs.Distance.{equal-or-not, Differing, differing, TwoApart, two-apart, distance-zero, distance-sym, distance-append}
 use Rattle.code.proofs.Symbols.{symbol-below}
-use Rattle.code.proofs.Lawful.{Lawful, lawful, length-body, balanced-length}
-
--- weights that agree
-weight-set : (w : List ℕ) (i y : ℕ) → i < length w → weight (set w i y) + getD w i 0 ≡ weight w + y
-weight-set w i y h = omega (arith, dot-set (λ x. 1) w i y h, dot-one w, dot-one (set w i y))
+use Rattle.code.proofs.Lawful.{Lawful, lawful, length-body, balanced-length, body-at}
 
 -- two changed symbols that keep the weight are a move
 move : (q : ℕ) → 1 ≤ q → (w : List ℕ) (i j a b : ℕ) → i < length w → j < length w → j ≢ i → weight (set (set w i a) j b) ≡ weight w
@@ -115,11 +111,6 @@ not-two p s w w′ l l′ k a a′ c f t =
         m =
             subst (λ (x : List ℕ). Move (p .q) w x (e i) i j) z
             (move (p .q) (q-positive p s) w i j (getD w′ i 0) (getD w′ j 0) hi hj ne (ap weight z ∙ sym k))
-
--- a symbol of the body is one of the word
-body-at : (p : Parameters) (u : List ℕ) (i : ℕ) → i < balancedLength p → getD (body p u) i 0 ≡ getD u i 0
-unfolding body
-body-at p u i h = getD-take (balancedLength p) u i 0 h
 
 pub apart-by-units : ApartByUnits
 unfolding withChecks

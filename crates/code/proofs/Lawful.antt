@@ -7,11 +7,11 @@ use mathlib.Core.List.{List, [], _∷_, _++_}
 use Prim.Native.Nat.{ℕ, suc, _+_, _≤_, _<_}
 use native.Mathlib.Numerals.{add-one}
 use native.Mathlib.Omega.{arith}
-use lib.Dec.{T, eqb, eqb→eq, eqb-refl}
+use lib.Dec.{T, eqb, eqb→eq}
 use lib.ListN.{length, getD, take, drop, take-append-drop, length-append}
-use lib.Seq.{drop-cons, length-take-le, take-at, getD-append-add, drop-length, getD-at}
+use lib.Seq.{drop-cons, length-take-le, take-at, getD-append-add, drop-length, getD-at, getD-take}
 use Rattle.modular.specs.Sum.{weight}
-use Rattle.modular.proofs.Search.{and-left, and-right, and-intro, and-four, and-parts, or-cases, or-left, or-right}
+use Rattle.modular.proofs.Search.{eq-test, and-left, and-right, and-intro, and-four, and-parts, or-cases, or-left, or-right}
 use Rattle.code.specs.Parameters.{Parameters, balancedLength, codewordLength, balancingValue}
 use Rattle.code.specs.Component.{symbolsBelow, isWord, inCode}
 use Rattle.code.specs.Codeword.{alpha, beta, withChecks, body, received, nearCode, isBalanced, hasChecks, hasComponents, codeword}
@@ -29,6 +29,11 @@ pub record Lawful (p : Parameters) (u : List ℕ) : Type 0 where
 pub length-body : (p : Parameters) (u : List ℕ) → length u ≡ codewordLength p → length (body p u) ≡ balancedLength p
 unfolding body
 length-body p u e = length-take-le (balancedLength p) u (omega arith)
+
+-- a symbol of the body is one of the word
+pub body-at : (p : Parameters) (u : List ℕ) (i : ℕ) → i < balancedLength p → getD (body p u) i 0 ≡ getD u i 0
+unfolding body
+body-at p u i h = getD-take (balancedLength p) u i 0 h
 
 -- 2 n + 1 as it is recurred on
 pub balanced-length : (p : Parameters) → balancedLength p ≡ suc (double (p .n))
@@ -116,9 +121,6 @@ lawful p h u k = from (and-parts (isWord (p .q) (codewordLength p) u) (isBalance
 pub body-of : (p : Parameters) (w : List ℕ) → length w ≡ balancedLength p → body p (withChecks (p .q) w) ≡ w
 unfolding body withChecks
 body-of p w e = take-at w (alpha (p .q) w ∷ beta (p .q) w ∷ []) (balancedLength p) e
-
-eq-test : {a b : ℕ} → a ≡ b → T (eqb a b)
-eq-test {a} e = subst (λ (x : ℕ). T (eqb a x)) e (eqb-refl a)
 
 -- a word of m symbols that balances, with its check symbols, is a codeword where its components are near the code
 pub codeword-of : (p : Parameters) → 1 ≤ p .q → (w : List ℕ) → length w ≡ balancedLength p → T (symbolsBelow (p .q) (withChecks (p .q) w))

@@ -1,13 +1,13 @@
 -- Laws of the tests and searches of specs/Search.antt, by induction on the bound.
 -- Assumes nothing.
-use mathlib.Core.Path.{_≡_, refl}
+use mathlib.Core.Path.{_≡_, refl, subst}
 use mathlib.Core.Bool.{Bool, true, false, _&&_, _||_}
 use mathlib.Core.Logic.{_⊎_, inl, inr, ⊎-elim}
 use Prim.Native.Nat.{ℕ, zero, suc, _≤_, _<_, zero-le, suc-le-suc}
 use native.Mathlib.Nat.{le-of-suc-le-suc, not-suc-le-zero, lt-of-le-of-lt, lt-of-not-le}
 use native.Mathlib.Decide.{decLe}
 use native.Mathlib.Omega.{arith}
-use lib.Dec.{T, lt→ltb, ltb→lt}
+use lib.Dec.{T, lt→ltb, ltb→lt, eqb, eqb-refl}
 use Rattle.modular.specs.Search.{allBelow, least, anyBelow}
 
 -- a test passes or fails
@@ -26,6 +26,9 @@ and-left false b h = h
 pub and-right : (a b : Bool) → T (a && b) → T b
 and-right true b h = h
 and-right false b h = absurd h
+
+pub eq-test : {a b : ℕ} → a ≡ b → T (eqb a b)
+eq-test {a} e = subst (λ (x : ℕ). T (eqb a x)) e (eqb-refl a)
 
 -- four tests
 pub and-four : (a b c d : Bool) → T a → T b → T c → T d → T (a && b && c && d)

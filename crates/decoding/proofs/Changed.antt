@@ -1,0 +1,161 @@
+-- What one changed symbol of a received word changes: the body or a check symbol, and in the body the weight, one check symbol and the syndromes.
+-- Assumes nothing.
+use mathlib.Core.Path.{_≡_, refl, sym, ap, subst, _∙_}
+use mathlib.Core.Logic.{_⊎_, inl, inr, ⊎-elim, _≢_}
+use mathlib.Core.Bool.{Bool, true, false, not}
+use mathlib.Core.List.{List}
+use Prim.Native.Nat.{ℕ, suc, _+_, _-_, _*_, _%_, _≤_, _<_}
+use native.Mathlib.Nat.{mod-lt, le-of-lt, eq-or-lt-of-le}
+use native.Mathlib.Omega.{arith}
+use lib.ListN.{length, getD, set, length-set}
+use lib.Seq.{getD-set-other, take-set-lt, take-set-le}
+use Rattle.modular.specs.Sum.{weight}
+use Rattle.modular.specs.Residue.{Congruent}
+use Rattle.modular.proofs.Search.{le-or-lt}
+use Rattle.modular.proofs.Residue.{of-eq, same, _then_, add, reduce, multiple, cancel}
+use Rattle.modular.proofs.Sum.{weight-set}
+use Rattle.code.specs.Parameters.{Parameters, Sized, balancedLength, codewordLength}
+use Rattle.code.specs.Codeword.{body, received, hasComponents}
+use Rattle.code.proofs.Weights.{double, double-is, times-pred}
+use Rattle.code.proofs.Columns.{q-positive}
+use Rattle.code.proofs.Moves.{parity}
+use Rattle.code.proofs.Lawful.{length-body, balanced-length, body-at}
+use Rattle.decoding.specs.Syndromes.{index, movedFirst, movedSecond}
+use Rattle.decoding.specs.Decoded.{checkSymbol, checkIndex, Sums, sums, target, lack, nearAfter, places}
+use Rattle.decoding.proofs.Near.{Rows, rows}
+use Rattle.decoding.proofs.Components.{components-test}
+use Rattle.decoding.proofs.Moved.{index-odd, index-even, Gain, moved-first, moved-second}
+use Rattle.decoding.proofs.Checks.{check-gained, check-kept}
+
+-- Indices.
+
+pub index-within : (p : Parameters) (b : Bool) (k : ℕ) → k < places p b → index b k < balancedLength p
+index-within p true k h = omega arith
+index-within p false k h = omega arith
+
+-- an index of the body is one of a parity
+pub data Placed (p : Parameters) : ℕ → Type 0 where
+  placed : (b : Bool) (k : ℕ) → k < places p b → Placed p (index b k)
+
+pub place : (p : Parameters) (i : ℕ) → i < balancedLength p → Placed p i
+place p i h = go (parity i .0) (parity i .1)
+  where
+    go : (a : ℕ) → (i ≡ double a) ⊎ (i ≡ suc (double a)) → Placed p i
+    go a (inl e) = subst (Placed p) (index-odd a ∙ sym e) (placed true a (omega (arith, double-is a)))
+    go a (inr e) = subst (Placed p) (index-even a ∙ sym e) (placed false a (omega (arith, double-is a)))
+
+-- the others are the check symbols'
+pub index-cases : (p : Parameters) (i : ℕ) → i < codewordLength p → (i < balancedLength p) ⊎ ((b : Bool) × (i ≡ checkIndex p b))
+index-cases p i h = ⊎-elim past (λ (l : i < balancedLength p). inl l) (le-or-lt (balancedLength p) i)
+  where
+    past : balancedLength p ≤ i → (i < balancedLength p) ⊎ ((b : Bool) × (i ≡ checkIndex p b))
+    past l =
+        let k : i ≤ balancedLength p + 1 = omega arith in
+        ⊎-elim (λ (e : i ≡ balancedLength p + 1). inr (false, e)) (λ (m : i < balancedLength p + 1). inr (true, omega arith)) (eq-or-lt-of-le k)
+
+pub check-within : (p : Parameters) (b : Bool) → checkIndex p b < codewordLength p
+check-within p true = omega arith
+check-within p false = omega arith
+
+check-past : (p : Parameters) (b : Bool) → balancedLength p ≤ checkIndex p b
+check-past p true = omega arith
+check-past p false = omega arith
+
+checks-distinct : (p : Parameters) (b : Bool) → checkIndex p (not b) ≢ checkIndex p b
+checks-distinct p true e = omega arith
+checks-distinct p false e = omega arith
+
+-- The body and the check symbols.
+
+module _ (p : Parameters) (v : List ℕ) where
+  -- a changed check symbol leaves the body and the other check symbol
+  pub body-kept : (b : Bool) (y : ℕ) → body p (set v (checkIndex p b) y) ≡ body p v
+  unfolding body
+  body-kept b y = take-set-le (balancedLength p) v (checkIndex p b) y (check-past p b)
+
+  pub other-kept : (b : Bool) (y : ℕ) → getD (set v (checkIndex p b) y) (checkIndex p (not b)) 0 ≡ getD v (checkIndex p (not b)) 0
+  other-kept b y = getD-set-other v (checkIndex p b) (checkIndex p (not b)) y 0 (checks-distinct p b)
+
+  -- a changed symbol of the body leaves the check symbols
+  pub body-set : (i y : ℕ) → i < balancedLength p → body p (set v i y) ≡ set (body p v) i y
+  unfolding body
+  body-set i y h = take-set-lt (balancedLength p) v i y h
+
+  pub checks-kept : (b : Bool) (i y : ℕ) → i < balancedLength p → getD (set v i y) (checkIndex p b) 0 ≡ getD v (checkIndex p b) 0
+  checks-kept b i y h = getD-set-other v i (checkIndex p b) y 0 (omega (arith, check-past p b))
+
+-- The sums.
+
+-- t is what is summed over v; a list may go on after the r rows
+pub record Summed (p : Parameters) (v : List ℕ) (t : Sums) : Type 0 where
+  pub weighs : t .weighs ≡ weight (body p v)
+  pub asked : (b : Bool) → t .asked b ≡ checkSymbol (p .q) b (body p v)
+  pub arrived : (b : Bool) → t .arrived b ≡ getD v (checkIndex p b) 0
+  pub first : Rows p (received p true v) (t .first)
+  pub second : Rows p (received p false v) (t .second)
+
+pub summed : (p : Parameters) (v : List ℕ) → Summed p v (sums p v)
+summed p v =
+    record {
+      weighs = refl;
+      asked = λ b. refl;
+      arrived = λ b. refl;
+      first = rows p (received p true v);
+      second = rows p (received p false v);
+    }
+
+-- the lack is what takes x to the symbol that balances
+pub lack-gained : (p : Parameters) (s : Sums) (x y : ℕ) → 1 ≤ p .q → y + s .weighs ≡ x + target p → Congruent (p .q) (x + lack p s) y
+unfolding lack
+lack-gained p s x y h e =
+    let a : ℕ = s .weighs in
+    let t : ℕ = target p in
+    let f : x + (t + (p .q - 1) * a) + a ≡ y + a + a * p .q = omega (arith, times-pred (p .q) a h) in
+    cancel a (add (add (same x) (reduce (p .q) (t + (p .q - 1) * a))) (same a) then of-eq f then multiple (p .q) (y + a) a)
+
+pub lack-below : (p : Parameters) (s : Sums) → 1 ≤ p .q → lack p s < p .q
+unfolding lack
+lack-below p s h = mod-lt (target p + (p .q - 1) * s .weighs) h
+
+-- y in place of the symbol at index k of the parity b balances the body
+module _ (p : Parameters) (s : Sized p) {v : List ℕ} (n : length v ≡ codewordLength p) {t : Sums} (m : Summed p v t) (b : Bool) (k y : ℕ)
+    (l : k < places p b) (e : y + t .weighs ≡ getD v (index b k) 0 + target p) where
+  within : index b k < balancedLength p
+  within = index-within p b k l
+
+  gain : Gain p (body p v) b k y (lack p t)
+  gain =
+      let h : length (body p v) ≡ balancedLength p = length-body p v n in
+      record {
+        long = h ∙ balanced-length p;
+        within = rw h within;
+        small = le-of-lt (lack-below p t (q-positive p s));
+        gained = rw (body-at p v (index b k) within) (lack-gained p t (getD v (index b k) 0) y (q-positive p s) e);
+      }
+
+  here : body p (set v (index b k) y) ≡ set (body p v) (index b k) y
+  here = body-set p v (index b k) y within
+
+  pub changed-weight : weight (body p (set v (index b k) y)) ≡ target p
+  changed-weight =
+      omega (arith, ap weight here, weight-set (body p v) (index b k) y (gain .within), body-at p v (index b k) within, m .weighs)
+
+  pub changed-check : checkSymbol (p .q) b (body p (set v (index b k) y)) ≡ (t .asked b + lack p t) % p .q
+  changed-check =
+      ap (checkSymbol (p .q) b) here ∙ check-gained b (body p v) k y (lack p t) (gain .within) (gain .gained)
+      ∙ ap (λ (x : ℕ). (x + lack p t) % p .q) (sym (m .asked b))
+
+  pub kept-check : checkSymbol (p .q) (not b) (body p (set v (index b k) y)) ≡ t .asked (not b)
+  kept-check = ap (checkSymbol (p .q) (not b)) here ∙ check-kept (p .q) b (body p v) k y ∙ sym (m .asked (not b))
+
+  pub changed-first : Rows p (received p true (set v (index b k) y)) (movedFirst p b k (lack p t) (t .first))
+  unfolding received
+  changed-first = rw here (moved-first (q-positive p s) b gain (m .first))
+
+  pub changed-second : Rows p (received p false (set v (index b k) y)) (movedSecond p b k (lack p t) (t .second))
+  unfolding received
+  changed-second = rw here (moved-second (q-positive p s) b gain (m .second))
+
+  pub changed-near : nearAfter p t b k ≡ hasComponents p (set v (index b k) y)
+  unfolding nearAfter
+  changed-near = components-test p s (set v (index b k) y) (length-set v (index b k) y ∙ n) changed-first changed-second

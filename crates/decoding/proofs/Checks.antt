@@ -1,0 +1,65 @@
+-- One changed symbol of the body moves the check symbol of its parity by as much, mod q, and keeps the other.
+-- Assumes nothing.
+use mathlib.Core.Path.{_≡_, refl, sym, ap, ap₂, _∙_}
+use mathlib.Core.Bool.{Bool, true, false, not}
+use mathlib.Core.List.{List}
+use Prim.Native.Nat.{ℕ, _+_, _*_, _%_, _<_}
+use native.Mathlib.Nat.{add-zero, one-mul}
+use native.Mathlib.Omega.{arith}
+use lib.ListN.{length, getD, set, length-set}
+use Rattle.modular.specs.Sum.{weight, dot}
+use Rattle.modular.specs.Residue.{Congruent}
+use Rattle.modular.proofs.Residue.{of-eq, same, symm, _then_, add, reduce}
+use Rattle.modular.proofs.Sum.{dot-one}
+use Rattle.code.specs.Parameters.{delta}
+use Rattle.code.specs.Codeword.{alternate, alpha, beta}
+use Rattle.code.proofs.Weights.{spread, spread-take, spread-skip, dot-alternate}
+use Rattle.code.proofs.Alternate.{first-kept, second-kept}
+use Rattle.decoding.specs.Syndromes.{index}
+use Rattle.decoding.specs.Decoded.{checkSymbol}
+use Rattle.decoding.proofs.Moved.{index-odd, index-even, dot-gain}
+
+-- what is added to the sum of the symbols
+abbrev offset : ℕ → Bool → ℕ → ℕ
+offset q true m = delta q m
+offset q false m = 0
+
+check-is : (q : ℕ) (b : Bool) (w : List ℕ) → checkSymbol q b w ≡ (weight (alternate b w) + offset q b (length w)) % q
+unfolding alpha beta
+check-is q true w = refl
+check-is q false w = rw add-zero refl
+
+-- the symbols of a parity are counted once each, and the others are not
+pub counted : (b : Bool) (k : ℕ) → spread b (λ x. 1) (index b k) ≡ 1
+counted true k = ap (spread true (λ x. 1)) (index-odd k) ∙ spread-take (λ x. 1) k
+counted false k = ap (spread false (λ x. 1)) (index-even k) ∙ spread-take (λ x. 1) k
+
+pub uncounted : (b : Bool) (k : ℕ) → spread (not b) (λ x. 1) (index b k) ≡ 0
+uncounted true k = ap (spread false (λ x. 1)) (index-odd k) ∙ spread-skip (λ x. 1) k
+uncounted false k = ap (spread true (λ x. 1)) (index-even k) ∙ spread-skip (λ x. 1) k
+
+pub sum-is : (b : Bool) (w : List ℕ) → dot (spread b (λ x. 1)) w ≡ weight (alternate b w)
+sum-is b w = sym (dot-alternate b (λ x. 1) w) ∙ dot-one (alternate b w)
+
+pub check-gained : {q : ℕ} (b : Bool) (w : List ℕ) (k y e : ℕ) → index b k < length w → Congruent q (getD w (index b k) 0 + e) y
+    → checkSymbol q b (set w (index b k) y) ≡ (checkSymbol q b w + e) % q
+check-gained {q} b w k y e l h =
+    let f : ℕ → ℕ = spread b (λ x. 1) in
+    let d : ℕ = offset q b (length w) in
+    let a : dot f w + f (index b k) * e ≡ weight (alternate b w) + e =
+    ap₂ (λ (x z : ℕ). x + z * e) (sum-is b w) (counted b k) ∙ ap (λ (x : ℕ). weight (alternate b w) + x) (one-mul e) in
+    let c : weight (alternate b w) + e + d ≡ weight (alternate b w) + d + e = omega arith in
+    let g : Congruent q (weight (alternate b (set w (index b k) y)) + d) (checkSymbol q b w + e) =
+    add (of-eq (sym (sum-is b (set w (index b k) y))) then dot-gain f w (index b k) y e l h then of-eq a) (same d) then of-eq c
+    then add (symm (of-eq (check-is q b w) then reduce q (weight (alternate b w) + d))) (same e) in
+    check-is q b (set w (index b k) y) ∙ ap (λ (x : ℕ). (weight (alternate b (set w (index b k) y)) + offset q b x) % q) (length-set w (index b k) y) ∙ g .same
+
+pub check-kept : (q : ℕ) (b : Bool) (w : List ℕ) (k y : ℕ) → checkSymbol q (not b) (set w (index b k) y) ≡ checkSymbol q (not b) w
+check-kept q b w k y =
+    check-is q (not b) (set w (index b k) y)
+    ∙ ap₂ (λ (t : List ℕ) (x : ℕ). (weight t + offset q (not b) x) % q) (kept b) (length-set w (index b k) y)
+    ∙ sym (check-is q (not b) w)
+  where
+    kept : (b : Bool) → alternate (not b) (set w (index b k) y) ≡ alternate (not b) w
+    kept true = ap (λ (i : ℕ). alternate false (set w i y)) (index-odd k) ∙ second-kept w k y
+    kept false = ap (λ (i : ℕ). alternate true (set w i y)) (index-even k) ∙ first-kept w k y

@@ -1,0 +1,67 @@
+-- The test of two syndromes is the test of the components that have them, and the messages follow from them.
+-- Assumes nothing.
+use mathlib.Core.Path.{_≡_, refl, ap, ap₂, _∙_}
+use mathlib.Core.Logic.{⊎-elim}
+use mathlib.Core.Bool.{Bool, true, false, _&&_}
+use mathlib.Core.List.{List}
+use Prim.Native.Nat.{ℕ}
+use lib.Dec.{T}
+use lib.ListN.{length}
+use Rattle.modular.proofs.Search.{and-left, and-right, or-cases, or-left}
+use Rattle.code.specs.Parameters.{Parameters, Sized, codewordLength}
+use Rattle.code.specs.Component.{message}
+use Rattle.code.specs.Codeword.{body, received, nearCode, hasComponents, carried}
+use Rattle.code.specs.Reading.{Kind, read, readAs}
+use Rattle.code.proofs.Weights.{length-part}
+use Rattle.code.proofs.Lawful.{length-body, balanced-length}
+use Rattle.decoding.specs.Syndromes.{zeroSyndrome, columnSyndrome, nearSyndrome, nearSyndromes, restoredBy}
+use Rattle.decoding.specs.Decoded.{readBy}
+use Rattle.decoding.proofs.Near.{Rows, zero-test, near-test, restored-by}
+
+pub length-received : (p : Parameters) (b : Bool) (u : List ℕ) → length u ≡ codewordLength p → length (received p b u) ≡ p .n
+unfolding received
+length-received p b u e = length-part (p .q) (p .n) b (body p u) (length-body p u e ∙ balanced-length p)
+
+-- a zero syndrome is near
+near-zero : (p : Parameters) (S : List ℕ) → T (zeroSyndrome p S) → T (nearSyndrome p S)
+unfolding nearSyndrome
+near-zero p S z = or-left (zeroSyndrome p S) (columnSyndrome p S) z
+
+-- each of two near syndromes is near
+pub near-parts : (p : Parameters) (S S′ : List ℕ) → T (nearSyndromes p S S′) → T (nearSyndrome p S) × T (nearSyndrome p S′)
+unfolding nearSyndromes
+near-parts p S S′ t =
+    ⊎-elim (λ (h : T (a && b′)). (near-zero p S (and-left a b′ h), and-right a b′ h))
+    (λ (h : T (b && a′)). (and-left b a′ h, near-zero p S′ (and-right b a′ h))) (or-cases (a && b′) (b && a′) t)
+  where
+    a : Bool
+    a = zeroSyndrome p S
+
+    b : Bool
+    b = nearSyndrome p S
+
+    a′ : Bool
+    a′ = zeroSyndrome p S′
+
+    b′ : Bool
+    b′ = nearSyndrome p S′
+
+module _ (p : Parameters) (s : Sized p) (u : List ℕ) (l : length u ≡ codewordLength p) where
+  pub carried-by : (b : Bool) {S : List ℕ} → Rows p (received p b u) S → T (nearSyndrome p S)
+      → message (p .q) (p .r) (restoredBy p S (received p b u)) ≡ carried p b u
+  unfolding carried
+  carried-by b w t = ap (message (p .q) (p .r)) (restored-by p s w (length-received p b u l) t)
+
+  module _ {S S′ : List ℕ} (w : Rows p (received p true u) S) (w′ : Rows p (received p false u) S′) where
+    pub components-test : nearSyndromes p S S′ ≡ hasComponents p u
+    unfolding nearSyndromes hasComponents
+    components-test =
+        let n : nearSyndrome p S ≡ nearCode p (received p true u) = near-test p s w (length-received p true u l) in
+        let n′ : nearSyndrome p S′ ≡ nearCode p (received p false u) = near-test p s w′ (length-received p false u l) in
+        rw (zero-test w, zero-test w′, n, n′) refl
+
+    pub read-by : (k : Kind) (i y : ℕ) → T (nearSyndromes p S S′) → readBy p k i y u S S′ ≡ readAs p k i y u
+    unfolding readBy
+    read-by k i y t =
+        let (n, n′) = near-parts p S S′ t in
+        ap₂ (λ (a b : List ℕ). read k i y a b) (carried-by true w n) (carried-by false w′ n′)

@@ -1,0 +1,21 @@
+-- Syndromes as lists
+pub mod Tests
+pub mod Value
+pub mod Near
+pub mod Components
+pub mod Moved
+-- One changed symbol
+pub mod Checks
+pub mod Changed
+pub mod Fits
+-- Readings
+pub mod Answers
+pub mod Nearby
+pub mod Outcomes
+pub mod Decoded
+-- For loops over arrays
+pub mod Agree
+pub mod Steps
+pub mod Search
+-- The starred cases
+pub mod Cases

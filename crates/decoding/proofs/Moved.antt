@@ -1,0 +1,111 @@
+-- One changed symbol moves a syndrome by a multiple of one column, since a row of a component is a weighted sum over the word.
+-- Assumes nothing.
+use mathlib.Core.Path.{_≡_, refl, sym, ap, _∙_}
+use mathlib.Core.Bool.{Bool, true, false}
+use mathlib.Core.List.{List}
+use Prim.Native.Nat.{ℕ, zero, suc, _+_, _-_, _*_, _%_, _≤_, _<_}
+use native.Mathlib.Nat.{le-refl, mul-comm}
+use native.Mathlib.Omega.{arith}
+use lib.ListN.{length, getD, set, length-set}
+use Rattle.modular.specs.Sum.{dot}
+use Rattle.modular.specs.Residue.{Congruent}
+use Rattle.modular.proofs.Residue.{of-eq, same, symm, _then_, add, scale, multiple, cancel}
+use Rattle.modular.proofs.Sum.{dot-set}
+use Rattle.code.specs.Parameters.{Parameters}
+use Rattle.code.specs.Component.{checkRow, syndrome}
+use Rattle.code.proofs.Weights.{double, double-is, later, part, dot-part, times-pred, weight-first-odd, weight-second-odd, weight-first-even, weight-second-even}
+use Rattle.code.proofs.Columns.{entry}
+use Rattle.code.proofs.Moves.{rowWeight}
+use Rattle.decoding.specs.Syndromes.{columnEntry, moved, index, movedFirst, movedSecond}
+use Rattle.decoding.proofs.Value.{tabulate-at, length-tabulate}
+use Rattle.decoding.proofs.Near.{Rows, rows-congruent}
+
+-- the index among all positions, as the weights recur on it
+pub index-odd : (k : ℕ) → index true k ≡ double k
+index-odd k = sym (double-is k)
+
+pub index-even : (k : ℕ) → index false k ≡ suc (double k)
+index-even k = omega (arith, double-is k)
+
+-- what a weighted sum gains by e more at index i
+pub dot-gain : {q : ℕ} (f : ℕ → ℕ) (w : List ℕ) (i y e : ℕ) → i < length w → Congruent q (getD w i 0 + e) y
+    → Congruent q (dot f (set w i y)) (dot f w + f i * e)
+dot-gain f w i y e l h =
+    let x : ℕ = getD w i 0 in
+    let k : dot f w + f i * (x + e) ≡ dot f w + f i * e + f i * x = omega arith in
+    cancel (f i * x) (of-eq (dot-set f w i y l) then add (same (dot f w)) (scale (f i) (symm h)) then of-eq k)
+
+-- e times less a column is q - e times the column
+less : (q a e : ℕ) → 1 ≤ q → e ≤ q → Congruent q ((q - 1) * a * e) ((q - e) * a)
+less q a e h l =
+    let f : (q - 1) * a * e + e * a ≡ 0 + a * e * q = omega (arith, times-pred q (a * e) h) in
+    let k : q - e + e ≡ q = omega arith in
+    let g : (q - e) * a + e * a ≡ 0 + a * q = omega (arith, ap (λ (x : ℕ). x * a) k) in
+    cancel (e * a) (of-eq f then multiple q 0 (a * e) then symm (multiple q 0 a) then of-eq (sym g))
+
+entry-is : (p : Parameters) (j a : ℕ) → columnEntry p j a ≡ later (entry p j) a
+entry-is p j zero = refl
+entry-is p j (suc a) = refl
+
+-- the rows of a component that gains g times column a
+moved-rows : {p : Parameters} {c S : List ℕ} (d : List ℕ) (g a : ℕ) → Rows p c S
+    → ((j : ℕ) → j < p .r → Congruent (p .q) (dot (checkRow (p .q) (p .r) j) d) (dot (checkRow (p .q) (p .r) j) c + g * columnEntry p j a))
+    → Rows p d (moved p g a S)
+unfolding moved syndrome
+moved-rows {p} {c} {S} d g a w h =
+    record {
+      long = rw length-tabulate (le-refl (p .r));
+      at = λ j l.
+          tabulate-at (λ j. (getD S j 0 + g * columnEntry p j a) % p .q) (p .r) j l
+          ∙ (add (rows-congruent w j l) (same (g * columnEntry p j a)) then symm (h j l)) .same;
+    }
+
+-- y is e more, mod q, than the symbol at index k of the parity b of a word of 2 n + 1
+pub record Gain (p : Parameters) (w : List ℕ) (b : Bool) (k y e : ℕ) : Type 0 where
+  pub long : length w ≡ suc (double (p .n))
+  pub within : index b k < length w
+  pub small : e ≤ p .q
+  pub gained : Congruent (p .q) (getD w (index b k) 0 + e) y
+
+module _ {p : Parameters} (h : 1 ≤ p .q) {w : List ℕ} {b : Bool} {k y e : ℕ} (m : Gain p w b k y e) where
+  -- the syndrome of component c, where at that index its rows have the weights of column a, times g in place of e
+  moved-by : (c : Bool) (g a : ℕ) {S : List ℕ}
+      → ((j : ℕ) → Congruent (p .q) (rowWeight p c j (index b k) * e) (g * columnEntry p j a)) → Rows p (part (p .q) c w) S
+      → Rows p (part (p .q) c (set w (index b k) y)) (moved p g a S)
+  moved-by c g a f r =
+      moved-rows (part (p .q) c (set w (index b k) y)) g a r
+      (λ j l.
+      let row : ℕ → ℕ = checkRow (p .q) (p .r) j in
+      dot-part (p .q) (p .n) h c row (set w (index b k) y) (length-set w (index b k) y ∙ m .long)
+      then dot-gain (rowWeight p c j) w (index b k) y e (m .within) (m .gained)
+      then add (symm (dot-part (p .q) (p .n) h c row w (m .long))) (f j))
+
+-- the weights of row j at index k of a parity
+weight-at : (p : Parameters) (c : Bool) (j : ℕ) {i i′ x : ℕ} (e : ℕ) → i ≡ i′ → rowWeight p c j i′ ≡ x → rowWeight p c j i * e ≡ x * e
+weight-at p c j e f g = ap (λ (i : ℕ). rowWeight p c j i * e) f ∙ ap (λ (x : ℕ). x * e) g
+
+pub moved-first : {p : Parameters} → 1 ≤ p .q → {w S : List ℕ} (b : Bool) {k y e : ℕ} → Gain p w b k y e → Rows p (part (p .q) true w) S
+    → Rows p (part (p .q) true (set w (index b k) y)) (movedFirst p b k e S)
+unfolding movedFirst
+moved-first {p} h true {k} {y} {e} m r =
+    moved-by h m true (p .q - e) (suc k)
+    (λ j. of-eq (weight-at p true j e (index-odd k) (weight-first-odd (p .q) (p .n) (checkRow (p .q) (p .r) j) k)) then less (p .q) (entry p j k) e h (m .small))
+    r
+moved-first {p} h false {k} {y} {e} m r =
+    moved-by h m true e (suc k)
+    (λ j. of-eq (weight-at p true j e (index-even k) (weight-first-even (p .q) (p .n) (checkRow (p .q) (p .r) j) k) ∙ mul-comm (entry p j k) e)) r
+
+pub moved-second : {p : Parameters} → 1 ≤ p .q → {w S : List ℕ} (b : Bool) {k y e : ℕ} → Gain p w b k y e → Rows p (part (p .q) false w) S
+    → Rows p (part (p .q) false (set w (index b k) y)) (movedSecond p b k e S)
+unfolding movedSecond
+moved-second {p} h true {k} {y} {e} m r =
+    moved-by h m false e k
+    (λ j.
+    of-eq
+    (weight-at p false j e (index-odd k) (weight-second-odd (p .q) (p .n) (checkRow (p .q) (p .r) j) k ∙ sym (entry-is p j k))
+    ∙ mul-comm (columnEntry p j k) e))
+    r
+moved-second {p} h false {k} {y} {e} m r =
+    moved-by h m false (p .q - e) (suc k)
+    (λ j. of-eq (weight-at p false j e (index-even k) (weight-second-even (p .q) (p .n) (checkRow (p .q) (p .r) j) k)) then less (p .q) (entry p j k) e h (m .small))
+    r
