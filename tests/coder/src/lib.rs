@@ -15,6 +15,7 @@ pub mod list;
 pub mod near_miss;
 pub mod profile;
 pub mod queue;
+pub mod random_words;
 pub mod refusal;
 pub mod rng;
 pub mod text;

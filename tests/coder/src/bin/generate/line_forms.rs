@@ -2,11 +2,11 @@
 
 use coder::lines::{answer, boxlines, LONGEST_LINE};
 use coder::profile::{Profile, PROFILES};
+use coder::random_words::{encoded, with_changes};
 use coder::rng::Rng;
 use coder::text::digits;
 
 use crate::case_file::CaseFile;
-use crate::random_words::{encoded, with_changes};
 
 const SEED: u64 = 0x6c69_6e65;
 

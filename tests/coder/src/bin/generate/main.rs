@@ -10,7 +10,6 @@ mod near_miss_words;
 mod near_misses;
 mod pairs;
 mod queue_run;
-mod random_words;
 mod sheets;
 mod words;
 
@@ -27,7 +26,7 @@ type Destination = (&'static str, &'static str, fn() -> CaseFile);
 const DESTINATIONS: &[Destination] = &[
     ("tests/vectors/pairs.in", "tests/vectors/pairs.out", pairs::make),
     ("tests/vectors/words.in", "tests/vectors/words.out", words::make),
-    ("tests/vectors/sheets.in", "tests/vectors/sheets.out", sheets::make),
+    ("crates/queue_cases/stdin", "crates/queue_cases/stdout", sheets::make),
     ("tests/vectors/example.in", "tests/vectors/example.out", line_endings::example),
     ("tests/vectors/lines-1.in", "tests/vectors/lines-1.out", line_forms::make),
     ("tests/vectors/lines-2.in", "tests/vectors/lines-2.out", line_endings::empty_input),

@@ -7,9 +7,8 @@ use coder::component::component_with_syndrome;
 use coder::decode::replaced;
 use coder::near_miss::printed_delta;
 use coder::profile::Profile;
+use coder::random_words::{changed_at, codeword, components, excess, with_changes};
 use coder::rng::Rng;
-
-use crate::random_words::{changed_at, codeword, components, excess, with_changes};
 
 /// A word with right check symbols whose weight is off by q, with one more symbol changed: away
 /// from the balancing value or back toward it.

@@ -6,11 +6,11 @@ use coder::decode::search;
 use coder::examples::POSITION_ZERO_W;
 use coder::near_miss::{self, Slip};
 use coder::profile::{Profile, PROFILES};
+use coder::random_words::{both_check_symbols, by_another_choice, Build};
 use coder::rng::Rng;
 use coder::text::symbols;
 
 use crate::near_miss_words::*;
-use crate::random_words::{both_check_symbols, by_another_choice, Build};
 
 /// A slip, what the words that tell it from the right decoder are called, what the right decoder
 /// answers, and how the words are built.
@@ -88,9 +88,9 @@ impl NearMiss {
 mod tests {
     use coder::codeword::{check_symbols, components_of};
     use coder::component::syndrome;
+    use coder::random_words::excess;
 
     use super::*;
-    use crate::random_words::excess;
 
     /// Every slip has words in every profile that tell it from the right decoder, which is what
     /// the search and 002's steps without a slip agree on.

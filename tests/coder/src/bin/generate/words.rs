@@ -7,14 +7,14 @@ use coder::codeword::with_check_symbols;
 use coder::decode::{decode, replaced, within_one};
 use coder::examples::DECODED;
 use coder::profile::{Profile, PROFILES};
+use coder::random_words::{
+    both_check_symbols, by_another_choice, changed_at, codeword, encoded, with_changes, Build,
+};
 use coder::rng::Rng;
 use coder::text::{digits, symbols};
 
 use crate::case_file::{refusal_text, row_for, CaseFile, FILLER, PROFILE_NUMBERS};
 use crate::near_misses::NEAR_MISSES;
-use crate::random_words::{
-    both_check_symbols, by_another_choice, changed_at, codeword, encoded, with_changes, Build,
-};
 
 const SEED: u64 = 0x776f_7264;
 

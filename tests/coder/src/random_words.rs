@@ -1,12 +1,12 @@
 //! Random messages, codewords and received words of a profile.
 
-use coder::balance::weight;
-use coder::codeword::codewords;
-use coder::component::encode_component;
-use coder::decode::replaced;
-use coder::encode::encoded_word;
-use coder::profile::Profile;
-use coder::rng::Rng;
+use crate::balance::weight;
+use crate::codeword::codewords;
+use crate::component::encode_component;
+use crate::decode::replaced;
+use crate::encode::encoded_word;
+use crate::profile::Profile;
+use crate::rng::Rng;
 
 /// A way to build a word of a profile; an attempt may give none.
 pub type Build = fn(&Profile, &mut Rng) -> Option<Vec<u8>>;
@@ -41,9 +41,8 @@ pub fn changed_at(profile: &Profile, word: &[u8], positions: &[usize], rng: &mut
     })
 }
 
-/// A codeword with another level at `count` positions.
-pub fn with_changes(profile: &Profile, count: usize, rng: &mut Rng) -> Vec<u8> {
-    let word = codeword(profile, rng);
+/// The word with another level at `count` positions.
+pub fn changed(profile: &Profile, word: &[u8], count: usize, rng: &mut Rng) -> Vec<u8> {
     let mut positions: Vec<usize> = Vec::new();
     while positions.len() < count {
         let position = rng.from_one_to(word.len());
@@ -51,7 +50,13 @@ pub fn with_changes(profile: &Profile, count: usize, rng: &mut Rng) -> Vec<u8> {
             positions.push(position);
         }
     }
-    changed_at(profile, &word, &positions, rng)
+    changed_at(profile, word, &positions, rng)
+}
+
+/// A codeword with another level at `count` positions.
+pub fn with_changes(profile: &Profile, count: usize, rng: &mut Rng) -> Vec<u8> {
+    let word = codeword(profile, rng);
+    changed(profile, &word, count, rng)
 }
 
 /// A codeword with another level at both check symbols.

@@ -1,0 +1,158 @@
+-- What the writes to a queue's cells make of its bytes, and where they lie.
+-- Assumes nothing.
+use mathlib.Core.Path.{_≡_, refl, sym, ap, ap₂, _∙_}
+use mathlib.Core.Logic.{_≢_}
+use mathlib.Core.List.{List, [], _∷_, _++_, append-assoc}
+use Prim.Native.Nat.{ℕ, zero, suc, _+_, _-_, _*_, _≤_, _<_}
+use native.Mathlib.Nat.{not-suc-le-zero, le-of-suc-le-suc, sub-zero}
+use native.Mathlib.Numerals.{add-one}
+use native.Mathlib.Omega.{arith}
+use lib.Dec.{T, eqb, eqb→eq}
+use lib.ListN.{length, getD, take, drop, set, take-append-drop, length-drop}
+use lib.Seq.{length-take-le, drop-cons}
+use borrow.Rule.Slice.PartMut.{putMid}
+use Rattle.modular.proofs.Search.{and-left, and-right}
+use Rattle.sheet.specs.Lists.{allZero, zeros, count}
+use Rattle.sheet.specs.Layout.{bodySize, capacity, next, firstFree, body, setNext, setFirstFree, setBody}
+use Rattle.sheet.specs.Chains.{used, lastUsed}
+use Rattle.sheet.specs.Sound.{recordOf, Queue}
+use Rattle.sheet.specs.Operations.{linked, cellOf}
+use Rattle.sheet.proofs.Counts.{in-here, in-later}
+use Rattle.sheet.proofs.Places.{body-set-next, body-set-free}
+use Rattle.sheet.proofs.Lists.{Lists, lists-of, used-in, free-in}
+use Rattle.sheet.proofs.Answers.{Entering}
+use Rattle.sheet.proofs.Laws.{parts, lists-before, lists-first, first-parts}
+use Rattle.sheet.proofs.Enqueue as enq
+use Rattle.queue.proofs.Bytes.{part}
+
+-- one more link
+pub link-on : (s : List ℕ) (i n : ℕ) → i < n → linked s i (n - i) ≡ linked (set s (i * 104) (i + 1)) (i + 1) (n - (i + 1))
+link-on s i n h =
+    let e : n - i ≡ suc (n - (i + 1)) = omega arith in
+    let f : suc i ≡ i + 1 = omega arith in
+    ap (linked s i) e ∙ ap (λ (j : ℕ). linked (set s (i * 104) j) j (n - (i + 1))) f
+
+pub link-over : (s : List ℕ) (i n : ℕ) → n ≤ i → linked s i (n - i) ≡ s
+link-over s i n h = let e : n - i ≡ 0 = omega arith in ap (linked s i) e
+
+-- a cell with byte 0 as zero
+pub cell-shown : (s : List ℕ) (i : ℕ) → (i + 1) * 104 ≤ length s → set (take 104 (drop (i * 104) s)) 0 0 ≡ 0 ∷ body s i
+cell-shown s i h =
+    let k : i * 104 < length s = omega arith in
+    ap (λ (l : List ℕ). set (take 104 l) 0 0) (drop-cons s (i * 104) 0 k)
+    ∙ ap (λ (n : ℕ). 0 ∷ take 103 (drop n s)) (sym (add-one (i * 104)))
+
+pub length-body : (s : List ℕ) (i : ℕ) → (i + 1) * 104 ≤ length s → length (body s i) ≡ 103
+length-body s i h = length-take-le 103 (drop (i * 104 + 1) s) (omega (arith, length-drop (i * 104 + 1) s))
+
+-- a body cleared
+pub clear-put : (s z : List ℕ) (i : ℕ) → (i + 1) * 104 ≤ length s → z ≡ zeros (length (take (i * 104 + 1 + 103 - (i * 104 + 1)) (drop (i * 104 + 1) s)))
+    → putMid (i * 104 + 1) (i * 104 + 1 + 103 - (i * 104 + 1)) s z ≡ setBody s i (zeros bodySize)
+clear-put s z i h e =
+    let a : ℕ = i * 104 + 1 in
+    let k : a + 103 - a ≡ 103 = omega arith in
+    let f : z ≡ zeros bodySize = e ∙ ap (λ (l : List ℕ). zeros (length l)) (part s a 103) ∙ ap zeros (length-body s i h) in
+    ap₂ (λ (n : ℕ) (l : List ℕ). putMid a n s l) k f
+
+-- a record put into a body of zeros
+drop-zeros : (k m : ℕ) (l : List ℕ) → k ≤ m → drop k (zeros m ++ l) ≡ zeros (m - k) ++ l
+drop-zeros zero m l h = ap (λ (n : ℕ). zeros n ++ l) (sym (sub-zero m))
+drop-zeros (suc k) zero l h = absurd (not-suc-le-zero h)
+drop-zeros (suc k) (suc m) l h =
+    let e : m - k ≡ suc m - suc k = omega arith in
+    drop-zeros k m l (le-of-suc-le-suc h) ∙ ap (λ (n : ℕ). zeros n ++ l) e
+
+-- A before the body, Z after it
+pub put-record : (A Z w : List ℕ) (b p : ℕ) → length w ≤ 101
+    → putMid (suc (suc (length A))) (length w) (set (set (A ++ (zeros 103 ++ Z)) (length A) b) (suc (length A)) p) w ≡ A ++ (recordOf b p w ++ Z)
+unfolding recordOf
+put-record [] Z w b p h =
+    ap (λ (l : List ℕ). b ∷ p ∷ l) (ap (λ (l : List ℕ). w ++ l) (drop-zeros (length w) 101 Z h) ∙ sym (append-assoc w (zeros (101 - length w)) Z))
+put-record (x ∷ A) Z w b p h = ap (λ (l : List ℕ). x ∷ l) (put-record A Z w b p h)
+
+zeros-are : (l : List ℕ) → T (allZero l) → l ≡ zeros (length l)
+zeros-are [] h = refl
+zeros-are (x ∷ l) h =
+    ap₂ _∷_ (eqb→eq x 0 (and-left (eqb x 0) (allZero l) h)) (zeros-are l (and-right (eqb x 0) (allZero l) h))
+
+module _ (s w : List ℕ) (i b p : ℕ) (fits : (i + 1) * 104 ≤ length s) (free : body s i ≡ zeros 103) (short : length w ≤ 101) where
+  front : List ℕ
+  front = take (i * 104 + 1) s
+
+  back : List ℕ
+  back = drop 103 (drop (i * 104 + 1) s)
+
+  cut : s ≡ front ++ (zeros 103 ++ back)
+  unfolding front back
+  cut =
+      sym (take-append-drop (i * 104 + 1) s)
+      ∙ ap (λ (l : List ℕ). take (i * 104 + 1) s ++ l) (sym (take-append-drop 103 (drop (i * 104 + 1) s)) ∙ ap (λ (l : List ℕ). l ++ drop 103 (drop (i * 104 + 1) s)) free)
+
+  long : length front ≡ i * 104 + 1
+  unfolding front
+  long = length-take-le (i * 104 + 1) s (omega arith)
+
+  abbrev put : ℕ → ℕ → ℕ → ℕ → List ℕ → List ℕ
+  put j k m n l = putMid m n (set (set l j b) k p) w
+
+  pub store-put : putMid (i * 104 + 3) (i * 104 + 3 + length w - (i * 104 + 3)) (set (set s (i * 104 + 1) b) (i * 104 + 2) p) w ≡ setBody s i (recordOf b p w)
+  unfolding front back
+  store-put =
+      let e₁ : i * 104 + 1 ≡ length front = sym long in
+      let e₂ : i * 104 + 2 ≡ suc (length front) = omega (arith, long) in
+      let e₃ : i * 104 + 3 ≡ suc (suc (length front)) = omega (arith, long) in
+      let e₄ : i * 104 + 3 + length w - (i * 104 + 3) ≡ length w = omega arith in
+      ap (λ (l : List ℕ). put (i * 104 + 1) (i * 104 + 2) (i * 104 + 3) (i * 104 + 3 + length w - (i * 104 + 3)) l) cut
+      ∙ ap₂ (λ (j k : ℕ). put j k (i * 104 + 3) (i * 104 + 3 + length w - (i * 104 + 3)) (front ++ (zeros 103 ++ back))) e₁ e₂
+      ∙ ap₂ (λ (m n : ℕ). put (length front) (suc (length front)) m n (front ++ (zeros 103 ++ back))) e₃ e₄
+      ∙ put-record front back w b p short
+
+-- Where an admitted enqueue writes.
+module _ (s : List ℕ) (b p : ℕ) (w : List ℕ) (e : Entering s b p w) where
+  ls : Lists s (capacity s) (used s) (firstFree s ∷ parts s b p w e .0)
+  ls = lists-before s b p w e
+
+  pub cell-fits : (firstFree s + 1) * 104 ≤ length s
+  cell-fits = omega (arith, free-in ls (firstFree s) (in-here (firstFree s) (parts s b p w e .0)) .1, ls .size .long)
+
+  pub cell-nonzero : firstFree s ≢ 0
+  cell-nonzero = e .room
+
+  pub last-fits : (lastUsed s + 1) * 104 ≤ length s
+  unfolding lastUsed
+  last-fits =
+      omega (
+        arith,
+        enq.last-below s (capacity s) (firstFree s) (used s) (parts s b p w e .0) (zeros 103) ls refl,
+        ls .size .long,
+      )
+
+  -- the cell is zero, also after the links have been written
+  pub cell-zero : (x l y : ℕ) → body (setNext (setNext (setFirstFree s x) (firstFree s) 0) l y) (firstFree s) ≡ zeros 103
+  cell-zero x l y =
+      let c = firstFree s in
+      let z = zeros-are (body s c) (ls .free-cells c (in-here c (parts s b p w e .0)) .good) in
+      body-set-next (setNext (setFirstFree s x) c 0) l y c
+      ∙ body-set-next (setFirstFree s x) c 0 c
+      ∙ body-set-free s x c (e .room)
+      ∙ z
+      ∙ ap zeros (length-body s c cell-fits)
+
+-- Where a dequeue writes.
+pub first-fits : (s : List ℕ) (q : Queue s) → next s 0 ≢ 0 → (next s 0 + 1) * 104 ≤ length s
+first-fits s q d =
+    let ls = lists-first s q d in
+    omega (arith, used-in ls (next s 0) (in-here (next s 0) (first-parts s q d .0)) .1, ls .size .long)
+
+-- Where a peek reads.
+getD-in : (l : List ℕ) (k : ℕ) → getD l k 0 ≢ 0 → 1 ≤ count (getD l k 0) l
+getD-in [] k d = absurd (d refl)
+getD-in (x ∷ l) zero d = in-here x l
+getD-in (x ∷ l) (suc k) d = in-later (getD l k 0) x l (getD-in l k d)
+
+pub record-fits : (s : List ℕ) → Queue s → (k : ℕ) → cellOf s k ≢ 0 → (cellOf s k + 1) * 104 ≤ length s
+unfolding cellOf
+record-fits s q zero d = absurd (d refl)
+record-fits s q (suc k) d =
+    let ls = lists-of s q in
+    omega (arith, used-in ls (getD (used s) k 0) (getD-in (used s) k d) .1, ls .size .long)

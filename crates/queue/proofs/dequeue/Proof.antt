@@ -1,0 +1,73 @@
+-- `dequeue` meets its contract: what `peek` refuses leaves the queue, and otherwise the first cell is released.
+-- Assumes nothing.
+use mathlib.Core.Path.{_≡_, sym, _∙_}
+use denote.Ref.{now}
+use Rattle.sheet.specs.Operations.{peekAnswer, dequeueAnswer, dequeueQueue, dequeueOutput}
+use Rattle.sheet.proofs.Answers.{Showing, showing}
+use Rattle.sheet.proofs.Laws.{first-cell}
+use Rattle.queue.proofs.Conditions.{kept, wrote}
+use Rattle.queue.proofs.Told.{told-done, told-refused}
+use borrow.Author.Needs.{needs}
+use Rattle.queue.proofs.dequeue.Statement.{statement}
+use Rattle.queue.proofs.dequeue.Tie as tie
+
+abbrev start : tie.After-peek → tie.Start
+start c = c .before .before .before .before .before
+
+shown-at : (c : tie.After-enum-told) → peekAnswer (now (start (c .before .before .before .before) .args .queue)) 1 (now (start (c .before .before .before .before) .args .out)) ≡ 0
+shown-at c = sym (c .before .before .before .before .peek .ensures .0) ∙ told-done (c .before .before .before .before .peek .result) (c .before .match .keys1)
+
+shows : (c : tie.After-enum-told) → Showing (now (start (c .before .before .before .before) .args .queue)) 1 (now (start (c .before .before .before .before) .args .out))
+shows c = showing _ _ _ (shown-at c)
+
+peek-requires : tie.Need-peek-requires
+peek-requires c κs = search needs
+
+enum-told : tie.Need-enum-told
+enum-told c = search needs
+
+same-length : tie.Need-same-length
+same-length c = search needs
+
+same-length-2 : tie.Need-same-length-2
+same-length-2 c = search needs
+
+returns : tie.Need-returns
+unfolding dequeueAnswer dequeueQueue dequeueOutput
+returns c =
+    let k = c .before .before .before in
+    (k .peek .ensures .0, (kept _ _ (now (start k .args .queue)) (λ e. told-refused (k .peek .result) (c .match .keys2) (k .peek .ensures .0 ∙ e)), k .peek .ensures .1))
+
+release-requires : tie.Need-release-requires
+release-requires c κs =
+    let t = c .before in
+    let s = now (start (t .before .before .before .before) .args .queue) in
+    (shows t .queue, λ e. shows t .found (first-cell s (shows t .queue) ∙ e))
+
+same-length-3 : tie.Need-same-length-3
+same-length-3 c = search needs
+
+same-length-4 : tie.Need-same-length-4
+same-length-4 c = search needs
+
+returns-2 : tie.Need-returns-2
+unfolding dequeueAnswer dequeueQueue dequeueOutput
+returns-2 c =
+    let k = c .before .before in
+    let t = k .before .before in
+    let e = shown-at t in
+    (sym e, (k .release .ensures ∙ wrote _ _ _ e, t .before .before .before .before .peek .ensures .1))
+
+pub dequeue-spec : {M : Type 1} → statement M
+dequeue-spec =
+    tie.close
+    (tie.spec
+    peek-requires
+    enum-told
+    same-length
+    same-length-2
+    returns
+    release-requires
+    same-length-3
+    same-length-4
+    returns-2)

@@ -1,0 +1,139 @@
+// The calls that a line can name.
+use crate::text::after;
+use crate::text::digest;
+use crate::text::fill;
+use crate::text::number;
+use crate::text::print;
+use crate::text::unhex;
+use queue::Answer;
+ghost use mathlib.Core.Path.{_≡_};
+ghost use Prim.Native.Nat.{_≤_};
+ghost use Rattle.queue.specs.Answer.{numberOf};
+
+// 01's number of an answer.
+fn code(a: Answer) -> u64
+    ensures { λ r. ⌜ r ≡ numberOf a ⌝ }
+{
+    match a {
+        Answer::Done => 0,
+        Answer::NoProfile => 1,
+        Answer::Length => 2,
+        Answer::Symbol => 3,
+        Answer::QueueLength => 5,
+        Answer::Unsound => 6,
+        Answer::BoxNumber => 7,
+        Answer::Full => 8,
+        Answer::NoRecord => 10,
+    }
+}
+
+// The lesser of two.
+fn least(a: usize, b: usize) -> usize
+    ensures { λ r. ⌜ (r ≤ a) × (r ≤ b) ⌝ }
+{
+    if a < b { a } else { b }
+}
+
+// A new buffer: answers its size.
+fn renew(line: &[u8], space: &mut [u8]) -> usize {
+    let size = least(number(line, 2).value, space.len());
+    blank(&mut space[0..size]);
+    size
+}
+
+fn blank(queue: &mut [u8]) {
+    fill(queue);
+    print(0, digest(queue), 1);
+}
+
+fn format(queue: &mut [u8]) {
+    let a = queue::format(queue);
+    print(code(a), digest(queue), 1);
+}
+
+fn enqueue(line: &[u8], queue: &mut [u8]) {
+    let mut word = [0u8; 128];
+    let b = number(line, 2);
+    let boxno = b.value;
+    let p = number(line, after(b));
+    let profile = p.value;
+    let n = least(unhex(line, after(p), &mut word), 128);
+    let a = queue::enqueue(queue, boxno, profile, &word[0..n]);
+    print(code(a), digest(queue), 1);
+}
+
+fn peek(queue: &[u8], record: usize, out: &mut [u8]) {
+    fill(out);
+    let a = queue::peek(queue, record, out);
+    print(code(a), digest(queue), digest(out));
+}
+
+fn dequeue(queue: &mut [u8], out: &mut [u8]) {
+    fill(out);
+    let a = queue::dequeue(queue, out);
+    print(code(a), digest(queue), digest(out));
+}
+
+fn peek_line(line: &[u8], queue: &[u8]) {
+    let mut space = [0u8; 208];
+    let k = number(line, 2);
+    let record = k.value;
+    let n = least(number(line, after(k)).value, 208);
+    peek(queue, record, &mut space[0..n]);
+}
+
+fn dequeue_line(line: &[u8], queue: &mut [u8]) {
+    let mut space = [0u8; 208];
+    let n = least(number(line, 2).value, 208);
+    dequeue(queue, &mut space[0..n]);
+}
+
+// Writes one byte, if there is such a byte.
+fn write(queue: &mut [u8], at: usize, value: u8) {
+    if at < queue.len() {
+        queue[at] = value;
+    }
+}
+
+fn poke(line: &[u8], queue: &mut [u8]) {
+    let i = number(line, 2);
+    let at = i.value;
+    let value = number(line, after(i)).value;
+    write(queue, at, (value % 256) as u8);
+    print(0, digest(queue), 1);
+}
+
+// Runs the call of a line on a queue.
+fn call(line: &[u8], kind: u8, queue: &mut [u8]) {
+    if kind == b'F' {
+        format(queue);
+        return;
+    }
+    if kind == b'E' {
+        enqueue(line, queue);
+        return;
+    }
+    if kind == b'L' {
+        peek_line(line, queue);
+        return;
+    }
+    if kind == b'T' {
+        dequeue_line(line, queue);
+        return;
+    }
+    poke(line, queue);
+}
+
+// Runs a line on the first `size` bytes; answers the size after it.
+pub(crate) fn run(line: &[u8], space: &mut [u8], size: usize) -> usize {
+    if line.len() == 0 {
+        return size;
+    }
+    let kind = line[0];
+    if kind == b'N' {
+        return renew(line, space);
+    }
+    let used = least(size, space.len());
+    call(line, kind, &mut space[0..used]);
+    used
+}

@@ -1,0 +1,19 @@
+-- Every claim of specs/Claims.antt, proved.
+-- Assumes nothing.
+use Rattle.sheet.specs.Claims.{Claims}
+use Rattle.sheet.proofs.Format.{format-law}
+use Rattle.sheet.proofs.Laws.{lists-fill, enqueue-law, full-law, peek-law, dequeue-law}
+use Rattle.sheet.proofs.Rule.{list-rule-from, list-rule}
+
+pub claims : Claims
+claims =
+    record {
+      lists-fill = lists-fill;
+      format-law = format-law;
+      enqueue-law = enqueue-law;
+      full-law = full-law;
+      peek-law = peek-law;
+      dequeue-law = dequeue-law;
+      list-rule-from = list-rule-from;
+      list-rule = list-rule;
+    }

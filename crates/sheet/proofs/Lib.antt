@@ -1,0 +1,13 @@
+pub mod Counts
+pub mod Places
+pub mod Follow
+pub mod Record
+pub mod Lists
+pub mod Enqueue
+pub mod Dequeue
+pub mod Format
+pub mod Answers
+pub mod Laws
+pub mod Rule
+pub mod Claims
+pub mod Cases
