@@ -7,7 +7,7 @@ use crate::case_file::{CaseFile, Group};
 const HEAD: &str = "\
 # The vectors
 
-`generate` makes this page with the vectors; the formats are in [../README.md](../README.md).
+`generate` makes this page with the vectors; the formats are in [README.md](README.md).
 Lines are those of the input and, equally, of the expected output, which has one line for each.
 A near miss is a decoder with one slip; coder/src/near_miss.rs says what the slip is.
 ";

@@ -19,44 +19,47 @@ use std::process::ExitCode;
 use case_file::CaseFile;
 
 /// Where the input and the expected output go, from the root of the repository, and what makes
-/// them.
+/// them. Inputs of one program share its expected output, which joins theirs in this order.
 type Destination = (&'static str, &'static str, fn() -> CaseFile);
 
 #[rustfmt::skip]
 const DESTINATIONS: &[Destination] = &[
-    ("tests/vectors/pairs.in", "tests/vectors/pairs.out", pairs::make),
-    ("tests/vectors/words.in", "tests/vectors/words.out", words::make),
+    ("crates/encode_cases/stdin", "crates/encode_cases/stdout", pairs::make),
+    ("crates/decode_cases/stdin", "crates/decode_cases/stdout", words::make),
     ("crates/queue_cases/stdin", "crates/queue_cases/stdout", sheets::make),
-    ("tests/vectors/example.in", "tests/vectors/example.out", line_endings::example),
-    ("tests/vectors/lines-1.in", "tests/vectors/lines-1.out", line_forms::make),
-    ("tests/vectors/lines-2.in", "tests/vectors/lines-2.out", line_endings::empty_input),
-    ("tests/vectors/lines-3.in", "tests/vectors/lines-3.out", line_endings::one_empty_line),
-    ("tests/vectors/lines-4.in", "tests/vectors/lines-4.out", line_endings::two_empty_lines),
-    ("tests/vectors/lines-5.in", "tests/vectors/lines-5.out", line_endings::ended),
-    ("tests/vectors/lines-6.in", "tests/vectors/lines-6.out", line_endings::unended),
-    ("tests/vectors/lines-7.in", "tests/vectors/lines-7.out", line_endings::second_unended),
-    ("tests/vectors/lines-8.in", "tests/vectors/lines-8.out", line_endings::malformed_unended),
-    ("tests/vectors/lines-9.in", "tests/vectors/lines-9.out", line_endings::return_unended),
-    ("tests/vectors/lines-10.in", "tests/vectors/lines-10.out", line_endings::longest_unended),
-    ("tests/vectors/lines-11.in", "tests/vectors/lines-11.out", line_endings::too_long_unended),
-    ("tests/vectors/lines-12.in", "tests/vectors/lines-12.out", line_endings::too_long_ended),
-    ("tests/vectors/lines-13.in", "tests/vectors/lines-13.out", line_endings::very_long_unended),
-    ("tests/vectors/lines-14.in", "tests/vectors/lines-14.out", line_endings::very_long_then_good),
-    ("tests/vectors/lines-15.in", "tests/vectors/lines-15.out", line_endings::good_then_very_long),
+    ("crates/boxlines/stdin", "crates/boxlines/stdout", line_endings::example),
+    ("crates/lines_cases/stdin", "crates/lines_cases/stdout", line_forms::make),
+    ("crates/lines_cases/data/02", "crates/lines_cases/stdout", line_endings::empty_input),
+    ("crates/lines_cases/data/03", "crates/lines_cases/stdout", line_endings::one_empty_line),
+    ("crates/lines_cases/data/04", "crates/lines_cases/stdout", line_endings::two_empty_lines),
+    ("crates/lines_cases/data/05", "crates/lines_cases/stdout", line_endings::ended),
+    ("crates/lines_cases/data/06", "crates/lines_cases/stdout", line_endings::unended),
+    ("crates/lines_cases/data/07", "crates/lines_cases/stdout", line_endings::second_unended),
+    ("crates/lines_cases/data/08", "crates/lines_cases/stdout", line_endings::malformed_unended),
+    ("crates/lines_cases/data/09", "crates/lines_cases/stdout", line_endings::return_unended),
+    ("crates/lines_cases/data/10", "crates/lines_cases/stdout", line_endings::longest_unended),
+    ("crates/lines_cases/data/11", "crates/lines_cases/stdout", line_endings::too_long_unended),
+    ("crates/lines_cases/data/12", "crates/lines_cases/stdout", line_endings::too_long_ended),
+    ("crates/lines_cases/data/13", "crates/lines_cases/stdout", line_endings::very_long_unended),
+    ("crates/lines_cases/data/14", "crates/lines_cases/stdout", line_endings::very_long_then_good),
+    ("crates/lines_cases/data/15", "crates/lines_cases/stdout", line_endings::good_then_very_long),
 ];
 
 /// The page that names the cases, made with them.
-const CONTENTS: &str = "tests/vectors/README.md";
+const CONTENTS: &str = "tests/VECTORS.md";
 
 /// Every file: its path from the root of the repository, and its bytes.
 fn files() -> Vec<(&'static str, Vec<u8>)> {
-    let mut files = Vec::new();
+    let mut files: Vec<(&'static str, Vec<u8>)> = Vec::new();
     let mut page = contents::Page::new();
     for (input, expected, make) in DESTINATIONS {
         let made = make();
         page.add(input, &made);
         files.push((*input, made.input));
-        files.push((*expected, made.expected));
+        match files.iter_mut().find(|(path, _)| path == expected) {
+            Some((_, joined)) => joined.extend(made.expected),
+            None => files.push((*expected, made.expected)),
+        }
     }
     files.push((CONTENTS, page.text().into_bytes()));
     files

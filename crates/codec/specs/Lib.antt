@@ -1,0 +1,13 @@
+pub mod Row
+pub mod Columns
+pub mod Checks
+pub mod Symbols
+pub mod Answer
+pub mod FourRows
+pub mod Sides
+pub mod Received
+pub mod Totals
+pub mod Place
+pub mod Written
+pub mod Decode
+pub mod Claims

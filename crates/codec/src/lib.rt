@@ -1,0 +1,45 @@
+// Encoding (01: Write) of a pair of messages into the word that goes on the line, and decoding (01: Read) of a received word. Every step is this
+// crate's own.
+mod balance;
+mod columns;
+mod component;
+mod near;
+mod place;
+mod profiles;
+mod reader;
+mod received;
+mod residue;
+mod totals;
+mod weight;
+mod word;
+mod writer;
+
+use profiles::row_of;
+pub use reader::Decoded;
+pub use reader::decode;
+use word::put;
+use writer::refusal;
+use writer::written;
+ghost use mathlib.Core.Path.{_≡_};
+ghost use lib.ListN.{length};
+ghost use Rattle.code.specs.Operations.{encodeRefusal, encodeOutput};
+ghost use Rattle.codec.specs.Answer.{encodedNumber};
+
+// The answer to encode: the output holds the word, or the call is refused by 01's number and the output is as it was.
+pub enum Encoded {
+    Done,
+    Refused(u8),
+}
+
+// 01: Write. The word of two messages, in a profile from 1 to 4.
+pub fn encode(profile: usize, first: &[u8], second: &[u8], out: &mut [u8]) -> Encoded
+    ensures { λ r. ⌜ encodedNumber r ≡ encodeRefusal profile (now (first .entry)) (now (second .entry)) (length (now (out .entry))) ⌝ }
+    ensures { λ r. ⌜ now (out .exit) ≡ encodeOutput profile (now (first .entry)) (now (second .entry)) (now (out .entry)) ⌝ }
+{
+    let number = refusal(profile, first, second, out.len());
+    if number != 0 {
+        return Encoded::Refused(number);
+    }
+    put(written(row_of(profile), first, second), out);
+    Encoded::Done
+}

@@ -1,0 +1,88 @@
+-- The two parts of `finish`: the pending bytes, then the answer to a line that no byte 10 ended.
+-- Assumes nothing.
+use mathlib.Core.Path.{_≡_, refl, sym, ap, _∙_}
+use mathlib.Core.Logic.{⊎-elim}
+use mathlib.Core.Bool.{Bool, true, false}
+use mathlib.Core.List.{List, [], _∷_, _++_, append-nil}
+use Prim.Native.Nat.{ℕ, _-_, _≤_, _<_, zero-le}
+use native.Mathlib.Omega.{arith}
+use lib.Dec.{eqb}
+use lib.ListN.{length, take}
+use borrow.Author.Tests.{eq-eqb, ne-eqb}
+use Rattle.modular.proofs.Search.{le-or-lt}
+use lib.Seq.{take-all, take-nil}
+use Rattle.stream.specs.Feed.{Model, Fed, answerAtEnd, stopped, finishing, isEmpty, isDone, overwritten}
+use Rattle.stream.proofs.Cutting.{finish-on, finish-stop}
+use Rattle.lines.specs.Writing.{Written}
+use Rattle.lines.specs.States.{partialOf, pendingOf}
+use Rattle.lines.proofs.Stepping.{Turn, Done, length-pending, nothing, written-fits, no-room, no-input, stepped}
+
+module _ {out₀ line : List ℕ} {len : ℕ} {pending : List ℕ} {from′ to n : ℕ} {out : List ℕ} (o : List ℕ)
+    (t : Turn (stopped (partialOf line len) o (length out₀)) [] out₀ line len pending from′ to 0 n out) where
+  -- the pending bytes had no room
+  pub finish-stops : length out₀ < length o
+      → stopped (partialOf line len) o (length out₀) ≡ finishing (record { line = partialOf line len; pending = o }) (length out₀)
+  finish-stops h = sym (finish-stop (record { line = partialOf line len; pending = o }) (length out₀) h)
+
+  module _ (none : to ≤ from′) (room : length o ≤ length out₀) where
+    -- the output begins with them
+    all-put : o ≡ take n out
+    all-put =
+        let e : pendingOf pending from′ to ≡ [] = nothing pending from′ to (t .long-pending) (t .end) none in
+        sym (take-all (length out₀) o room)
+        ∙ ap (λ (f : Fed). f .produced) (t .left)
+        ∙ ap (λ (l : List ℕ). take n out ++ take (length out₀ - n) l) e
+        ∙ ap (λ (l : List ℕ). take n out ++ l) (take-nil (length out₀ - n))
+        ∙ append-nil (take n out)
+
+    -- the answer at the end is pending
+    pub ended : {pending′ : List ℕ} {end : ℕ} → length pending′ ≡ 101 → Written pending pending′ 0 end (answerAtEnd (partialOf line len)) → length o ≡ n
+        → Turn (finishing (record { line = partialOf line len; pending = o }) (length out₀)) [] out₀ line 0 pending′ 0 end 0 n out
+    ended {pending′} {end} h w e =
+        record {
+          long-line = t .long-line;
+          long-pending = h;
+          order = zero-le;
+          end = omega (arith, written-fits w);
+          taken = zero-le;
+          put = t .put;
+          same = t .same;
+          rest = t .rest;
+          left = finish-on (record { line = partialOf line len; pending = o }) (length out₀) room ∙ rw (w .text, ← all-put, e);
+        }
+
+-- The contract's four equations.
+
+empty-none : (l : List ℕ) → length l ≡ 0 → true ≡ isEmpty l
+empty-none [] h = refl
+empty-none (b ∷ l) h = absurd (omega arith)
+
+empty-some : (l : List ℕ) → 0 < length l → false ≡ isEmpty l
+empty-some [] h = absurd (omega arith)
+empty-some (b ∷ l) h = refl
+
+module _ (pending : List ℕ) (from to : ℕ) (long : length pending ≡ 101) (end : to ≤ 101) where
+  pub more-pending : from < to → false ≡ isEmpty (pendingOf pending from to)
+  more-pending h = empty-some (pendingOf pending from to) (omega (arith, length-pending pending from to long end))
+
+  pub pending-test : from ≤ to → eqb from to ≡ isEmpty (pendingOf pending from to)
+  pending-test h =
+      ⊎-elim
+      (λ (k : to ≤ from).
+      let e : from ≡ to = omega arith in
+      eq-eqb from to e ∙ empty-none (pendingOf pending from to) (length-pending pending from to long end ∙ omega arith))
+      (λ (k : from < to). ne-eqb from to (λ e. omega arith) ∙ more-pending k) (le-or-lt to from)
+
+pub finished : {goal call : Fed} {line : List ℕ} {len : ℕ} {pending : List ℕ} {from to produced : ℕ} {out₀ out : List ℕ} {b : Bool}
+    → Done goal line len pending from to 0 produced out₀ out → goal ≡ call → b ≡ isEmpty (pendingOf pending from to)
+    → (_≡_ {A = Model} (record { line = partialOf line len; pending = pendingOf pending from to }) (call .model))
+    × ((produced ≡ length (call .produced)) × ((b ≡ isDone call) × (out ≡ overwritten (call .produced) out₀)))
+unfolding isDone
+finished d e b =
+    let s = stepped d e in
+    (s .0, (s .1 .1 .0, (b ∙ ap (λ (m : Model). isEmpty (m .pending)) (s .0), s .1 .1 .1)))
+
+-- either way out of the second part
+pub all-done : {goal : Fed} {out₀ line : List ℕ} {len : ℕ} {pending : List ℕ} {k end produced : ℕ} {out : List ℕ}
+    → Turn goal [] out₀ line len pending k end 0 produced out → (k < end → produced ≡ length out₀) → Done goal line len pending k end 0 produced out₀ out
+all-done {k} {end} t f = ⊎-elim (λ (h : end ≤ k). no-input t h refl) (λ (h : k < end). no-room t h (f h)) (le-or-lt end k)

@@ -1,0 +1,235 @@
+-- The loop of `step`: its invariant, and what each part of a turn does to it.
+-- Assumes nothing.
+use mathlib.Core.Path.{_≡_, refl, sym, ap, _∙_, subst}
+use mathlib.Core.Logic.{⊎-elim}
+use mathlib.Core.Bool.{true, false}
+use mathlib.Core.List.{List, [], _∷_, _++_, append-nil}
+use Prim.Native.Nat.{ℕ, zero, suc, _+_, _-_, _≤_, _<_, zero-le}
+use native.Mathlib.Nat.{le-of-lt, zero-add}
+use native.Mathlib.Omega.{arith}
+use lib.ListN.{length, take, drop, length-drop, take-append-drop, drop-of-length-le}
+use lib.Seq.{take-all, length-take-le, drop-drop, take-take, take-paste, drop-paste, length-paste, take-nil, drop-nil}
+use Rattle.modular.proofs.Search.{le-or-lt}
+use Rattle.stream.specs.Feed.{Model, Fed, answerTo, feedFrom, overwritten}
+use Rattle.stream.proofs.Feed.{feed-stop}
+use Rattle.lines.specs.declared.gather.Gathered.{Gathered}
+use Rattle.lines.specs.Writing.{Written}
+use Rattle.lines.specs.States.{partialOf, pendingOf, Gather, gatherFrom, gathered, Emitted}
+use Rattle.lines.proofs.Turns.{ahead, ahead-ahead, emit-law, resumed, gather-law, gather-bounds, gather-moves}
+
+-- `goal` is what the whole call comes to
+pub record Turn (goal : Fed) (input out₀ line : List ℕ) (len : ℕ) (pending : List ℕ) (from to consumed produced : ℕ) (out : List ℕ) : Type 0 where
+  pub long-line : length line ≡ 101
+  pub long-pending : length pending ≡ 101
+  pub order : from ≤ to
+  pub end : to ≤ 101
+  pub taken : consumed ≤ length input
+  pub put : produced ≤ length out₀
+  pub same : length out ≡ length out₀
+  pub rest : drop produced out ≡ drop produced out₀
+  pub left : goal ≡ ahead consumed (take produced out) (feedFrom (partialOf line len) (pendingOf pending from to) (drop consumed input) (length out₀ - produced))
+
+pub length-pending : (pending : List ℕ) (from to : ℕ) → length pending ≡ 101 → to ≤ 101 → length (pendingOf pending from to) ≡ to - from
+length-pending pending from to h k =
+    let e : length (take to pending) ≡ to = length-take-le to pending (omega arith) in
+    length-drop from (take to pending) ∙ ap (λ (n : ℕ). n - from) e
+
+-- the first n pending bytes, as they stand in their array
+pending-take : (pending : List ℕ) (from to n : ℕ) → from + n ≤ to → take n (pendingOf pending from to) ≡ take n (drop from pending)
+pending-take pending zero to n h = take-take n to pending (omega arith)
+pending-take [] (suc from) zero n h = refl
+pending-take [] (suc from) (suc to) n h = refl
+pending-take (x ∷ pending) (suc from) zero n h = absurd (omega arith)
+pending-take (x ∷ pending) (suc from) (suc to) n h = pending-take pending from to n (omega arith)
+
+pub written-fits : {old new bytes : List ℕ} {end : ℕ} → Written old new 0 end bytes → end ≤ length new
+written-fits {old} {new} {bytes} {end} w =
+    ⊎-elim (λ (h : end ≤ length new). h)
+    (λ (h : length new < end). let e : length new ≡ length bytes = ap length (sym (take-all end new (le-of-lt h)) ∙ w .text) in omega (arith, w .ends))
+    (le-or-lt end (length new))
+
+-- Putting out.
+
+module _ {goal : Fed} {input out₀ line : List ℕ} {len : ℕ} {pending : List ℕ} {from to consumed produced n : ℕ} {out new : List ℕ}
+    (t : Turn goal input out₀ line len pending from to consumed produced out) (e : Emitted pending from to out new produced n) where
+  source : n ≤ length (drop from pending)
+  source = rw length-drop (omega (arith, t .long-pending, t .end, t .order, e .within))
+
+  front : take produced out ++ take n (pendingOf pending from to) ≡ take (produced + n) new
+  front =
+      ap (λ (l : List ℕ). take produced out ++ l) (pending-take pending from to n (omega (arith, t .order, e .within)))
+      ∙ sym (ap (take (produced + n)) (e .bytes) ∙ take-paste out produced (drop from pending) n (omega (arith, e .fits)) source)
+
+  back : drop (produced + n) new ≡ drop (produced + n) out₀
+  back =
+      ap (drop (produced + n)) (e .bytes)
+      ∙ drop-paste out produced (drop from pending) n (omega (arith, e .fits)) source
+      ∙ sym (drop-drop n produced out)
+      ∙ ap (drop n) (t .rest)
+      ∙ drop-drop n produced out₀
+
+  after : goal ≡ ahead consumed (take (produced + n) new) (feedFrom (partialOf line len) (pendingOf pending (from + n) to) (drop consumed input) (length out₀ - (produced + n)))
+  after =
+      let o : List ℕ = pendingOf pending from to in
+      let w : length o ≡ to - from = length-pending pending from to (t .long-pending) (t .end) in
+      let c : consumed + 0 ≡ consumed = omega arith in
+      let r : length out₀ - produced - n ≡ length out₀ - (produced + n) = omega arith in
+      t .left
+      ∙ ap (ahead consumed (take produced out)) (emit-law (partialOf line len) o (drop consumed input) (length out₀ - produced) n (omega (arith, e .within)) (omega (arith, t .same, e .fits)))
+      ∙ ahead-ahead consumed 0 (take produced out) (take n o) (feedFrom (partialOf line len) (drop n o) (drop consumed input) (length out₀ - produced - n))
+      ∙ rw (c, front, drop-drop n from (take to pending), r)
+
+  pub emitted : Turn goal input out₀ line len pending (from + n) to consumed (produced + n) new
+  emitted =
+      record {
+        long-line = t .long-line;
+        long-pending = t .long-pending;
+        order = omega (arith, t .order, e .within);
+        end = t .end;
+        taken = t .taken;
+        put = omega (arith, t .same, e .fits);
+        same = rw (e .bytes) (length-paste out produced (drop from pending) n (e .fits) source) ∙ t .same;
+        rest = back;
+        left = after;
+      }
+
+-- Taking input, where nothing is pending.
+
+pub nothing : (pending : List ℕ) (from to : ℕ) → length pending ≡ 101 → to ≤ 101 → to ≤ from → pendingOf pending from to ≡ []
+nothing pending from to h k l =
+    let e : length (take to pending) ≡ to = length-take-le to pending (omega arith) in
+    drop-of-length-le (take to pending) {i = from} (omega arith)
+
+module _ {goal : Fed} {input out₀ line : List ℕ} {len : ℕ} {pending : List ℕ} {from to consumed produced : ℕ} {out : List ℕ}
+    (t : Turn goal input out₀ line len pending from to consumed produced out) (none : to ≤ from) where
+  -- what is left to do, after the bytes that were gathered
+  resumes : goal ≡ resumed input (length out₀ - produced) (take produced out) (gatherFrom (partialOf line len) consumed (drop consumed input))
+  resumes =
+      t .left
+      ∙ ap (λ (o : List ℕ). ahead consumed (take produced out) (feedFrom (partialOf line len) o (drop consumed input) (length out₀ - produced)))
+      (nothing pending from to (t .long-pending) (t .end) none)
+      ∙ gather-law input (drop consumed input) consumed (partialOf line len) (take produced out) (length out₀ - produced) refl
+
+  -- how far they go
+  reaches : gatherFrom (partialOf line len) consumed (drop consumed input) .at ≤ length input
+  reaches = omega (arith, gather-bounds (drop consumed input) consumed (partialOf line len) .1, length-drop consumed input, t .taken)
+
+  pub moves : consumed < length input → consumed < gatherFrom (partialOf line len) consumed (drop consumed input) .at
+  moves h = gather-moves (drop consumed input) consumed (partialOf line len) (rw length-drop (omega arith))
+
+  module _ (line′ : List ℕ) (g : Gathered) (long : length line′ ≡ 101)
+      (e : gathered line′ g ≡ gatherFrom (partialOf line len) consumed (drop consumed input)) where
+    within : g .at ≤ length input
+    within = subst (λ (x : ℕ). x ≤ length input) (sym (ap (λ (x : Gather). x .at) e)) reaches
+
+    pub further : consumed < length input → consumed < g .at
+    further h = subst (λ (x : ℕ). consumed < x) (sym (ap (λ (x : Gather). x .at) e)) (moves h)
+
+    resumes-gathered : goal ≡ resumed input (length out₀ - produced) (take produced out) (gathered line′ g)
+    resumes-gathered = resumes ∙ ap (resumed input (length out₀ - produced) (take produced out)) (sym e)
+
+    -- byte 10 came: the answer to the line is pending
+    pub answered : {pending′ : List ℕ} {end : ℕ} → g .ended ≡ true → length pending′ ≡ 101
+        → Written pending pending′ 0 end (answerTo (partialOf line′ (g .len))) → Turn goal input out₀ line′ 0 pending′ 0 end (g .at) produced out
+    answered {pending′} {end} b h w =
+        record {
+          long-line = long;
+          long-pending = h;
+          order = zero-le;
+          end = omega (arith, written-fits w);
+          taken = within;
+          put = t .put;
+          same = t .same;
+          rest = t .rest;
+          left = resumes-gathered ∙ rw (b, resumed, w .text);
+        }
+
+    -- the piece is at its end
+    pub exhausted : g .ended ≡ false → Turn goal input out₀ line′ (g .len) pending from to (g .at) produced out
+    exhausted b =
+        record {
+          long-line = long;
+          long-pending = t .long-pending;
+          order = t .order;
+          end = t .end;
+          taken = within;
+          put = t .put;
+          same = t .same;
+          rest = t .rest;
+          left = resumes-gathered ∙ rw (b, resumed, nothing pending from to (t .long-pending) (t .end) none);
+        }
+
+-- Where the loop is left.
+
+-- what the call leaves in the output, in the words of the contract
+pub record Done (goal : Fed) (line : List ℕ) (len : ℕ) (pending : List ℕ) (from to consumed produced : ℕ) (out₀ out : List ℕ) : Type 0 where
+  pub model : _≡_ {A = Model} (record { line = partialOf line len; pending = pendingOf pending from to }) (goal .model)
+  pub consumed-is : consumed ≡ goal .consumed
+  pub produced-is : produced ≡ length (goal .produced)
+  pub output : out ≡ overwritten (goal .produced) out₀
+
+module _ {goal : Fed} {input out₀ line : List ℕ} {len : ℕ} {pending : List ℕ} {from to consumed produced : ℕ} {out : List ℕ}
+    (t : Turn goal input out₀ line len pending from to consumed produced out) where
+  nothing-more : feedFrom (partialOf line len) (pendingOf pending from to) (drop consumed input) (length out₀ - produced)
+      ≡ record { model = record { line = partialOf line len; pending = pendingOf pending from to }; consumed = 0; produced = [] }
+      → Done goal line len pending from to consumed produced out₀ out
+  unfolding overwritten
+  nothing-more e =
+      let g : goal ≡ ahead consumed (take produced out) (record { model = record { line = partialOf line len; pending = pendingOf pending from to }; consumed = 0; produced = [] }) =
+      t .left ∙ ap (ahead consumed (take produced out)) e
+      in
+      let k : length (take produced out) ≡ produced = length-take-le produced out (omega (arith, t .same, t .put)) in
+      let c : consumed + 0 ≡ consumed = omega arith in
+      rw (g, append-nil (take produced out), c)
+      (record {
+        model = refl;
+        consumed-is = refl;
+        produced-is = sym k;
+        output = rw k (sym (ap (λ (l : List ℕ). take produced out ++ l) (sym (t .rest)) ∙ take-append-drop produced out));
+      })
+
+  -- there is no room for a pending byte
+  pub no-room : from < to → produced ≡ length out₀ → Done goal line len pending from to consumed produced out₀ out
+  no-room h k =
+      let z : length out₀ - produced ≡ 0 = omega arith in
+      let o : List ℕ = pendingOf pending from to in
+      let w : length o ≡ to - from = length-pending pending from to (t .long-pending) (t .end) in
+      nothing-more (rw z (feed-stop (partialOf line len) o (drop consumed input) 0 (omega arith)))
+
+  -- nothing is pending, and the piece is taken whole
+  pub no-input : to ≤ from → consumed ≡ length input → Done goal line len pending from to consumed produced out₀ out
+  no-input h k =
+      let i : drop consumed input ≡ [] = drop-of-length-le input {i = consumed} (omega arith) in
+      let o : pendingOf pending from to ≡ [] = nothing pending from to (t .long-pending) (t .end) h in
+      nothing-more (rw (i, o) (rw (drop-nil {A = ℕ} (length out₀ - produced), take-nil {A = ℕ} (length out₀ - produced))))
+
+-- Where it begins.
+
+pub begins : (input out line : List ℕ) (len : ℕ) (pending : List ℕ) (from to : ℕ) → length line ≡ 101 → length pending ≡ 101 → from ≤ to → to ≤ 101
+    → Turn (feedFrom (partialOf line len) (pendingOf pending from to) input (length out)) input out line len pending from to 0 0 out
+begins input out line len pending from to a b c d =
+    let z : length out - 0 ≡ length out = omega arith in
+    record {
+      long-line = a;
+      long-pending = b;
+      order = c;
+      end = d;
+      taken = zero-le;
+      put = zero-le;
+      same = refl;
+      rest = refl;
+      left = rw (z, zero-add);
+    }
+
+-- the contract's four equations, of the same call by another name
+pub stepped : {goal call : Fed} {line : List ℕ} {len : ℕ} {pending : List ℕ} {from to consumed produced : ℕ} {out₀ out : List ℕ}
+    → Done goal line len pending from to consumed produced out₀ out → goal ≡ call
+    → (_≡_ {A = Model} (record { line = partialOf line len; pending = pendingOf pending from to }) (call .model))
+    × ((consumed ≡ call .consumed) × ((produced ≡ length (call .produced)) × (out ≡ overwritten (call .produced) out₀)))
+stepped {out₀} d e = (
+  d .model ∙ ap (λ (f : Fed). f .model) e,
+  (
+    d .consumed-is ∙ ap (λ (f : Fed). f .consumed) e,
+    (d .produced-is ∙ ap (λ (f : Fed). length (f .produced)) e, d .output ∙ ap (λ (f : Fed). overwritten (f .produced) out₀) e),
+  ),
+)

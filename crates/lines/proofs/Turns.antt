@@ -1,0 +1,104 @@
+-- The turns of the loop of `step`, against the definition `feedFrom`: what is left to do comes at every turn to the same.
+-- Assumes nothing.
+use mathlib.Core.Path.{_≡_, refl, sym, ap, _∙_}
+use mathlib.Core.Logic.{⊎-elim}
+use mathlib.Core.Bool.{true, false}
+use mathlib.Core.List.{List, [], _∷_, _++_, append-assoc}
+use Prim.Native.Nat.{ℕ, suc, _+_, _-_, _≤_, _<_, zero-le}
+use native.Mathlib.Numerals.{add-one}
+use native.Mathlib.Omega.{arith}
+use lib.Dec.{eqb}
+use lib.ListN.{length, take, drop, length-drop, take-append-drop}
+use lib.Seq.{drop-drop, take-add}
+use Rattle.modular.proofs.Search.{le-or-lt}
+use Rattle.code.proofs.Merge.{cases}
+use Rattle.stream.specs.Feed.{Partial, held, Fed, extended, answerTo, lineAfter, answerAfter, stopped, onward, feedFrom}
+use Rattle.stream.proofs.Whole.{line-ends, line-grows}
+use Rattle.stream.proofs.Feed.{feed-on, feed-stop}
+use Rattle.lines.specs.States.{Gather, gatherFrom}
+
+-- o was put out and k bytes were taken before f
+abbrev pub ahead : ℕ → List ℕ → Fed → Fed
+ahead k o f = record { model = f .model; consumed = k + f .consumed; produced = o ++ f .produced }
+
+fed-same : {f g : Fed} → f .model ≡ g .model → f .consumed ≡ g .consumed → f .produced ≡ g .produced → f ≡ g
+fed-same {f} {g} a b c = λ i. record { model = a i; consumed = b i; produced = c i }
+
+pub ahead-ahead : (k l : ℕ) (a b : List ℕ) (f : Fed) → ahead k a (ahead l b f) ≡ ahead (k + l) (a ++ b) f
+ahead-ahead k l a b f = fed-same refl (omega arith) (sym (append-assoc a b (f .produced)))
+
+-- Putting out n of the pending bytes first changes nothing.
+
+emit-stopped : (p : Partial) (o : List ℕ) (room n : ℕ) → n ≤ room → stopped p o room ≡ ahead 0 (take n o) (stopped p (drop n o) (room - n))
+emit-stopped p o room n h =
+    let e : n + (room - n) ≡ room = omega arith in
+    fed-same (ap (λ (l : List ℕ). record { line = p; pending = l }) (sym (drop-drop (room - n) n o ∙ ap (λ (i : ℕ). drop i o) e)))
+    (omega arith) (ap (λ (i : ℕ). take i o) (sym e) ∙ take-add n (room - n) o)
+
+emit-onward : (o : List ℕ) (n : ℕ) (f : Fed) → onward o f ≡ ahead 0 (take n o) (onward (drop n o) f)
+emit-onward o n f =
+    fed-same refl (omega arith) (ap (λ (l : List ℕ). l ++ f .produced) (sym (take-append-drop n o)) ∙ append-assoc (take n o) (drop n o) (f .produced))
+
+emit-on : (p : Partial) (o s : List ℕ) (room n : ℕ) → n ≤ length o → length o ≤ room
+    → feedFrom p o s room ≡ ahead 0 (take n o) (feedFrom p (drop n o) s (room - n))
+emit-on p o [] room n h l = emit-stopped p o room n (omega arith)
+emit-on p o (b ∷ s) room n h l =
+    let e : length (drop n o) ≡ length o - n = length-drop n o in
+    let r : room - n - length (drop n o) ≡ room - length o = omega arith in
+    feed-on p o b s room l
+    ∙ emit-onward o n (feedFrom (lineAfter p b) (answerAfter p b) s (room - length o))
+    ∙ ap (λ (i : ℕ). ahead 0 (take n o) (onward (drop n o) (feedFrom (lineAfter p b) (answerAfter p b) s i))) (sym r)
+    ∙ ap (ahead 0 (take n o)) (sym (feed-on p (drop n o) b s (room - n) (omega arith)))
+
+pub emit-law : (p : Partial) (o s : List ℕ) (room n : ℕ) → n ≤ length o → n ≤ room
+    → feedFrom p o s room ≡ ahead 0 (take n o) (feedFrom p (drop n o) s (room - n))
+emit-law p o s room n h k =
+    ⊎-elim (emit-on p o s room n h)
+    (λ (l : room < length o).
+    let e : length (drop n o) ≡ length o - n = length-drop n o in
+    feed-stop p o s room l
+    ∙ emit-stopped p o room n k
+    ∙ ap (ahead 0 (take n o)) (sym (feed-stop p (drop n o) s (room - n) (omega arith)))) (le-or-lt (length o) room)
+
+-- Taking bytes up to the end of a line, where nothing is pending.
+
+-- the call goes on after the line's end, with its answer pending, or after the piece's
+abbrev pub resumed : List ℕ → ℕ → List ℕ → Gather → Fed
+resumed input room o g =
+    elim (g .ended) [
+      | true ↦ ahead (g .at) o (feedFrom (held []) (answerTo (g .line)) (drop (g .at) input) room)
+      | false ↦ ahead (g .at) o (feedFrom (g .line) [] (drop (g .at) input) room)
+    ]
+
+drop-next : (input : List ℕ) (at b : ℕ) (s : List ℕ) → drop at input ≡ b ∷ s → drop (suc at) input ≡ s
+drop-next input at b s e = ap (λ (i : ℕ). drop i input) (sym (add-one at)) ∙ sym (drop-drop 1 at input) ∙ ap (drop 1) e
+
+take-byte : (p : Partial) (at b : ℕ) (o s : List ℕ) (room : ℕ)
+    → ahead at o (feedFrom p [] (b ∷ s) room) ≡ ahead (suc at) o (feedFrom (lineAfter p b) (answerAfter p b) s room)
+take-byte p at b o s room =
+    let r : room - 0 ≡ room = omega arith in
+    ap (ahead at o) (feed-on p [] b s room zero-le ∙ ap (λ (i : ℕ). onward [] (feedFrom (lineAfter p b) (answerAfter p b) s i)) r)
+    ∙ fed-same refl (omega arith) refl
+
+pub gather-law : (input s : List ℕ) (at : ℕ) (p : Partial) (o : List ℕ) (room : ℕ) → drop at input ≡ s
+    → ahead at o (feedFrom p [] s room) ≡ resumed input room o (gatherFrom p at s)
+gather-law input [] at p o room e = rw e
+gather-law input (b ∷ s) at p o room e =
+    take-byte p at b o s room
+    ∙ cases (eqb b 10)
+    (λ t. rw (line-ends p b t .0, line-ends p b t .1, t, gatherFrom, drop-next input at b s e))
+    (λ t. rw (line-grows p b t .0, line-grows p b t .1, t, gatherFrom) (gather-law input s (suc at) (extended p b) o room (drop-next input at b s e)))
+
+-- it takes a byte, where there is one, and no more than there are
+pub gather-bounds : (s : List ℕ) (at : ℕ) (p : Partial) → (at ≤ gatherFrom p at s .at) × (gatherFrom p at s .at ≤ at + length s)
+gather-bounds [] at p = (omega arith, omega arith)
+gather-bounds (b ∷ s) at p =
+    let n = gather-bounds s (suc at) (extended p b) in
+    cases (eqb b 10) (λ t. rw (t, gatherFrom) (omega arith, omega arith))
+    (λ t. rw (t, gatherFrom) (omega (arith, n .0), omega (arith, n .1)))
+
+pub gather-moves : (s : List ℕ) (at : ℕ) (p : Partial) → 0 < length s → at < gatherFrom p at s .at
+gather-moves [] at p h = absurd (omega arith)
+gather-moves (b ∷ s) at p h =
+    let n = gather-bounds s (suc at) (extended p b) in
+    cases (eqb b 10) (λ t. rw (t, gatherFrom) (omega arith)) (λ t. rw (t, gatherFrom) (omega (arith, n .0)))

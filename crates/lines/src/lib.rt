@@ -1,0 +1,139 @@
+// The line program of document 01 over input that comes in pieces of any size, into outputs of any size.
+mod answer;
+mod form;
+mod gather;
+mod text;
+
+ghost use mathlib.Core.Path.{_≡_};
+ghost use lib.ListN.{length};
+ghost use Rattle.stream.specs.Feed.{begin, feed, overwritten, finishing, isDone};
+ghost use Rattle.lines.specs.States.{modelOf};
+
+// What is kept between calls: the line so far and its length, and the bytes of an answer that are not put out yet.
+pub struct State {
+    line: [u8; 101],
+    len: usize,
+    answer: [u8; 101],
+    from: usize,
+    to: usize,
+}
+
+// What a call of step took and put out.
+pub struct Stepped {
+    pub state: State,
+    pub consumed: usize,
+    pub produced: usize,
+}
+
+// The state before any input.
+pub fn start() -> State
+    ensures { λ r. ⌜ modelOf r ≡ begin ⌝ }
+{
+    State {
+        line: [0u8; 101],
+        len: 0,
+        answer: [0u8; 101],
+        from: 0,
+        to: 0,
+    }
+}
+
+// Takes what it can of a piece of the input, and puts out what it can: pending bytes go first, and input is taken
+// only while nothing is pending. Where it took less than the piece, the output is full; hand in the rest with the next
+// call.
+pub fn step(state: State, input: &[u8], output: &mut [u8]) -> Stepped
+    ensures state { λ r. ⌜ modelOf (r .state) ≡ feed (modelOf state) (now (input .entry)) (length (now (output .entry))) .model ⌝ }
+    ensures consumed { λ r. ⌜ r .consumed ≡ feed (modelOf state) (now (input .entry)) (length (now (output .entry))) .consumed ⌝ }
+    ensures produced { λ r. ⌜ r .produced ≡ length (feed (modelOf state) (now (input .entry)) (length (now (output .entry))) .produced) ⌝ }
+    ensures output { λ _. ⌜ now (output .exit) ≡ overwritten (feed (modelOf state) (now (input .entry)) (length (now (output .entry))) .produced) (now (output .entry)) ⌝ }
+{
+    let mut line = state.line;
+    let mut len = state.len;
+    let mut pending = state.answer;
+    let mut to = gather::least(state.to, 101);
+    let mut from = gather::least(state.from, to);
+    let mut consumed = 0;
+    let mut produced = 0;
+    loop {
+        let n = gather::emit(&pending, from, to, output, produced);
+        from += n;
+        produced += n;
+        if from < to {
+            break;
+        }
+        if consumed == input.len() {
+            break;
+        }
+        let g = gather::gather(input, consumed, &mut line, len);
+        consumed = g.at;
+        len = g.len;
+        if g.ended {
+            to = answer::answer_to(&line, len, &mut pending);
+            from = 0;
+            len = 0;
+        }
+    }
+    let state = State {
+        line,
+        len,
+        answer: pending,
+        from,
+        to,
+    };
+    Stepped {
+        state,
+        consumed,
+        produced,
+    }
+}
+
+// What a call of finish put out, and whether that was all.
+pub struct Finished {
+    pub state: State,
+    pub produced: usize,
+    pub done: bool,
+}
+
+// Puts out, after the last piece of the input, what is still to come: pending bytes, then the answer to a line that no
+// byte 10 ended. To be called until it is done.
+pub fn finish(state: State, output: &mut [u8]) -> Finished
+    ensures state { λ r. ⌜ modelOf (r .state) ≡ finishing (modelOf state) (length (now (output .entry))) .model ⌝ }
+    ensures produced { λ r. ⌜ r .produced ≡ length (finishing (modelOf state) (length (now (output .entry))) .produced) ⌝ }
+    ensures done { λ r. ⌜ r .done ≡ isDone (finishing (modelOf state) (length (now (output .entry)))) ⌝ }
+    ensures output { λ _. ⌜ now (output .exit) ≡ overwritten (finishing (modelOf state) (length (now (output .entry))) .produced) (now (output .entry)) ⌝ }
+{
+    let line = state.line;
+    let len = state.len;
+    let mut pending = state.answer;
+    let to = gather::least(state.to, 101);
+    let from = gather::least(state.from, to);
+    let n = gather::emit(&pending, from, to, output, 0);
+    if from + n < to {
+        let left = State {
+            line,
+            len,
+            answer: pending,
+            from: from + n,
+            to,
+        };
+        return Finished {
+            state: left,
+            produced: n,
+            done: false,
+        };
+    }
+    let end = answer::answer_at_end(&line, len, &mut pending);
+    let k = gather::emit(&pending, 0, end, output, n);
+    let left = State {
+        line,
+        len: 0,
+        answer: pending,
+        from: k,
+        to: end,
+    };
+    Finished {
+        state: left,
+        produced: n + k,
+        done: k == end,
+    }
+}

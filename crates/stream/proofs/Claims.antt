@@ -1,0 +1,19 @@
+-- Every claim has its proof.
+-- Assumes nothing.
+use Rattle.stream.specs.Claims.{Claims}
+use Rattle.stream.proofs.Whole.{long-line}
+use Rattle.stream.proofs.Feed.{feed-stops, feed-fits}
+use Rattle.stream.proofs.Cutting.{any-cutting, finish-fits, finish-stops}
+use Rattle.stream.proofs.Cases.{cases-print}
+
+pub claims : Claims
+claims =
+    record {
+      any-cutting = any-cutting;
+      feed-stops = feed-stops;
+      feed-fits = feed-fits;
+      finish-fits = finish-fits;
+      finish-stops = finish-stops;
+      long-line = long-line;
+      cases-print = cases-print;
+    }
