@@ -14,7 +14,7 @@ use lib.Seq.{getD-set-same, getD-set-other, set-set, set-getD}
 use borrow.Author.Tests.{lt-ltb, le-ltb}
 use Rattle.modular.specs.Search.{anyBelow}
 use Rattle.modular.specs.Residue.{Prime}
-use Rattle.modular.proofs.Search.{decide, passes, fails, and-left, le-or-lt, le-of-not-lt, least-hit, least-is, any-of, any-at}
+use Rattle.modular.proofs.Search.{passes, fails, and-left, le-or-lt, le-of-not-lt, least-hit, least-is, any-of, any-at}
 use Rattle.code.specs.Parameters.{Parameters, Sized, codewordLength}
 use Rattle.code.specs.Component.{symbolsBelow, isWord}
 use Rattle.code.specs.Codeword.{codeword}
@@ -51,24 +51,6 @@ module _ (p : Parameters) (u : List ℕ) where
   near-none l =
       let t : ltb (changedAt p u) (length u) ≡ false = le-ltb (changedAt p u) (length u) l in
       rw (t, nearReading)
-
--- a position that is read is one of the word's
-pub position-within : (p : Parameters) (u : List ℕ) {k : Kind} {i y : ℕ} {a b : List ℕ} → reading p u ≡ read k i y a b → i ≤ length u
-position-within p u {k} {i} {y} {a} {b} e =
-    ⊎-elim (λ (h : T (codeword p u)). at-zero (sym e ∙ reads-clean p u (passes h)))
-    (λ (h : T (codeword p u) → ⊥).
-    ⊎-elim (λ (l : length u ≤ changedAt p u). absurd (never (sym e ∙ reads-near p u (fails h) ∙ near-none p u l)))
-    (λ (l : changedAt p u < length u).
-    at-next l (sentAt p u (changedAt p u)) (set u (changedAt p u) (sentAt p u (changedAt p u)))
-    (sym e ∙ reads-near p u (fails h) ∙ near-found p u (changedAt p u) (sentAt p u (changedAt p u)) (set u (changedAt p u) (sentAt p u (changedAt p u))) refl l refl refl))
-    (le-or-lt (length u) (changedAt p u)))
-    (decide (codeword p u))
-  where
-    at-zero : read k i y a b ≡ readAs p clean 0 0 u → i ≤ length u
-    at-zero f = let z : i ≡ 0 = cc in omega arith
-
-    at-next : changedAt p u < length u → (x : ℕ) (v : List ℕ) → read k i y a b ≡ readAs p corrected (changedAt p u + 1) x v → i ≤ length u
-    at-next l x v f = let z : i ≡ changedAt p u + 1 = cc in omega arith
 
 module _ (p : Parameters) (s : Sized p) (prime : Prime (p .q)) where
   long : (u : List ℕ) → T (codeword p u) → length u ≡ codewordLength p

@@ -1,21 +1,19 @@
 -- The answer to a call: its refusals in their order, then the reading by its sums.
 -- Assumes nothing.
-use mathlib.Core.Path.{_≡_, refl, sym, ap, subst, _∙_}
+use mathlib.Core.Path.{_≡_, sym, ap, subst, _∙_}
 use mathlib.Core.Logic.{_≢_}
 use mathlib.Core.Bool.{Bool, true, false, _&&_}
 use mathlib.Core.List.{List}
 use Prim.Native.Nat.{ℕ, _≤_, _<_}
 use native.Mathlib.Nat.{not-le-of-lt}
-use native.Mathlib.Omega.{arith}
 use lib.Dec.{T, eqb, leb, eqb→eq, leb→le, le→leb}
 use lib.ListN.{length}
 use borrow.Author.Tests.{eq-eqb, ne-eqb}
-use Rattle.modular.specs.Residue.{Prime}
 use Rattle.modular.proofs.Search.{eq-test, passes, fails, and-intro, and-left, and-right}
-use Rattle.code.specs.Parameters.{Parameters, Sized, messageLength, codewordLength}
+use Rattle.code.specs.Parameters.{Parameters, messageLength, codewordLength}
 use Rattle.code.specs.Component.{symbolsBelow}
 use Rattle.code.specs.Profiles.{isProfile, profile}
-use Rattle.code.specs.Reading.{Reading, reading}
+use Rattle.code.specs.Reading.{reading}
 use Rattle.code.specs.Operations.{Answer, refused, answered, decodeAnswer}
 use Rattle.code.proofs.Merge.{word-of}
 use Rattle.code.proofs.Profiles.{profiles-fit}
@@ -25,7 +23,7 @@ use Rattle.decoding.proofs.Decoded.{decoded-reading}
 use Rattle.codec.specs.declared.profiles.Row.{Row}
 use Rattle.codec.specs.declared.totals.Totals.{Totals}
 use Rattle.codec.specs.declared.reader.Decoded.{Decoded as Outcome}
-use Rattle.codec.specs.Row.{parameters, Valid, RowOf}
+use Rattle.codec.specs.Row.{parameters, RowOf}
 use Rattle.codec.specs.Totals.{Word, sumsOf}
 use Rattle.codec.specs.Decode.{Answers}
 use Rattle.codec.proofs.Totalling.{middle-is}

@@ -1,19 +1,17 @@
 -- The answer of the reader, case by case.
 -- Assumes nothing.
-use mathlib.Core.Path.{_≡_, refl, sym, ap, ap₂, _∙_}
-use mathlib.Core.Bool.{Bool, true, false, not, _&&_}
+use mathlib.Core.Path.{_≡_, ap}
+use mathlib.Core.Bool.{Bool, true, false}
 use mathlib.Core.List.{List}
-use Prim.Native.Nat.{ℕ, zero, suc, _+_, _*_, _≤_, _<_}
+use Prim.Native.Nat.{ℕ, _+_, _≤_, _<_}
 use native.Mathlib.Omega.{arith}
-use lib.Dec.{T, eqb, ltb}
-use lib.ListN.{length, getD, take, set}
-use lib.Seq.{getD-take}
+use lib.Dec.{T}
+use lib.ListN.{getD, take, set}
 use borrow.Author.Tests.{lt-ltb, le-ltb}
 use Rattle.modular.proofs.Search.{least-hit}
 use Rattle.code.specs.Parameters.{Parameters, balancedLength}
-use Rattle.code.specs.Component.{message}
 use Rattle.code.specs.Codeword.{body, received}
-use Rattle.code.specs.Reading.{Kind, clean, corrected, Reading, read, unreadable}
+use Rattle.code.specs.Reading.{Kind, clean, corrected, Reading, unreadable}
 use Rattle.code.specs.Operations.{Answer, refused, answered, success}
 use Rattle.decoding.specs.Syndromes.{nearSyndromes, index, movedFirst, movedSecond}
 use Rattle.decoding.specs.Decoded.{Sums, checkIndex, lack, balancingSymbol, inRange, offByLack, nearAfter, fits, places, firstFit, readBy, readFit, decodedBody, decodedCheck, agrees, decodedBalanced, decodedUnbalanced}

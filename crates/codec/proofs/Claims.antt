@@ -1,17 +1,16 @@
 -- Demand 3 of decode: the contract says of a word that numbers 1 to 3 let through what its reading is, and demand 3 holds of the reading.
 -- Assumes nothing.
 use mathlib.Core.Path.{_≡_, refl, sym, ap, subst, _∙_}
-use mathlib.Core.Logic.{_≢_, _↔_}
-use mathlib.Core.Bool.{true, false, _&&_}
+use mathlib.Core.Bool.{true, _&&_}
 use mathlib.Core.List.{List}
-use Prim.Native.Nat.{ℕ, _+_, _≤_, _<_}
+use Prim.Native.Nat.{ℕ, _≤_, _<_}
 use native.Mathlib.Omega.{arith}
 use lib.Dec.{T, eqb}
-use lib.ListN.{length, getD, set, length-set}
+use lib.ListN.{length, set, length-set}
 use Rattle.modular.proofs.Search.{eq-test, passes, and-right}
 use Rattle.code.specs.Parameters.{messageLength, codewordLength}
 use Rattle.code.specs.Component.{symbolsBelow, isWord}
-use Rattle.code.specs.Codeword.{codeword, carried}
+use Rattle.code.specs.Codeword.{codeword}
 use Rattle.code.specs.Reading.{Kind, clean, corrected, Reading, read, unreadable, readAs, reading}
 use Rattle.code.specs.Profiles.{isProfile, profile}
 use Rattle.code.specs.Claims as Reads

@@ -1,19 +1,18 @@
 -- A body copied into an array, with one symbol changed.
 -- Assumes nothing.
-use mathlib.Core.Path.{_≡_, refl, sym, ap, _∙_}
+use mathlib.Core.Path.{_≡_, sym, ap, _∙_}
 use mathlib.Core.List.{List}
-use Prim.Native.Nat.{ℕ, zero, suc, _+_, _≤_, _<_, zero-le}
+use Prim.Native.Nat.{ℕ, _+_, _≤_, _<_, zero-le}
 use native.Mathlib.Nat.{not-suc-le-zero}
 use native.Mathlib.Omega.{arith}
 use native.Mathlib.Decide.{ℕ-discrete}
-use lib.Dec.{T}
 use lib.ListN.{length, getD, take, set, length-set}
 use lib.Seq.{getD-take, getD-set-same, getD-set-other, ext-getD, length-take-le}
 use Rattle.code.specs.Parameters.{balancedLength}
 use Rattle.code.proofs.Columns.{q-positive}
 use Rattle.code.proofs.Symbols.{symbol-below, symbols-set}
 use Rattle.codec.specs.declared.profiles.Row.{Row}
-use Rattle.codec.specs.Row.{parameters, Valid}
+use Rattle.codec.specs.Row.{parameters}
 use Rattle.codec.specs.Received.{Body}
 use Rattle.codec.specs.Totals.{Word}
 

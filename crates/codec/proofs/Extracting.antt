@@ -3,16 +3,16 @@
 use mathlib.Core.Path.{_≡_, refl, sym, ap, ap₂, _∙_}
 use mathlib.Core.Bool.{Bool, true, false, not}
 use mathlib.Core.List.{List, [], _∷_, _++_, append-assoc, append-nil}
-use Prim.Native.Nat.{ℕ, zero, suc, _+_, _-_, _^_, _≤_, _<_, zero-le, suc-le-suc}
-use native.Mathlib.Nat.{not-suc-le-zero, le-of-suc-le-suc, le-trans}
+use Prim.Native.Nat.{ℕ, zero, suc, _+_, _-_, _^_, _≤_, _<_, zero-le}
+use native.Mathlib.Nat.{not-suc-le-zero, le-of-suc-le-suc}
 use native.Mathlib.Numerals.{add-one}
 use native.Mathlib.Omega.{arith}
 use lib.ListN.{length, getD, take, drop, set, drop-of-length-le, length-set}
 use lib.Seq.{drop-cons, set-at, length-take-le}
-use Rattle.code.specs.Parameters.{Parameters, Sized, messageLength}
+use Rattle.code.specs.Parameters.{messageLength}
 use Rattle.code.specs.Component.{isCheck, checkAt, keep, message}
-use Rattle.code.proofs.Merge.{cases, opposite, count, count-not, length-keep}
-use Rattle.code.proofs.Reduced.{check, check-count}
+use Rattle.code.proofs.Merge.{cases, count, count-not, length-keep}
+use Rattle.code.proofs.Reduced.{check-count}
 use Rattle.codec.specs.declared.profiles.Row.{Row}
 use Rattle.codec.specs.Row.{parameters, Valid}
 use Rattle.codec.proofs.Placing.{count-pass, count-fail, count-below}

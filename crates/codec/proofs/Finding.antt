@@ -1,11 +1,11 @@
 -- What is known of the position that the search found.
 -- Assumes nothing.
-use mathlib.Core.Path.{_≡_, refl, sym, ap, subst, _∙_}
+use mathlib.Core.Path.{_≡_, subst}
 use mathlib.Core.List.{List}
-use Prim.Native.Nat.{ℕ, zero, suc, _+_, _*_, _≤_, _<_}
+use Prim.Native.Nat.{ℕ, _+_, _*_, _≤_, _<_}
 use native.Mathlib.Omega.{arith}
 use lib.Dec.{T}
-use lib.ListN.{length, getD, take, set}
+use lib.ListN.{length, getD, set}
 use Rattle.code.specs.Parameters.{balancedLength}
 use Rattle.code.specs.Reading.{corrected}
 use Rattle.decoding.specs.Syndromes.{nearSyndromes, movedFirst, movedSecond}
@@ -15,7 +15,7 @@ use Rattle.codec.specs.declared.profiles.Row.{Row}
 use Rattle.codec.specs.declared.totals.Totals.{Totals}
 use Rattle.codec.specs.declared.place.Place.{Place}
 use Rattle.codec.specs.declared.place.Place.the-variants.{At}
-use Rattle.codec.specs.Row.{parameters, Valid}
+use Rattle.codec.specs.Row.{parameters}
 use Rattle.codec.specs.FourRows.{rowsOf}
 use Rattle.codec.specs.Sides.{isFirst}
 use Rattle.codec.specs.Totals.{Word, sumsOf}

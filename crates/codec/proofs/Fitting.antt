@@ -1,18 +1,18 @@
 -- The tests of a position, and the search for the first that passes them.
 -- Assumes nothing.
-use mathlib.Core.Path.{_≡_, refl, sym, ap, ap₂, subst, _∙_}
+use mathlib.Core.Path.{_≡_, refl, sym, ap, _∙_}
 use mathlib.Core.Logic.{⊎-elim}
-use mathlib.Core.Bool.{Bool, true, false, _&&_}
+use mathlib.Core.Bool.{Bool, true, false}
 use mathlib.Core.List.{List}
 use Prim.Native.Nat.{ℕ, zero, suc, _+_, _-_, _*_, _%_, _≤_, _<_}
-use native.Mathlib.Nat.{add-zero, zero-add, not-le-of-lt}
+use native.Mathlib.Nat.{zero-add}
 use native.Mathlib.Numerals.{add-one}
 use native.Mathlib.Omega.{arith}
 use lib.Dec.{T, eqb, leb, ltb, leb→le, ltb→lt}
 use lib.ListN.{getD}
 use borrow.Author.Tests.{le-leb, lt-leb}
 use Rattle.modular.specs.Search.{least}
-use Rattle.modular.specs.Residue.{Congruent, minus}
+use Rattle.modular.specs.Residue.{minus}
 use Rattle.modular.proofs.Search.{and-left, and-right, least-is, least-le, least-hit, le-or-lt}
 use Rattle.modular.proofs.Residue.{of-eq, _then_, reduce}
 use Rattle.code.specs.Parameters.{Parameters}
@@ -23,7 +23,6 @@ use Rattle.decoding.proofs.Tests.{true-test, false-test}
 use Rattle.codec.specs.declared.profiles.Row.{Row}
 use Rattle.codec.specs.declared.totals.Totals.{Totals}
 use Rattle.codec.specs.Row.{parameters, Valid}
-use Rattle.codec.specs.FourRows.{rowsOf}
 use Rattle.codec.specs.Sides.{isFirst, sideOf}
 use Rattle.codec.specs.Totals.{sumsOf, Totalled}
 use Rattle.codec.proofs.Bytes.{minus-is}

@@ -1,21 +1,21 @@
 -- The four rows that the code keeps of a syndrome against the r rows of the definitions: the digit rows that r does not have are 0.
 -- Assumes nothing.
-use mathlib.Core.Path.{_≡_, refl, sym, ap, ap₂, _∙_}
+use mathlib.Core.Path.{_≡_, refl, sym, ap, _∙_}
 use mathlib.Core.Logic.{_≢_, _⊎_, inl, inr, ⊎-elim}
 use mathlib.Core.Bool.{Bool, true, false, _&&_, _||_}
 use mathlib.Core.List.{List}
 use Prim.Native.Nat.{ℕ, zero, suc, _+_, _-_, _*_, _≤_, _<_}
 use native.Mathlib.Nat.{eq-or-lt-of-le}
 use native.Mathlib.Omega.{arith}
-use lib.Dec.{T, eqb, leb, eqb→eq, eqb-refl, leb→le, le→leb}
+use lib.Dec.{T, eqb, leb, eqb→eq, leb→le, le→leb}
 use lib.ListN.{getD}
 use borrow.Author.Tests.{eq-eqb, ne-eqb}
-use Rattle.modular.proofs.Search.{eq-test, passes, fails, same-test, all-at, all-of, le-or-lt}
+use Rattle.modular.proofs.Search.{eq-test, fails, same-test, all-at, all-of, le-or-lt}
 use Rattle.code.specs.Parameters.{Parameters}
 use Rattle.code.proofs.Columns.{r-large, last-below}
 use Rattle.decoding.specs.Syndromes.{tabulate, value, zeroSyndrome, columnPosition, columnSyndrome, nearSyndrome, nearSyndromes}
 use Rattle.decoding.proofs.Value.{tabulate-at}
-use Rattle.decoding.proofs.Near.{Named, named, named-test}
+use Rattle.decoding.proofs.Near.{named, named-test}
 use Rattle.codec.specs.declared.profiles.Row.{Row}
 use Rattle.codec.specs.Row.{parameters, Valid}
 use Rattle.codec.specs.FourRows.{rowIndex, rowsOf, FourRows}

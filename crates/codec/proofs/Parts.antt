@@ -1,28 +1,26 @@
 -- The components of a received word, a symbol at a time.
 -- Assumes nothing.
-use mathlib.Core.Path.{_≡_, refl, sym, ap, _∙_}
-use mathlib.Core.Logic.{⊎-elim}
-use mathlib.Core.Bool.{Bool, true, false}
+use mathlib.Core.Path.{_≡_, refl, sym, _∙_}
+use mathlib.Core.Bool.{Bool}
 use mathlib.Core.List.{List, [], _∷_}
-use Prim.Native.Nat.{ℕ, zero, suc, _+_, _-_, _*_, _≤_, _<_, zero-le, suc-le-suc}
+use Prim.Native.Nat.{ℕ, zero, suc, _+_, _-_, _*_, _≤_, _<_, zero-le}
 use native.Mathlib.Nat.{not-suc-le-zero, le-of-suc-le-suc}
 use native.Mathlib.Numerals.{add-one, one-add}
 use native.Mathlib.Omega.{arith}
 use native.Mathlib.Decide.{ℕ-discrete}
-use lib.Dec.{T}
-use lib.ListN.{length, getD, take, drop, set, length-set, length-replicate}
+use lib.ListN.{length, getD, take, drop, set, length-set}
 use lib.Seq.{getD-drop, getD-take, getD-set-same, getD-set-other, ext-getD, length-take-le}
 use Rattle.modular.specs.Residue.{minus}
 use Rattle.modular.proofs.Residue.{minus-below}
 use Rattle.code.specs.Parameters.{Parameters, balancedLength}
 use Rattle.code.specs.Balance.{difference}
-use Rattle.code.specs.Codeword.{alternate, body, received}
+use Rattle.code.specs.Codeword.{body, received}
 use Rattle.code.proofs.Alternate.{first-at, second-at}
 use Rattle.code.proofs.Weights.{double-is, length-part}
 use Rattle.code.proofs.Lawful.{balanced-length}
 use Rattle.code.proofs.Columns.{q-positive}
 use Rattle.codec.specs.declared.profiles.Row.{Row}
-use Rattle.codec.specs.Row.{parameters, Valid}
+use Rattle.codec.specs.Row.{parameters}
 use Rattle.codec.specs.Sides.{isFirst}
 use Rattle.codec.specs.Received.{Body, Component}
 

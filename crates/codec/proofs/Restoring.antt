@@ -1,10 +1,10 @@
 -- The syndrome of a component by its four rows, and the component that a syndrome restores.
 -- Assumes nothing.
-use mathlib.Core.Path.{_≡_, refl, sym, ap, _∙_}
+use mathlib.Core.Path.{_≡_, sym, ap, _∙_}
 use mathlib.Core.Logic.{⊎-elim}
-use mathlib.Core.Bool.{Bool, true, false, _||_}
+use mathlib.Core.Bool.{Bool, true, false}
 use mathlib.Core.List.{List}
-use Prim.Native.Nat.{ℕ, zero, suc, _+_, _-_, _*_, _%_, _^_, _≤_, _<_, suc-le-suc}
+use Prim.Native.Nat.{ℕ, suc, _-_, _%_, _≤_, _<_, suc-le-suc}
 use native.Mathlib.Nat.{mod-lt, zero-mod, le-trans}
 use native.Mathlib.Omega.{arith}
 use lib.Dec.{T}
@@ -12,7 +12,6 @@ use lib.ListN.{length, getD, take, set}
 use lib.Seq.{getD-take, take-set-lt}
 use Rattle.modular.specs.Sum.{dot}
 use Rattle.modular.specs.Residue.{minus}
-use Rattle.modular.specs.Digits.{digits}
 use Rattle.modular.proofs.Search.{or-cases}
 use Rattle.modular.proofs.Sum.{dot-same, dot-zero}
 use Rattle.code.specs.Parameters.{Parameters}

@@ -1,25 +1,22 @@
 -- The sums over a word, each as its definition has it.
 -- Assumes nothing.
-use mathlib.Core.Path.{_≡_, refl, sym, ap, ap₂, subst, _∙_, fun-ext}
+use mathlib.Core.Path.{_≡_, ap, _∙_, fun-ext}
 use mathlib.Core.Bool.{Bool, true, false}
 use mathlib.Core.List.{List, [], _∷_}
-use Prim.Native.Nat.{ℕ, zero, suc, _+_, _-_, _*_, _/_, _%_, _≤_, _<_}
-use native.Mathlib.Nat.{mul-le-mul, mod-lt, le-trans}
+use Prim.Native.Nat.{ℕ, zero, suc, _+_, _-_, _*_, _%_, _≤_, _<_}
+use native.Mathlib.Nat.{mul-le-mul, mod-lt}
 use native.Mathlib.Omega.{arith}
 use lib.Dec.{T}
 use lib.ListN.{length, getD, take}
-use lib.Seq.{length-take-le}
 use Rattle.modular.specs.Sum.{weight}
-use Rattle.modular.specs.Residue.{Congruent}
-use Rattle.code.specs.Parameters.{Parameters, balancedLength, codewordLength, balancingValue, delta}
+use Rattle.code.specs.Parameters.{balancedLength, balancingValue}
 use Rattle.code.specs.Component.{symbolsBelow}
-use Rattle.code.specs.Codeword.{alternate, alpha, beta, body, received}
-use Rattle.code.proofs.Symbols.{symbol-below, symbols-below}
+use Rattle.code.specs.Codeword.{alpha, beta, body, received}
+use Rattle.code.proofs.Symbols.{symbol-below}
 use Rattle.code.proofs.Columns.{q-positive}
-use Rattle.code.proofs.Delta.{alternate-weight}
 use Rattle.code.proofs.Lawful.{length-body}
 use Rattle.decoding.specs.Syndromes.{syndromes}
-use Rattle.decoding.specs.Decoded.{Sums, sums, checkSymbol, checkIndex, target, lack}
+use Rattle.decoding.specs.Decoded.{sums, checkSymbol, checkIndex, target, lack}
 use Rattle.codec.specs.declared.profiles.Row.{Row}
 use Rattle.codec.specs.declared.totals.Totals.{Totals}
 use Rattle.codec.specs.Row.{parameters, Valid}

@@ -3,7 +3,6 @@
 use borrow.Author.Needs.{needs}
 use mathlib.Core.Path.{refl}
 use Prim.Native.Nat.{_-_}
-use native.Mathlib.Omega.{arith}
 use Rattle.codec.proofs.Copying.{Copied, copied-none, copied-more, copied-set}
 use Rattle.codec.proofs.reader.corrected.Statement.{statement}
 use Rattle.codec.proofs.reader.corrected.Tie as tie

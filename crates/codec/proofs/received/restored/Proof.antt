@@ -1,7 +1,7 @@
 -- `codec::received::restored` meets its contract: a near syndrome that is not zero names one of the n positions.
 -- Assumes nothing.
 use borrow.Author.Needs.{needs}
-use mathlib.Core.Path.{sym, _∙_, ap}
+use mathlib.Core.Path.{sym, _∙_}
 use native.Mathlib.Omega.{arith}
 use Rattle.codec.proofs.Restoring.{restored-same, position-some, position-within, restored-lowered}
 use mathlib.Core.Path.{refl}

@@ -1,0 +1,35 @@
+-- `ffi::fogzurt_decode` meets its contract: decode's, with the report packed.
+-- Assumes nothing.
+use mathlib.Core.Path.{sym, ap, subst, _∙_}
+use borrow.Author.Needs.{needs}
+use denote.Ref.{now}
+use lib.ListN.{length}
+use Rattle.ffi.specs.Packed.{packed, Within}
+use Rattle.ffi.proofs.Positions.{within-answer}
+use Rattle.ffi.proofs.fogzurt_decode.Statement.{statement}
+use Rattle.ffi.proofs.fogzurt_decode.Tie as tie
+
+decode-requires : tie.Need-decode-requires
+decode-requires c κs = search needs
+
+pack-requires : tie.Need-pack-requires
+pack-requires c κs =
+    let d = c .before .before .before .before .decode in
+    let s = c .before .before .before .before .before .before .before .before .before .before in
+    subst Within (sym (d .ensures .answer))
+    (within-answer (s .args .profile) (now (s .args .word)) (length (now (s .args .first))) (length (now (s .args .second))))
+
+same-length : tie.Need-same-length
+same-length c = search needs
+
+same-length-2 : tie.Need-same-length-2
+same-length-2 c = search needs
+
+returns : tie.Need-returns
+returns c =
+    let d = c .before .before .before .before .before .decode in
+    (c .pack .ensures ∙ ap packed (d .ensures .answer), (d .ensures .first-out, d .ensures .second-out))
+
+pub fogzurt-decode-spec : {M : Type 1} → statement M
+fogzurt-decode-spec =
+    tie.close (tie.spec decode-requires pack-requires same-length same-length-2 returns)
