@@ -32,7 +32,12 @@ fn encode_number(answer: Encoded) -> u64
 
 // 01: Read.
 #[no_mangle]
-pub extern "C" fn fogzurt_decode(profile: usize, word: &[u8], first: &mut [u8], second: &mut [u8]) -> u64
+pub extern "C" fn fogzurt_decode(
+    profile: usize,
+    word: &[u8],
+    first: &mut [u8],
+    second: &mut [u8],
+) -> u64
     ensures { λ r. ⌜ r ≡ packed (report (decodeAnswer profile (now (word .entry)) (length (now (first .entry))) (length (now (second .entry))))) ⌝ }
     ensures { λ _. ⌜ now (first .exit) ≡ decodeOutput true (decodeAnswer profile (now (word .entry)) (length (now (first .entry))) (length (now (second .entry)))) (now (first .entry)) ⌝ }
     ensures { λ _. ⌜ now (second .exit) ≡ decodeOutput false (decodeAnswer profile (now (word .entry)) (length (now (first .entry))) (length (now (second .entry)))) (now (second .entry)) ⌝ }
@@ -82,7 +87,12 @@ pub extern "C" fn fogzurt_format(sheet: &mut [u8]) -> u64
 
 // 01: Enter.
 #[no_mangle]
-pub extern "C" fn fogzurt_enqueue(sheet: &mut [u8], boxno: usize, profile: usize, word: &[u8]) -> u64
+pub extern "C" fn fogzurt_enqueue(
+    sheet: &mut [u8],
+    boxno: usize,
+    profile: usize,
+    word: &[u8],
+) -> u64
     ensures { λ r. ⌜ r ≡ enqueueAnswer (now (sheet .entry)) boxno profile (now (word .entry)) ⌝ }
     ensures { λ _. ⌜ now (sheet .exit) ≡ enqueueQueue (now (sheet .entry)) boxno profile (now (word .entry)) ⌝ }
 {
