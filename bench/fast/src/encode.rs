@@ -1,0 +1,95 @@
+//! Encoding (01: write), in O(q·m).
+
+use coder::refusal::{require, Refusal};
+
+use crate::code::{dot, Code, Symbols, MAX_M, MAX_N};
+use crate::for_profile;
+
+/// Writes the encoded word of two messages. 01's refusals 1, 2 and 3, in this order.
+pub fn encode(profile: u64, first: &[u8], second: &[u8], out: &mut [u8]) -> Result<(), Refusal> {
+    for_profile!(profile, encode(first, second, out))
+}
+
+impl<const Q: usize, const R: usize, const N: usize> Code<Q, R, N> {
+    pub(crate) fn encode(first: &[u8], second: &[u8], out: &mut [u8]) -> Result<(), Refusal> {
+        require(first.len() == Self::K && second.len() == Self::K, Refusal::Length)?;
+        require(out.len() == Self::LENGTH, Refusal::Length)?;
+        require(Self::has_symbols(first) && Self::has_symbols(second), Refusal::Symbol)?;
+        let sums = Self::integrate(&Self::component(first), &Self::component(second));
+        let (s, v) = Self::first_balancing_choice(&sums);
+        Self::write_word(&sums, s, v, out);
+        Ok(())
+    }
+
+    /// 01: the half of a user word. The check symbols solve the check rows: the one at q^j, j ≥ 1,
+    /// is alone in row j, and the ones at 1 and 2 share row 0 and the last row.
+    fn component(message: &[u8]) -> [i16; MAX_N] {
+        let mut component = [0; MAX_N];
+        for (&position, &symbol) in Self::MESSAGE_POSITIONS.iter().zip(message) {
+            component[position - 1] = i16::from(symbol);
+        }
+        let symbols = &component[..Self::PADDED_N];
+        let row_sums =
+            Self::ROWS.each_ref().map(|row| Self::mod_q(dot(&row[..Self::PADDED_N], symbols)));
+        let (digit, mut sum) = (row_sums[0], row_sums[R - 1]);
+        let mut power = Q;
+        for row_sum in &row_sums[1..R - 1] {
+            let symbol = Self::reduce(-row_sum);
+            component[power - 1] = symbol;
+            sum = Self::mod_q(sum + symbol);
+            power *= Q;
+        }
+        component[1] = Self::reduce(sum - digit);
+        component[0] = Self::reduce(digit - 2 * sum);
+        component
+    }
+
+    /// w before balancing: the running sums of 0, b1, b′1, b2, b′2, .. mod q.
+    fn integrate(first: &[i16; MAX_N], second: &[i16; MAX_N]) -> Symbols {
+        let mut sums = [0; MAX_M];
+        let mut sum = 0;
+        for i in 0..N {
+            sums[2 * i + 1] = sum + first[i];
+            sum += first[i] + second[i];
+            sums[2 * i + 2] = sum;
+        }
+        for sum in &mut sums[..Self::M] {
+            *sum = Self::mod_q(*sum);
+        }
+        sums
+    }
+
+    /// The first (s, v) that balances. Adding s and 1 more from v on weighs, at v = 1, what adding
+    /// s + 1 does; going from v to v + 1 takes 1 from symbol v, or adds q − 1 where it was 0.
+    fn first_balancing_choice(sums: &Symbols) -> (i16, usize) {
+        let mut at_first: i16 = sums[..Self::M].iter().sum();
+        for s in 0..Q as i16 {
+            let wrapping = Q as i16 - 1 - s;
+            let wrapped: i16 = sums[..Self::M].iter().map(|&sum| i16::from(sum == wrapping)).sum();
+            at_first += Self::M as i16 - Q as i16 * wrapped;
+            let mut weight = at_first;
+            for (index, &sum) in sums[..Self::M].iter().enumerate() {
+                if weight == Self::BALANCING_VALUE {
+                    return (s, index + 1);
+                }
+                weight += if sum == wrapping { Q as i16 - 1 } else { -1 };
+            }
+        }
+        unreachable!("01: a balancing choice always exists")
+    }
+
+    /// w, then α and β.
+    fn write_word(sums: &Symbols, s: i16, v: usize, out: &mut [u8]) {
+        let mut w = [0; MAX_M];
+        for (index, (symbol, &sum)) in w[..Self::M].iter_mut().zip(sums).enumerate() {
+            let level = sum + s + i16::from(v <= index + 1);
+            *symbol = if level < Q as i16 { level } else { level - Q as i16 };
+        }
+        let [odd, even] = Self::parity_sums(&w);
+        for (byte, &symbol) in out.iter_mut().zip(&w[..Self::M]) {
+            *byte = symbol as u8;
+        }
+        out[Self::M] = Self::mod_q(odd + Self::DELTA) as u8;
+        out[Self::M + 1] = Self::mod_q(even) as u8;
+    }
+}

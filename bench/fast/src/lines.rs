@@ -1,0 +1,91 @@
+//! One line of the program boxlines: the answer to its bytes.
+
+use coder::decode::Decoded;
+use coder::refusal::{require, Refusal};
+
+use crate::code::highest;
+use crate::{decode, shape};
+
+/// The longest answer is profile 4's, as in `4 M 99 6 `, two messages of 45, a space and byte 10.
+pub const LONGEST_ANSWER: usize = 101;
+
+/// The longest message and word.
+const MESSAGE: usize = 45;
+const WORD: usize = 99;
+
+/// An answer line in the making.
+struct Answer<'a> {
+    bytes: &'a mut [u8; LONGEST_ANSWER],
+    length: usize,
+}
+
+/// Writes the answer to a line, byte 10 included, and gives its length. A line too long for the
+/// form may be handed over cut, as long as it stays too long.
+pub fn answer(line: &[u8], bytes: &mut [u8; LONGEST_ANSWER]) -> usize {
+    let mut answer = Answer { bytes, length: 0 };
+    if let Err(refusal) = answer.decoded(line) {
+        answer.length = 0;
+        answer.put(b"R ");
+        answer.number(usize::from(refusal.number()));
+    }
+    answer.put(b"\n");
+    answer.length
+}
+
+impl Answer<'_> {
+    fn put(&mut self, bytes: &[u8]) {
+        self.bytes[self.length..][..bytes.len()].copy_from_slice(bytes);
+        self.length += bytes.len();
+    }
+
+    /// A number below 100.
+    fn number(&mut self, number: usize) {
+        if number >= 10 {
+            self.put(&[b'0' + (number / 10) as u8]);
+        }
+        self.put(&[b'0' + (number % 10) as u8]);
+    }
+
+    /// A space and the digits of a message.
+    fn message(&mut self, message: &[u8]) {
+        self.put(b" ");
+        let digits = &mut self.bytes[self.length..][..message.len()];
+        for (digit, symbol) in digits.iter_mut().zip(message) {
+            *digit = b'0' + symbol;
+        }
+        self.length += message.len();
+    }
+
+    /// The answer to a good line.
+    fn decoded(&mut self, line: &[u8]) -> Result<(), Refusal> {
+        let [profile, b' ', digits @ ..] = line else {
+            return Err(Refusal::LineForm);
+        };
+        let digit = |byte: u8| byte.wrapping_sub(b'0');
+        let has_form = profile.is_ascii_digit() && (1..=WORD).contains(&digits.len());
+        require(has_form, Refusal::LineForm)?;
+        let mut word = [0; WORD];
+        let word = &mut word[..digits.len()];
+        for (symbol, &byte) in word.iter_mut().zip(digits) {
+            *symbol = digit(byte);
+        }
+        require(highest(word) <= 9, Refusal::LineForm)?;
+        let number = u64::from(digit(*profile));
+        let length = shape(number)?.message_length;
+        let (mut first, mut second) = ([0; MESSAGE], [0; MESSAGE]);
+        let (first, second) = (&mut first[..length], &mut second[..length]);
+        let decoded = decode(number, word, first, second)?;
+        self.put(&[*profile]);
+        match decoded {
+            Decoded::Clean => self.put(b" C 0 0"),
+            Decoded::Corrected { position, symbol } => {
+                self.put(b" M ");
+                self.number(position);
+                self.put(&[b' ', b'0' + symbol]);
+            }
+        }
+        self.message(first);
+        self.message(second);
+        Ok(())
+    }
+}

@@ -1,0 +1,39 @@
+//! How fast the static library and boxlines are, beside a coder written for speed (`fast`), in one
+//! run. A ratio is the fast coder's time over the library's: above 1.0 the library is faster.
+
+mod boxlines;
+mod coding;
+mod lines;
+mod race;
+mod sheets;
+
+use std::io;
+use std::process::ExitCode;
+
+const HEAD: &str = "\
+best of several turns, both coders by turns on the same inputs; ratio = fast / library
+buffers are lent as they are: no output is cleared between calls, by either coder
+";
+
+fn benchmark() -> io::Result<()> {
+    println!("{HEAD}");
+    coding::race_profiles();
+    sheets::race_capacities();
+    lines::race_programs()
+}
+
+fn main() -> ExitCode {
+    let arguments: Vec<String> = std::env::args().skip(1).collect();
+    let done = match arguments.iter().map(String::as_str).collect::<Vec<_>>()[..] {
+        [] => benchmark(),
+        [boxlines::ARGUMENT] => boxlines::run(io::stdin().lock(), io::stdout().lock()),
+        _ => Err(io::Error::other(format!("usage: bench [{}]", boxlines::ARGUMENT))),
+    };
+    match done {
+        Ok(()) => ExitCode::SUCCESS,
+        Err(error) => {
+            eprintln!("{error}");
+            ExitCode::FAILURE
+        }
+    }
+}

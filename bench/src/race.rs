@@ -1,0 +1,53 @@
+//! Two coders' times for the same operations.
+
+use std::time::{Duration, Instant};
+
+/// How often each coder has its turn.
+const TURNS: usize = 15;
+
+/// How long the work takes.
+pub fn time(work: impl FnOnce()) -> Duration {
+    let started = Instant::now();
+    work();
+    started.elapsed()
+}
+
+/// The best times of both coders for one operation, done `calls` times.
+pub struct Race {
+    fast: Duration,
+    library: Duration,
+    calls: usize,
+}
+
+impl Race {
+    /// Gives the coders their turns; a turn times each operation once, over all calls.
+    pub fn new<const OPERATIONS: usize>(
+        calls: [usize; OPERATIONS],
+        mut fast: impl FnMut() -> [Duration; OPERATIONS],
+        mut library: impl FnMut() -> [Duration; OPERATIONS],
+    ) -> [Race; OPERATIONS] {
+        let mut races =
+            calls.map(|calls| Race { fast: Duration::MAX, library: Duration::MAX, calls });
+        for _ in 0..TURNS {
+            for (race, (fast, library)) in races.iter_mut().zip(fast().into_iter().zip(library())) {
+                race.fast = race.fast.min(fast);
+                race.library = race.library.min(library);
+            }
+        }
+        races
+    }
+
+    /// Prints the times of a call and the ratio, and the library's time for each of `symbols`.
+    pub fn print(&self, operation: &str, symbols: Option<usize>) {
+        let nanoseconds = |time: Duration| time.as_nanos() as f64 / self.calls as f64;
+        let [fast, library] = [self.fast, self.library].map(nanoseconds);
+        print!("{operation:32} fast {fast:9.1} ns   library {library:9.1} ns   ");
+        println!("ratio {:5.2}{}", fast / library, by_symbol(library, symbols));
+    }
+}
+
+fn by_symbol(nanoseconds: f64, symbols: Option<usize>) -> String {
+    symbols.map_or_else(String::new, |symbols| {
+        format!("   library {:5.2} ns a symbol", nanoseconds / symbols as f64)
+    })
+}

@@ -1,0 +1,79 @@
+/* Encodes two messages, damages a symbol on the way, decodes the word, and keeps it on a sheet.
+ *
+ * At the top of the repository, after `rt staticlib ffi`:
+ *   cc -std=c11 -Iinclude examples/c/example.c target/staticlib/libffi.a -o target/example
+ *   target/example
+ */
+#include <stdio.h>
+#include <stdlib.h>
+
+#include "fogzurt.h"
+
+enum { PROFILE = 1, MESSAGE = 5, WORD = 19, BOX = 17, RECORDS = 4 };
+
+/* Ends the program where a call that has to succeed is refused. */
+static void expect_ok(const char *call, uint64_t number) {
+    if (number != FOGZURT_OK) {
+        fprintf(stderr, "%s was refused with number %u\n", call, (unsigned)number);
+        exit(EXIT_FAILURE);
+    }
+}
+
+/* Prints a label and symbols as digits. */
+static void print_symbols(const char *label, const uint8_t *symbols, size_t length) {
+    printf("%s", label);
+    for (size_t i = 0; i < length; i++) {
+        printf("%u", symbols[i]);
+    }
+    printf("\n");
+}
+
+/* Prints what decoding a word says about it, and its messages. */
+static void print_decoded(const uint8_t *word) {
+    uint8_t first[MESSAGE], second[MESSAGE];
+    uint64_t answer = fogzurt_decode(PROFILE, word, WORD, first, MESSAGE, second, MESSAGE);
+    if (FOGZURT_NUMBER(answer) != FOGZURT_OK) {
+        printf("  cannot be read: number %u\n", FOGZURT_NUMBER(answer));
+        return;
+    }
+    if (FOGZURT_KIND(answer) == FOGZURT_CORRECTED) {
+        printf("  corrected: a %u was sent at position %zu\n", FOGZURT_SENT_SYMBOL(answer),
+               FOGZURT_POSITION(answer));
+    } else {
+        printf("  clean: it arrived as it was sent\n");
+    }
+    print_symbols("  first message   ", first, MESSAGE);
+    print_symbols("  second message  ", second, MESSAGE);
+}
+
+/* Prints the box number and the word of a record that was copied out. */
+static void print_record(const char *label, const uint8_t *record) {
+    printf("%s box %u, profile %u, ", label, record[FOGZURT_RECORD_BOX],
+           record[FOGZURT_RECORD_PROFILE]);
+    print_symbols("word ", record + FOGZURT_RECORD_WORD, WORD);
+}
+
+int main(void) {
+    const uint8_t opening[MESSAGE] = {0, 0, 0, 0, 1}, seal[MESSAGE] = {0, 0, 0, 0, 0};
+    uint8_t word[WORD], sheet[FOGZURT_SHEET_BYTES(RECORDS)], record[FOGZURT_CELL];
+
+    expect_ok("fogzurt_encode",
+              fogzurt_encode(PROFILE, opening, MESSAGE, seal, MESSAGE, word, WORD));
+    print_symbols("sent              ", word, WORD);
+    print_decoded(word);
+
+    word[6 - 1] = 2; /* positions count from 1 */
+    print_symbols("received          ", word, WORD);
+    print_decoded(word);
+
+    expect_ok("fogzurt_format", fogzurt_format(sheet, sizeof sheet));
+    expect_ok("fogzurt_enqueue", fogzurt_enqueue(sheet, sizeof sheet, BOX, PROFILE, word, WORD));
+    expect_ok("fogzurt_peek", fogzurt_peek(sheet, sizeof sheet, 1, record, sizeof record));
+    print_record("on the sheet:    ", record);
+    expect_ok("fogzurt_dequeue", fogzurt_dequeue(sheet, sizeof sheet, record, sizeof record));
+    print_record("taken off:       ", record);
+
+    uint64_t number = fogzurt_peek(sheet, sizeof sheet, 1, record, sizeof record);
+    printf("a second look is refused with number %u: the sheet is empty\n", (unsigned)number);
+    return number == FOGZURT_NO_SUCH_RECORD ? EXIT_SUCCESS : EXIT_FAILURE;
+}

@@ -1,0 +1,68 @@
+//! Encoding and decoding by the library and by the separate coder.
+
+use coder::decode::Decoded;
+use coder::refusal::Refusal;
+use fogzurt::PackedAnswer;
+
+use crate::buffer::{Buffer, FILLER};
+use crate::mismatch::{compare, Checked};
+
+/// The separate coder's profiles and boxes are bytes. No number that is wider names one, and
+/// neither does 0.
+pub fn narrow(number: u64) -> u8 {
+    u8::try_from(number).unwrap_or(0)
+}
+
+/// 0, or the number of the refusal.
+pub fn number_of(answer: Result<(), Refusal>) -> u64 {
+    answer.map_or_else(|refusal| u64::from(refusal.number()), |()| 0)
+}
+
+/// What decoding has to answer, packed.
+pub fn packed(answer: Result<Decoded, Refusal>) -> PackedAnswer {
+    match answer {
+        Err(refusal) => PackedAnswer::refused(refusal.number()),
+        Ok(Decoded::Clean) => PackedAnswer::clean(),
+        Ok(Decoded::Corrected { position, symbol }) => PackedAnswer::corrected(position, symbol),
+    }
+}
+
+/// Encodes into an output of this length.
+pub fn encode(profile: u64, messages: [&[u8]; 2], length: usize) -> Checked {
+    let [first, second] = messages.map(Buffer::new);
+    let mut out = Buffer::output(length);
+    let mut expected_out = vec![FILLER; length];
+    let library = fogzurt::encode(profile, first.lent(), second.lent(), out.lent_mut());
+    let [a, b] = messages;
+    let expected = number_of(coder::encode::encode(narrow(profile), a, b, &mut expected_out));
+    compare(
+        || format!("encode {profile}, {a:?}, {b:?}, into {length} bytes"),
+        [library, expected],
+        &[("first", &first, a), ("second", &second, b), ("out", &out, &expected_out)],
+    )
+}
+
+/// Decodes into outputs of these lengths; what is right is found by the separate coder's search.
+pub fn decode(profile: u64, word: &[u8], lengths: [usize; 2]) -> Checked {
+    let [mut first, mut second] = lengths.map(|length| vec![FILLER; length]);
+    let expected = coder::decode::decode(narrow(profile), word, &mut first, &mut second);
+    decode_to(profile, word, packed(expected), [&first, &second])
+}
+
+/// Decodes, where it is known what is right: the answer, and what both outputs then hold.
+pub fn decode_to(
+    profile: u64,
+    word: &[u8],
+    expected: PackedAnswer,
+    outputs: [&[u8]; 2],
+) -> Checked {
+    let received = Buffer::new(word);
+    let [mut first, mut second] = outputs.map(|output| Buffer::output(output.len()));
+    let library = fogzurt::decode(profile, received.lent(), first.lent_mut(), second.lent_mut());
+    let [a, b] = outputs;
+    compare(
+        || format!("decode {profile}, {word:?}, into {} and {} bytes", a.len(), b.len()),
+        [library, expected],
+        &[("word", &received, word), ("first", &first, a), ("second", &second, b)],
+    )
+}

@@ -1,0 +1,77 @@
+//! Encoding and decoding with every fault of their arguments, alone and together.
+
+use coder::codeword::codewords;
+use coder::decode::replaced;
+use coder::profile::{Profile, PROFILES};
+use coder::rng::Rng;
+
+use crate::calls::{decode, encode};
+use crate::mismatch::Checked;
+use crate::parallel::sum_of_jobs;
+
+/// The profiles, and numbers that name none. Cut to 8, 16 or 32 bits many of them would.
+#[rustfmt::skip]
+pub const NUMBERS: [u64; 22] = [
+    0, 1, 2, 3, 4, 5, 9, 255, 256, 257, 258, 259, 260, (1 << 16) + 2,
+    (1 << 32) + 1, (1 << 32) + 2, (1 << 32) + 3, (1 << 32) + 4,
+    1 << 63, (1 << 63) + 1, (1 << 63) + 4, u64::MAX,
+];
+
+/// An oversize buffer.
+const OVERSIZE: usize = 1000;
+
+pub fn check() -> Checked<String> {
+    let calls: usize = sum_of_jobs("refusals", NUMBERS.len() * PROFILES.len(), |job| {
+        let number = NUMBERS[job / PROFILES.len()];
+        let profile = &PROFILES[job % PROFILES.len()];
+        let rng = &mut Rng::new(job as u64);
+        Ok(check_encode(number, profile, rng)? + check_decode(number, profile, rng)?)
+    })?;
+    Ok(format!("refusals: {calls} calls with profiles, lengths and symbols of every kind"))
+}
+
+/// The right length, wrong ones, none and far too much.
+fn lengths(right: usize) -> [usize; 5] {
+    [right, right - 1, right + 1, 0, OVERSIZE]
+}
+
+/// A word of the right length, wrong ones, and right ones with a symbol out of range at either end.
+fn faulty(q: u8, word: &[u8]) -> Vec<Vec<u8>> {
+    let resized = lengths(word.len()).into_iter().map(|length| {
+        let mut resized = word.to_vec();
+        resized.resize(length, 0);
+        resized
+    });
+    let out_of_range = [q, 255]
+        .into_iter()
+        .flat_map(|symbol| [1, word.len()].map(|position| replaced(word, position, symbol)));
+    resized.chain(out_of_range).collect()
+}
+
+fn check_encode(number: u64, profile: &Profile, rng: &mut Rng) -> Checked<usize> {
+    let [first, second] = rng.messages(profile).map(|message| faulty(profile.q, &message));
+    let mut calls = 0;
+    for first in &first {
+        for second in &second {
+            for length in lengths(profile.word_length()) {
+                encode(number, [first, second], length)?;
+                calls += 1;
+            }
+        }
+    }
+    Ok(calls)
+}
+
+fn check_decode(number: u64, profile: &Profile, rng: &mut Rng) -> Checked<usize> {
+    let (_, codeword) = &codewords(profile, &rng.messages(profile))[0];
+    let mut calls = 0;
+    for word in faulty(profile.q, codeword) {
+        for first in lengths(profile.k()) {
+            for second in lengths(profile.k()) {
+                decode(number, &word, [first, second])?;
+                calls += 1;
+            }
+        }
+    }
+    Ok(calls)
+}
