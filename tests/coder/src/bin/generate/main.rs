@@ -24,8 +24,8 @@ type Destination = (&'static str, &'static str, fn() -> CaseFile);
 
 #[rustfmt::skip]
 const DESTINATIONS: &[Destination] = &[
-    ("crates/encode_cases/stdin", "crates/encode_cases/stdout", pairs::make),
-    ("crates/decode_cases/stdin", "crates/decode_cases/stdout", words::make),
+    ("crates/codec_cases/stdin", "crates/codec_cases/stdout", pairs::make),
+    ("crates/codec_cases/data/words", "crates/codec_cases/stdout", words::make),
     ("crates/queue_cases/stdin", "crates/queue_cases/stdout", sheets::make),
     ("crates/boxlines/stdin", "crates/boxlines/stdout", line_endings::example),
     ("crates/lines_cases/stdin", "crates/lines_cases/stdout", line_forms::make),

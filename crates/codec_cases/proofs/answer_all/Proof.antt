@@ -1,0 +1,60 @@
+-- `codec_cases::answer_all` is safe and ends. The measure is what is left of the input.
+-- Assumes nothing.
+use Prim.Native.Nat.{_-_}
+use lib.ListN.{length}
+use borrow.Author.Needs.{needs}
+use Rattle.codec_cases.proofs.answer_all.Statement.{statement}
+use Rattle.codec_cases.proofs.answer_all.Tie as tie
+
+abbrev Inv-loop : tie.InvT-loop
+Inv-loop input is-words from₀ from = Unit {0}
+
+abbrev μ-loop : tie.MeasureT-loop
+μ-loop input is-words from₀ from = length input - from
+
+loop-holds : tie.Need-loop-holds Inv-loop μ-loop
+loop-holds c = search needs
+
+until-requires : tie.Need-until-requires Inv-loop μ-loop
+until-requires c κs = search needs
+
+sub-answer : tie.Need-sub-answer Inv-loop μ-loop
+sub-answer c = search needs
+
+part-answer-start : tie.Need-part-answer-start Inv-loop μ-loop
+part-answer-start c = search needs
+
+part-answer-end : tie.Need-part-answer-end Inv-loop μ-loop
+part-answer-end c = search needs
+
+answer-requires : tie.Need-answer-requires Inv-loop μ-loop
+answer-requires c κs = search needs
+
+add-from : tie.Need-add-from Inv-loop μ-loop
+add-from c = search needs
+
+loop-less : tie.Need-loop-less Inv-loop μ-loop
+loop-less c = search needs
+
+loop-again : tie.Need-loop-again Inv-loop μ-loop
+loop-again c = search needs
+
+returns : tie.Need-returns Inv-loop μ-loop
+returns c = search needs
+
+pub answer-all-spec : {M : Type 1} → statement M
+answer-all-spec =
+    tie.close
+    (tie.spec
+    Inv-loop
+    μ-loop
+    loop-holds
+    until-requires
+    sub-answer
+    part-answer-start
+    part-answer-end
+    answer-requires
+    add-from
+    loop-less
+    loop-again
+    returns)

@@ -1,0 +1,92 @@
+-- `codec_cases::answer_word` is safe: the parts that are lent lie within their arrays.
+-- Assumes nothing.
+use borrow.Author.Needs.{needs}
+use mathlib.Core.Path.{sym}
+use lib.Seq.{length-take-le}
+use Rattle.codec_cases.proofs.answer_word.Statement.{statement}
+use Rattle.codec_cases.proofs.answer_word.Tie as tie
+
+field-requires : tie.Need-field-requires
+field-requires c κs = search needs
+
+slice-aggregate-symbols : tie.Need-slice-aggregate-symbols
+slice-aggregate-symbols c = search needs
+
+symbols-requires : tie.Need-symbols-requires
+symbols-requires c κs = search needs
+
+least-requires : tie.Need-least-requires
+least-requires c κs = search needs
+
+field-requires-2 : tie.Need-field-requires-2
+field-requires-2 c κs = search needs
+
+number-requires : tie.Need-number-requires
+number-requires c κs = search needs
+
+least-requires-2 : tie.Need-least-requires-2
+least-requires-2 c κs = search needs
+
+field-requires-3 : tie.Need-field-requires-3
+field-requires-3 c κs = search needs
+
+number-requires-2 : tie.Need-number-requires-2
+number-requires-2 c κs = search needs
+
+least-requires-3 : tie.Need-least-requires-3
+least-requires-3 c κs = search needs
+
+field-requires-4 : tie.Need-field-requires-4
+field-requires-4 c κs = search needs
+
+number-requires-3 : tie.Need-number-requires-3
+number-requires-3 c κs = search needs
+
+array-share-prefix-word : tie.Need-array-share-prefix-word
+array-share-prefix-word c = search needs
+
+slice-aggregate-decode-and-print : tie.Need-slice-aggregate-decode-and-print
+slice-aggregate-decode-and-print c = sym (length-take-le _ _ (rw (c .before .before .before .before .before .before .before .before .before .before .before .symbols .kept .1 .0) (c .before .before .before .before .before .before .before .before .before .least .ensures .1)))
+
+array-borrow-prefix-first : tie.Need-array-borrow-prefix-first
+array-borrow-prefix-first c = search needs
+
+slice-aggregate-decode-and-print-2 : tie.Need-slice-aggregate-decode-and-print-2
+slice-aggregate-decode-and-print-2 c = sym (length-take-le _ _ (c .before .before .before .before .before .before .before .least2 .ensures .1))
+
+array-borrow-prefix-second : tie.Need-array-borrow-prefix-second
+array-borrow-prefix-second c = search needs
+
+slice-aggregate-decode-and-print-3 : tie.Need-slice-aggregate-decode-and-print-3
+slice-aggregate-decode-and-print-3 c = sym (length-take-le _ _ (c .before .before .before .before .before .least3 .ensures .1))
+
+decode-and-print-requires : tie.Need-decode-and-print-requires
+decode-and-print-requires c κs = search needs
+
+returns : tie.Need-returns
+returns c = search needs
+
+pub answer-word-spec : {M : Type 1} → statement M
+answer-word-spec =
+    tie.close
+    (tie.spec
+    field-requires
+    slice-aggregate-symbols
+    symbols-requires
+    least-requires
+    field-requires-2
+    number-requires
+    least-requires-2
+    field-requires-3
+    number-requires-2
+    least-requires-3
+    field-requires-4
+    number-requires-3
+    array-share-prefix-word
+    slice-aggregate-decode-and-print
+    array-borrow-prefix-first
+    slice-aggregate-decode-and-print-2
+    array-borrow-prefix-second
+    slice-aggregate-decode-and-print-3
+    decode-and-print-requires
+    returns)

@@ -1,0 +1,124 @@
+// Runs encode and decode on stored cases (tests/README.md: pairs, words). Pairs come on standard input, a line `profile first second length`
+// each, and the answer is the word. Words are in the file `words`, a line `profile word first_length second_length` each, and the answer is
+// `C 0 0 first second` or `M place symbol first second`. A refusal is `R number`.
+mod show;
+mod text;
+
+use codec::Decoded;
+use codec::Encoded;
+use libc::STDIN_FILENO;
+use libc::STDOUT_FILENO;
+use show::FILL;
+use show::is_untouched;
+use show::print_refusal;
+use show::print_word;
+use text::field;
+use text::least;
+use text::number;
+use text::symbols;
+use text::until;
+
+// Encodes into the output, and prints the word or the refusal.
+fn encode_and_print(profile: usize, first: &[u8], second: &[u8], out: &mut [u8]) {
+    let answer = codec::encode(profile, first, second, out);
+    match answer {
+        Encoded::Done => {
+            print_word(out);
+            io::write_all(STDOUT_FILENO, b"\n");
+        }
+        Encoded::Refused(number) => print_refusal(number, is_untouched(out)),
+    }
+}
+
+fn print_pair(first: &[u8], second: &[u8]) {
+    io::write_all(STDOUT_FILENO, b" ");
+    print_word(first);
+    io::write_all(STDOUT_FILENO, b" ");
+    print_word(second);
+    io::write_all(STDOUT_FILENO, b"\n");
+}
+
+fn print_corrected(position: usize, symbol: u8) {
+    io::write_all(STDOUT_FILENO, b"M ");
+    io::print_decimal(STDOUT_FILENO, position as u64);
+    io::write_all(STDOUT_FILENO, b" ");
+    io::print_decimal(STDOUT_FILENO, symbol as u64);
+}
+
+fn print_unread(number: u8, first: &[u8], second: &[u8]) {
+    print_refusal(number, is_untouched(first) && is_untouched(second));
+}
+
+// Decodes into the outputs, and prints the answer and the messages, or the refusal.
+fn decode_and_print(profile: usize, word: &[u8], first: &mut [u8], second: &mut [u8]) {
+    let answer = codec::decode(profile, word, first, second);
+    match answer {
+        Decoded::Clean => {
+            io::write_all(STDOUT_FILENO, b"C 0 0");
+            print_pair(first, second);
+        }
+        Decoded::Corrected(position, symbol) => {
+            print_corrected(position, symbol);
+            print_pair(first, second);
+        }
+        Decoded::Unreadable => print_unread(4, first, second),
+        Decoded::Refused(number) => print_unread(number, first, second),
+    }
+}
+
+fn answer_pair(line: &[u8]) {
+    let mut first = [0u8; 64];
+    let a = least(symbols(field(line, 1), &mut first), 64);
+    let mut second = [0u8; 64];
+    let b = least(symbols(field(line, 2), &mut second), 64);
+    let mut out = [FILL; 128];
+    let n = least(number(field(line, 3)), 128);
+    let profile = number(field(line, 0));
+    encode_and_print(profile, &first[..a], &second[..b], &mut out[..n]);
+}
+
+fn answer_word(line: &[u8]) {
+    let mut word = [0u8; 128];
+    let n = least(symbols(field(line, 1), &mut word), 128);
+    let mut first = [FILL; 64];
+    let k = least(number(field(line, 2)), 64);
+    let mut second = [FILL; 64];
+    let l = least(number(field(line, 3)), 64);
+    let profile = number(field(line, 0));
+    decode_and_print(profile, &word[..n], &mut first[..k], &mut second[..l]);
+}
+
+fn answer(line: &[u8], is_words: bool) {
+    if is_words {
+        answer_word(line);
+    } else {
+        answer_pair(line);
+    }
+}
+
+// Answers each line, of pairs or of words.
+fn answer_all(input: &[u8], is_words: bool) {
+    let mut from = 0;
+    while from < input.len() {
+        let end = until(input, from, b'\n');
+        answer(&input[from..end], is_words);
+        from = end + 1;
+    }
+}
+
+fn run(fd: i32, is_words: bool) {
+    let mut input = [0u8; 393216];
+    let n = io::read_full(fd, &mut input);
+    answer_all(&input[..n], is_words);
+}
+
+fn main() {
+    run(STDIN_FILENO, false);
+    let fd = os::open_read(b"words");
+    if fd < 0 {
+        os::fail(b"words");
+        return;
+    }
+    run(fd, true);
+    libc::close(fd);
+}
