@@ -88,17 +88,21 @@ mod tests {
         }
     }
 
+    /// The inputs stand in the crate of the program that the gate runs on them; their answers
+    /// follow each other in its `stdout`.
     #[test]
     fn every_stored_input_is_answered_however_it_is_cut() {
-        let folder = concat!(env!("CARGO_MANIFEST_DIR"), "/../tests/vectors");
-        for number in 1..=15 {
-            let read = |end: &str| std::fs::read(format!("{folder}/lines-{number}.{end}")).unwrap();
-            let (input, expected) = (read("in"), read("out"));
-            for piece in [1, 7, 101, 4096] {
-                let mut output = Vec::new();
-                run(Pieces(&input, piece), &mut output).unwrap();
-                assert!(output == expected, "lines-{number} in pieces of {piece}");
+        let folder = concat!(env!("CARGO_MANIFEST_DIR"), "/../crates/lines_cases");
+        let read = |name: &str| std::fs::read(format!("{folder}/{name}")).unwrap();
+        let endings = (2..=15).map(|number| format!("data/{number:02}"));
+        let inputs: Vec<_> =
+            [String::from("stdin")].into_iter().chain(endings).map(|name| read(&name)).collect();
+        for piece in [1, 7, 101, 4096] {
+            let mut output = Vec::new();
+            for input in &inputs {
+                run(Pieces(input, piece), &mut output).unwrap();
             }
+            assert!(output == read("stdout"), "in pieces of {piece}");
         }
     }
 }

@@ -1,4 +1,4 @@
-// Runs the stored inputs of the line program (tests/vectors/lines-1 to 15) through `lines`, cut into pieces of seven bytes,
+// Runs the stored inputs of the line program (tests/README.md: lines) through `lines`, cut into pieces of seven bytes,
 // into outputs of three. The first comes on standard input, and the others are files that differ in how they end.
 use libc::STDIN_FILENO;
 use libc::STDOUT_FILENO;
