@@ -20,7 +20,8 @@ pub struct Race {
 }
 
 impl Race {
-    /// Gives the coders their turns; a turn times each operation once, over all calls.
+    /// Gives the coders their turns; a turn times each operation once, over all calls. The first
+    /// turn is not counted: it meets memory that was just made.
     pub fn new<const OPERATIONS: usize>(
         calls: [usize; OPERATIONS],
         mut fast: impl FnMut() -> [Duration; OPERATIONS],
@@ -28,8 +29,9 @@ impl Race {
     ) -> [Race; OPERATIONS] {
         let mut races =
             calls.map(|calls| Race { fast: Duration::MAX, library: Duration::MAX, calls });
-        for _ in 0..TURNS {
-            for (race, (fast, library)) in races.iter_mut().zip(fast().into_iter().zip(library())) {
+        for turn in 0..=TURNS {
+            let times = fast().into_iter().zip(library());
+            for (race, (fast, library)) in races.iter_mut().zip(times).filter(|_| turn > 0) {
                 race.fast = race.fast.min(fast);
                 race.library = race.library.min(library);
             }

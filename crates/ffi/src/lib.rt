@@ -4,13 +4,11 @@ ghost use mathlib.Core.Bool.{true, false};
 ghost use lib.ListN.{length};
 ghost use Rattle.code.specs.Operations.{encodeRefusal, encodeOutput, decodeAnswer, decodeOutput, report};
 ghost use Rattle.sheet.specs.Operations.{formatAnswer, formatQueue, enqueueAnswer, enqueueQueue, peekAnswer, peekOutput, dequeueAnswer, dequeueQueue, dequeueOutput};
-ghost use Rattle.queue.specs.Answer.{numberOf};
 ghost use Rattle.codec.specs.Answer.{encodedNumber};
 ghost use Rattle.codec.specs.Decode.{decodedReport};
 ghost use Rattle.ffi.specs.Packed.{packed, Within};
 use codec::Decoded;
 use codec::Encoded;
-use queue::Answer;
 
 // 01: Write.
 #[no_mangle]
@@ -60,29 +58,13 @@ fn pack(answer: Decoded) -> u64
     }
 }
 
-fn queue_number(answer: Answer) -> u64
-    ensures { λ r. ⌜ r ≡ numberOf answer ⌝ }
-{
-    match answer {
-        Answer::Done => 0,
-        Answer::NoProfile => 1,
-        Answer::Length => 2,
-        Answer::Symbol => 3,
-        Answer::QueueLength => 5,
-        Answer::Unsound => 6,
-        Answer::BoxNumber => 7,
-        Answer::Full => 8,
-        Answer::NoRecord => 10,
-    }
-}
-
 // 01: Lay out.
 #[no_mangle]
 pub extern "C" fn fogzurt_format(sheet: &mut [u8]) -> u64
     ensures { λ r. ⌜ r ≡ formatAnswer (now (sheet .entry)) ⌝ }
     ensures { λ _. ⌜ now (sheet .exit) ≡ formatQueue (now (sheet .entry)) ⌝ }
 {
-    queue_number(queue::format(sheet))
+    queue::number(queue::format(sheet))
 }
 
 // 01: Enter.
@@ -96,7 +78,7 @@ pub extern "C" fn fogzurt_enqueue(
     ensures { λ r. ⌜ r ≡ enqueueAnswer (now (sheet .entry)) boxno profile (now (word .entry)) ⌝ }
     ensures { λ _. ⌜ now (sheet .exit) ≡ enqueueQueue (now (sheet .entry)) boxno profile (now (word .entry)) ⌝ }
 {
-    queue_number(queue::enqueue(sheet, boxno, profile, word))
+    queue::number(queue::enqueue(sheet, boxno, profile, word))
 }
 
 // 01: Look.
@@ -105,7 +87,7 @@ pub extern "C" fn fogzurt_peek(sheet: &[u8], number: usize, out: &mut [u8]) -> u
     ensures { λ r. ⌜ r ≡ peekAnswer (now (sheet .entry)) number (now (out .entry)) ⌝ }
     ensures { λ _. ⌜ now (out .exit) ≡ peekOutput (now (sheet .entry)) number (now (out .entry)) ⌝ }
 {
-    queue_number(queue::peek(sheet, number, out))
+    queue::number(queue::peek(sheet, number, out))
 }
 
 // 01: Take off.
@@ -115,5 +97,5 @@ pub extern "C" fn fogzurt_dequeue(sheet: &mut [u8], out: &mut [u8]) -> u64
     ensures { λ _. ⌜ now (sheet .exit) ≡ dequeueQueue (now (sheet .entry)) (now (out .entry)) ⌝ }
     ensures { λ _. ⌜ now (out .exit) ≡ dequeueOutput (now (sheet .entry)) (now (out .entry)) ⌝ }
 {
-    queue_number(queue::dequeue(sheet, out))
+    queue::number(queue::dequeue(sheet, out))
 }

@@ -1,6 +1,6 @@
 pub mod Bytes
 pub mod Conditions
-pub mod Walks
-pub mod Tallies
+pub mod Checking
+pub mod Refusing
 pub mod Stores
 pub mod Told

@@ -23,7 +23,7 @@ use Rattle.sheet.proofs.Lists.{Lists, lists-of, used-in, free-in}
 use Rattle.sheet.proofs.Answers.{Entering}
 use Rattle.sheet.proofs.Laws.{parts, lists-before, lists-first, first-parts}
 use Rattle.sheet.proofs.Enqueue as enq
-use Rattle.queue.proofs.Bytes.{part}
+use Rattle.soundness.proofs.Bytes.{part}
 
 -- one more link
 pub link-on : (s : List ℕ) (i n : ℕ) → i < n → linked s i (n - i) ≡ linked (set s (i * 104) (i + 1)) (i + 1) (n - (i + 1))
@@ -114,9 +114,6 @@ module _ (s : List ℕ) (b p : ℕ) (w : List ℕ) (e : Entering s b p w) where
 
   pub cell-fits : (firstFree s + 1) * 104 ≤ length s
   cell-fits = omega (arith, free-in ls (firstFree s) (in-here (firstFree s) (parts s b p w e .0)) .1, ls .size .long)
-
-  pub cell-nonzero : firstFree s ≢ 0
-  cell-nonzero = e .room
 
   pub last-fits : (lastUsed s + 1) * 104 ≤ length s
   unfolding lastUsed

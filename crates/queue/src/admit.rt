@@ -1,59 +1,43 @@
 // What the operations refuse, in 01's order.
 use crate::Answer;
-use crate::follow::cell_of;
-use crate::profile::look_up;
-use crate::scan::all_below;
-use crate::scan::between;
-use crate::sound::is_length;
-use crate::sound::is_sound;
+use soundness::Checked;
+use symbols::row_of;
+use symbols::symbols_below;
 ghost use mathlib.Core.Path.{_≡_};
-ghost use Rattle.sheet.specs.Operations.{enqueueAnswer, peekAnswer};
+ghost use mathlib.Core.Bool.{true};
+ghost use Rattle.sheet.specs.Operations.{enqueueRefusal};
 ghost use Rattle.queue.specs.Answer.{numberOf};
+ghost use Rattle.queue.specs.Refusal.{refusalOf};
 
-// What enqueue answers.
-pub(crate) fn admit(queue: &[u8], boxno: usize, profile: usize, word: &[u8]) -> Answer
-    ensures { λ r. ⌜ numberOf r ≡ enqueueAnswer (now (queue .entry)) boxno profile (now (word .entry)) ⌝ }
+// What every operation answers for a queue that is not sound: 5 or 6.
+pub(crate) fn refuse(checked: Checked) -> Answer
+    ensures { λ r. ⌜ numberOf r ≡ refusalOf checked ⌝ }
 {
-    if !is_length(queue.len()) {
-        return Answer::QueueLength;
+    match checked {
+        Checked::WrongLength => Answer::QueueLength,
+        Checked::Unsound => Answer::Unsound,
+        Checked::Sound(_, _) => Answer::Done,
     }
-    if !is_sound(queue) {
-        return Answer::Unsound;
-    }
-    if !between(boxno, 1, 40) {
-        return Answer::BoxNumber;
-    }
-    if !between(profile, 1, 4) {
-        return Answer::NoProfile;
-    }
-    let row = look_up(profile);
-    if word.len() != row.length {
-        return Answer::Length;
-    }
-    if !all_below(word, row.levels) {
-        return Answer::Symbol;
-    }
-    if queue[1] == 0 {
-        return Answer::Full;
-    }
-    Answer::Done
 }
 
-// What peek answers.
-pub(crate) fn find(queue: &[u8], number: usize, out: &[u8]) -> Answer
-    ensures { λ r. ⌜ numberOf r ≡ peekAnswer (now (queue .entry)) number (now (out .entry)) ⌝ }
+// What enqueue answers for a record, where there is room for it.
+pub(crate) fn admit(boxno: usize, profile: usize, word: &[u8]) -> Answer
+    ensures { λ r. ⌜ numberOf r ≡ enqueueRefusal true boxno profile (now (word .entry)) ⌝ }
 {
-    if !is_length(queue.len()) {
-        return Answer::QueueLength;
+    let is_box = (1 <= boxno) & (boxno <= 40);
+    if !is_box {
+        return Answer::BoxNumber;
     }
-    if !is_sound(queue) {
-        return Answer::Unsound;
+    let is_profile = (1 <= profile) & (profile <= 4);
+    if !is_profile {
+        return Answer::NoProfile;
     }
-    if out.len() != 104 {
+    let row = row_of(profile);
+    if word.len() != row.codeword {
         return Answer::Length;
     }
-    if cell_of(queue, number) == 0 {
-        return Answer::NoRecord;
+    if !symbols_below(word, row.q) {
+        return Answer::Symbol;
     }
     Answer::Done
 }

@@ -1,15 +1,15 @@
 // Writes to the cells of a queue, each of a whole operation that has been admitted.
-use crate::follow::last_used;
 use crate::scan::clear;
 use crate::scan::copy;
 use crate::scan::wide;
-use crate::sound::capacity;
+use soundness::capacity;
 ghost use mathlib.Core.Path.{_≡_};
 ghost use mathlib.Core.Logic.{_≢_};
 ghost use Prim.Native.Nat.{_+_, _-_, _*_, _≤_};
 ghost use lib.Dec.{T};
 ghost use lib.ListN.{length};
 ghost use Rattle.sheet.specs.Layout.{isQueueLength, capacity, next};
+ghost use Rattle.sheet.specs.Chains.{lastUsed};
 ghost use Rattle.sheet.specs.Sound.{Queue};
 ghost use Rattle.sheet.specs.Operations.{linked, enqueueAnswer, enqueued, shown, dequeued};
 
@@ -38,17 +38,17 @@ pub(crate) fn show(queue: &[u8], cell: usize, out: &mut [u8])
     out[0] = 0;
 }
 
-// Puts a record into the first free cell, and that cell at the end of the used list. The cell's zeros after the word stay.
-pub(crate) fn store(queue: &mut [u8], boxno: u8, profile: u8, word: &[u8])
-    requires { ⌜ enqueueAnswer (now queue) boxno profile (now word) ≡ 0 ⌝ }
+// Puts a record into the first free cell, and that cell after the last used one. The cell's zeros after the word stay.
+pub(crate) fn store(queue: &mut [u8], last: usize, boxno: u8, profile: u8, word: &[u8])
+    requires { ⌜ (enqueueAnswer (now queue) boxno profile (now word) ≡ 0) × (last ≡ lastUsed (now queue)) ⌝ }
     ensures { λ _. ⌜ now (queue .exit) ≡ enqueued (now (queue .entry)) boxno profile (now (word .entry)) ⌝ }
 {
     let first = queue[1];
     let at = wide(first) * 104;
-    let last = last_used(queue) * 104;
+    let end = last * 104;
     queue[1] = queue[at];
     queue[at] = 0;
-    queue[last] = first;
+    queue[end] = first;
     queue[at + 1] = boxno;
     queue[at + 2] = profile;
     let from = at + 3;

@@ -2,11 +2,10 @@
 // What each operation answers and leaves is defined in crate `sheet`, and so is the list rule that these definitions meet.
 mod admit;
 mod cell;
-mod follow;
-mod profile;
 mod scan;
-mod sound;
 
+use soundness::Checked;
+use soundness::check;
 ghost use mathlib.Core.Path.{_≡_};
 ghost use Rattle.sheet.specs.Operations.{formatAnswer, formatQueue, enqueueAnswer, enqueueQueue, peekAnswer, peekOutput, dequeueAnswer, dequeueQueue, dequeueOutput};
 ghost use Rattle.queue.specs.Answer.{numberOf};
@@ -32,12 +31,29 @@ pub enum Answer {
     NoRecord,
 }
 
+// 01's number of an answer; 0 where the operation succeeds.
+pub fn number(answer: Answer) -> u64
+    ensures { λ r. ⌜ r ≡ numberOf answer ⌝ }
+{
+    match answer {
+        Answer::Done => 0,
+        Answer::NoProfile => 1,
+        Answer::Length => 2,
+        Answer::Symbol => 3,
+        Answer::QueueLength => 5,
+        Answer::Unsound => 6,
+        Answer::BoxNumber => 7,
+        Answer::Full => 8,
+        Answer::NoRecord => 10,
+    }
+}
+
 // Lays out an empty queue (01: lay out) that takes all the bytes.
 pub fn format(queue: &mut [u8]) -> Answer
     ensures { λ r. ⌜ numberOf r ≡ formatAnswer (now (queue .entry)) ⌝ }
     ensures { λ _. ⌜ now (queue .exit) ≡ formatQueue (now (queue .entry)) ⌝ }
 {
-    if !sound::is_length(queue.len()) {
+    if !soundness::is_length(queue.len()) {
         return Answer::QueueLength;
     }
     scan::clear(queue);
@@ -51,11 +67,20 @@ pub fn enqueue(queue: &mut [u8], boxno: usize, profile: usize, word: &[u8]) -> A
     ensures { λ r. ⌜ numberOf r ≡ enqueueAnswer (now (queue .entry)) boxno profile (now (word .entry)) ⌝ }
     ensures { λ _. ⌜ now (queue .exit) ≡ enqueueQueue (now (queue .entry)) boxno profile (now (word .entry)) ⌝ }
 {
-    let admitted = admit::admit(queue, boxno, profile, word);
+    // no list has more than 255 cells, so this leads to the last one
+    let checked = check(queue, 255);
+    let Checked::Sound(last, _) = checked else {
+        return admit::refuse(checked);
+    };
+    let admitted = admit::admit(boxno, profile, word);
     let Answer::Done = admitted else {
         return admitted;
     };
-    cell::store(queue, boxno as u8, profile as u8, word);
+    let room = queue[1] != 0;
+    if !room {
+        return Answer::Full;
+    }
+    cell::store(queue, last, boxno as u8, profile as u8, word);
     Answer::Done
 }
 
@@ -64,11 +89,18 @@ pub fn peek(queue: &[u8], number: usize, out: &mut [u8]) -> Answer
     ensures { λ r. ⌜ numberOf r ≡ peekAnswer (now (queue .entry)) number (now (out .entry)) ⌝ }
     ensures { λ _. ⌜ now (out .exit) ≡ peekOutput (now (queue .entry)) number (now (out .entry)) ⌝ }
 {
-    let found = admit::find(queue, number, out);
-    let Answer::Done = found else {
-        return found;
+    let checked = check(queue, number);
+    let Checked::Sound(cell, records) = checked else {
+        return admit::refuse(checked);
     };
-    cell::show(queue, follow::cell_of(queue, number), out);
+    if out.len() != 104 {
+        return Answer::Length;
+    }
+    let found = (1 <= number) & (number <= records);
+    if !found {
+        return Answer::NoRecord;
+    }
+    cell::show(queue, cell, out);
     Answer::Done
 }
 

@@ -5,27 +5,7 @@ use crate::text::fill;
 use crate::text::number;
 use crate::text::print;
 use crate::text::unhex;
-use queue::Answer;
-ghost use mathlib.Core.Path.{_≡_};
 ghost use Prim.Native.Nat.{_≤_};
-ghost use Rattle.queue.specs.Answer.{numberOf};
-
-// 01's number of an answer.
-fn code(a: Answer) -> u64
-    ensures { λ r. ⌜ r ≡ numberOf a ⌝ }
-{
-    match a {
-        Answer::Done => 0,
-        Answer::NoProfile => 1,
-        Answer::Length => 2,
-        Answer::Symbol => 3,
-        Answer::QueueLength => 5,
-        Answer::Unsound => 6,
-        Answer::BoxNumber => 7,
-        Answer::Full => 8,
-        Answer::NoRecord => 10,
-    }
-}
 
 // The lesser of two.
 fn least(a: usize, b: usize) -> usize
@@ -48,7 +28,7 @@ fn blank(queue: &mut [u8]) {
 
 fn format(queue: &mut [u8]) {
     let a = queue::format(queue);
-    print(code(a), digest(queue), 1);
+    print(queue::number(a), digest(queue), 1);
 }
 
 fn enqueue(line: &[u8], queue: &mut [u8]) {
@@ -59,19 +39,19 @@ fn enqueue(line: &[u8], queue: &mut [u8]) {
     let profile = p.value;
     let n = least(unhex(line, after(p), &mut word), 128);
     let a = queue::enqueue(queue, boxno, profile, &word[0..n]);
-    print(code(a), digest(queue), 1);
+    print(queue::number(a), digest(queue), 1);
 }
 
 fn peek(queue: &[u8], record: usize, out: &mut [u8]) {
     fill(out);
     let a = queue::peek(queue, record, out);
-    print(code(a), digest(queue), digest(out));
+    print(queue::number(a), digest(queue), digest(out));
 }
 
 fn dequeue(queue: &mut [u8], out: &mut [u8]) {
     fill(out);
     let a = queue::dequeue(queue, out);
-    print(code(a), digest(queue), digest(out));
+    print(queue::number(a), digest(queue), digest(out));
 }
 
 fn peek_line(line: &[u8], queue: &[u8]) {

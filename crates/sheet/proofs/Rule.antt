@@ -69,7 +69,7 @@ module _ (s : List ℕ) (q : Queue s) where
   cell-nonzero (b ∷ l) i f zero h = f .1
   cell-nonzero (b ∷ l) i f (suc k) h = cell-nonzero l (next s b) (f .2) k (le-of-suc-le-suc h)
 
-  found-same : (k : ℕ) → not (eqb (cellOf s k) 0) ≡ hasRecord (records s) k
+  pub found-same : (k : ℕ) → not (eqb (cellOf s k) 0) ≡ hasRecord (records s) k
   unfolding cellOf
   found-same zero = refl
   found-same (suc k) = same-test _ _ some none

@@ -16,7 +16,8 @@ use Rattle.sheet.specs.Operations.{linked, formatted, formatAnswer, formatQueue
 use Rattle.sheet.proofs.Lists.{size-of}
 use Rattle.sheet.proofs.Format.{length-linked}
 use Rattle.sheet.proofs.Rule.{same-capacity}
-use Rattle.queue.proofs.Conditions.{holds, refuses, admits, kept, wrote}
+use Rattle.soundness.proofs.Conditions.{holds}
+use Rattle.queue.proofs.Conditions.{refuses, admits, kept, wrote}
 use borrow.Author.Needs.{needs}
 use Rattle.queue.proofs.format.Statement.{statement}
 use Rattle.queue.proofs.format.Tie as tie

@@ -1,73 +1,137 @@
--- `peek` meets its contract: what `find` refuses leaves the output, and otherwise the record's cell is shown.
+-- `peek` meets its contract: what is refused leaves the output, and otherwise the cell that the check led to is shown.
 -- Assumes nothing.
-use mathlib.Core.Path.{_≡_, sym, ap, subst, _∙_}
+use mathlib.Core.Path.{_≡_, refl, sym, ap, subst, _∙_}
+use mathlib.Core.Logic.{_≢_}
+use mathlib.Core.Bool.{Bool, _&&_}
+use mathlib.Core.List.{List}
 use Prim.Native.Nat.{ℕ, _+_, _*_, _≤_}
+use native.Mathlib.Omega.{arith}
+use lib.Dec.{eqb, leb, leb→le}
 use lib.ListN.{length}
 use denote.Ref.{now}
-use Rattle.sheet.specs.Operations.{shown, peekAnswer, peekOutput}
-use Rattle.sheet.proofs.Answers.{Showing, showing}
-use Rattle.queue.proofs.Conditions.{kept, wrote}
+use borrow.Author.Tests.{not-true, not-false, eq-eqb, ne-eqb}
+use Rattle.modular.proofs.Search.{and-right}
+use Rattle.sheet.specs.Operations.{shown, showRefusal, cellOf, peekAnswer, peekOutput}
+use Rattle.sheet.proofs.Answers.{on-sound, showing}
+use Rattle.soundness.proofs.Conditions.{holds}
+use Rattle.queue.proofs.Conditions.{refuses, admits, kept, wrote}
+use Rattle.queue.proofs.Checking.{Told, told-sound, told-unsound, found-is, found-at}
 use Rattle.queue.proofs.Stores.{record-fits}
-use Rattle.queue.proofs.Told.{told-done, told-refused}
 use borrow.Author.Needs.{needs}
 use Rattle.queue.proofs.peek.Statement.{statement}
 use Rattle.queue.proofs.peek.Tie as tie
 
-abbrev start : tie.After-find → tie.Start
-start c = c .before .before .before .before
+abbrev start : tie.After-check → tie.Start
+start c = c .before .before .before
 
-found-at : (c : tie.After-enum-told) → peekAnswer (now (start (c .before .before) .args .queue)) (start (c .before .before) .args .number) (now (start (c .before .before) .args .out)) ≡ 0
-found-at c = sym (c .before .before .find .ensures) ∙ told-done (c .before .before .find .result) (c .before .match .keys1)
+abbrev begin : tie.After-known-told → tie.Start
+begin c = start (c .before .before .before)
 
-shows : (c : tie.After-enum-told) → Showing (now (start (c .before .before) .args .queue)) (start (c .before .before) .args .number) (now (start (c .before .before) .args .out))
-shows c = showing _ _ _ (found-at c)
+abbrev S : tie.Start → List ℕ
+S c = now (c .args .queue)
 
-find-requires : tie.Need-find-requires
-find-requires c κs = search needs
+abbrev K : tie.Start → ℕ
+K c = c .args .number
 
-enum-told : tie.Need-enum-told
-enum-told c = search needs
+abbrev O : tie.Start → List ℕ
+O c = now (c .args .out)
+
+-- the cell and the number of records that the check gave
+abbrev cell-of : tie.After-known-told → ℕ
+cell-of c = c .before .checked .given .0 .0
+
+abbrev count-of : tie.After-known-told → ℕ
+count-of c = c .before .checked .given .0 .1 .0
+
+-- whether there is such a record
+abbrev hit : tie.After-known-told → Bool
+hit c = leb 1 (K (begin c)) && leb (K (begin c)) (count-of c)
+
+told : (c : tie.After-known-told) → Told (S (begin c)) (K (begin c)) (cell-of c) (count-of c)
+told c =
+    let k = c .before .before .before in
+    told-sound (S (start k)) (K (start k)) (cell-of c) (count-of c) (sym (c .before .checked .given .1) ∙ k .check .ensures)
+
+-- a refusal keeps the output
+refused : (s : List ℕ) (k : ℕ) (out : List ℕ) (n : ℕ) → n ≢ 0 → n ≡ peekAnswer s k out → (n ≡ peekAnswer s k out) × (out ≡ peekOutput s k out)
+unfolding peekOutput
+refused s k out n d e = (e, kept _ _ out (λ z. d (e ∙ z)))
+
+-- the answer of a sound queue, by whether there is such a record
+answer : (c : tie.After-known-told) (n : ℕ) → n ≡ showRefusal (hit c) (O (begin c)) → n ≡ peekAnswer (S (begin c)) (K (begin c)) (O (begin c))
+unfolding peekAnswer
+answer c n e =
+    let a = begin c in
+    e ∙ ap (λ (found : Bool). showRefusal found (O a)) (found-is (S a) (K a) (cell-of c) (count-of c) (told c)) ∙ sym (on-sound (S a) _ (told c .queue))
+
+found : (c : tie.Else2) → peekAnswer (S (begin (c .before .before))) (K (begin (c .before .before))) (O (begin (c .before .before))) ≡ 0
+found c =
+    let t = c .before .before in
+    sym (answer t 0 (admits (eqb (length (O (begin t))) 104) 2 0 _ (eq-eqb _ _ (c .before .if1 .left)) (admits (hit t) 10 0 0 (not-false _ (c .if2 .left)) refl)))
+
+at-cell : (c : tie.Else2) → cell-of (c .before .before) ≡ cellOf (S (begin (c .before .before))) (K (begin (c .before .before)))
+at-cell c =
+    let t = c .before .before in
+    let k = K (begin t) in
+    found-at (S (begin t)) k (cell-of t) (count-of t) (told t) (leb→le k (count-of t) (and-right (leb 1 k) (leb k (count-of t)) (holds (hit t) (not-false _ (c .if2 .left)))))
+
+check-requires : tie.Need-check-requires
+check-requires c κs = search needs
+
+enum-known-checked : tie.Need-enum-known-checked
+enum-known-checked c = search needs
+
+refuse-requires : tie.Need-refuse-requires
+refuse-requires c κs = search needs
+
+returns : tie.Need-returns
+unfolding peekAnswer
+returns c =
+    let k = c .before .before in
+    let a = start k in
+    let r = told-unsound (S a) (K a) (k .check .result) (k .check .ensures) (c .before .match .keys2) in
+    refused (S a) (K a) (O a) _ (λ e. r .nonzero (sym (c .refuse .ensures) ∙ e)) (c .refuse .ensures ∙ r .answer _)
+
+returns-2 : tie.Need-returns-2
+returns-2 c =
+    let a = begin (c .before) in
+    refused (S a) (K a) (O a) 2 (omega arith) (answer (c .before) 2 (refuses (eqb (length (O a)) 104) 2 _ (ne-eqb _ _ (c .if1 .taken))))
+
+returns-3 : tie.Need-returns-3
+returns-3 c =
+    let t = c .before .before in
+    let a = begin t in
+    refused (S a) (K a) (O a) 10 (omega arith)
+    (answer t 10 (admits (eqb (length (O a)) 104) 2 10 _ (eq-eqb _ _ (c .before .if1 .left)) (refuses (hit t) 10 0 (not-true _ (c .if2 .taken)))))
+
+show-requires : tie.Need-show-requires
+show-requires c κs =
+    let e = c .before in
+    let a = begin (e .before .before) in
+    let h = showing (S a) (K a) (O a) (found e) in
+    (subst (λ (i : ℕ). (i + 1) * 104 ≤ length (S a)) (sym (at-cell e)) (record-fits (S a) (h .queue) (K a) (h .found)), h .long)
 
 same-length : tie.Need-same-length
 same-length c = search needs
 
-returns : tie.Need-returns
+returns-4 : tie.Need-returns-4
 unfolding peekOutput
-returns c =
-    let k = c .before in
-    (k .find .ensures, kept _ _ (now (start k .args .out)) (λ e. told-refused (k .find .result) (c .match .keys2) (k .find .ensures ∙ e)))
-
-cell-of-requires : tie.Need-cell-of-requires
-cell-of-requires c κs = shows c .queue
-
-show-requires : tie.Need-show-requires
-show-requires c κs =
-    let t = c .before .before in
-    let a = start (t .before .before) .args in
-    (subst (λ (i : ℕ). (i + 1) * 104 ≤ length (now (a .queue))) (sym (c .before .cell-of .ensures)) (record-fits (now (a .queue)) (shows t .queue) (a .number) (shows t .found)), shows t .long)
-
-same-length-2 : tie.Need-same-length-2
-same-length-2 c = search needs
-
-returns-2 : tie.Need-returns-2
-unfolding peekOutput
-returns-2 c =
+returns-4 c =
     let k = c .before .before in
-    let n = k .before .before in
-    let t = n .before in
-    let a = start (t .before .before) .args in
-    let e = found-at t in
-    (sym e, k .show .ensures ∙ ap (shown (now (a .queue))) (n .cell-of .ensures) ∙ wrote _ _ _ e)
+    let e = k .before .before in
+    let a = begin (e .before .before) in
+    (sym (found e), k .show .ensures ∙ ap (shown (S a)) (at-cell e) ∙ wrote _ _ _ (found e))
 
 pub peek-spec : {M : Type 1} → statement M
 peek-spec =
     tie.close
     (tie.spec
-    find-requires
-    enum-told
-    same-length
+    check-requires
+    enum-known-checked
+    refuse-requires
     returns
-    cell-of-requires
+    returns-2
+    returns-3
     show-requires
-    same-length-2
-    returns-2)
+    same-length
+    returns-4)

@@ -1,176 +1,99 @@
 -- `admit` meets its contract, test by test.
 -- Assumes nothing.
 use mathlib.Core.Path.{_≡_, refl, sym, ap, _∙_}
-use mathlib.Core.Bool.{Bool, true, not}
 use mathlib.Core.List.{List}
 use Prim.Native.Nat.{ℕ}
-use native.Mathlib.Omega.{arith}
 use lib.Dec.{eqb}
 use lib.ListN.{length}
 use denote.Ref.{now}
 use borrow.Author.Tests.{not-true, not-false, eq-eqb, ne-eqb}
 use Rattle.code.specs.Component.{symbolsBelow}
 use Rattle.code.specs.Profiles.{isProfile}
-use Rattle.sheet.specs.Layout.{isQueueLength, firstFree}
-use Rattle.sheet.specs.Sound.{isBox, levels, wordLength, sound, Queue}
-use Rattle.sheet.specs.Operations.{check, onSound, enqueueRefusal, enqueueAnswer}
-use Rattle.sheet.proofs.Lists.{size-of}
-use Rattle.queue.proofs.Conditions.{holds, refuses, admits, is-queue, past}
+use Rattle.sheet.specs.Sound.{isBox, levels, wordLength}
+use Rattle.sheet.specs.Operations.{check}
+use Rattle.soundness.proofs.Rows.{levels-is, length-is}
+use Rattle.queue.proofs.Conditions.{refuses, admits}
 use borrow.Author.Needs.{needs}
 use Rattle.queue.proofs.admit.admit.Statement.{statement}
 use Rattle.queue.proofs.admit.admit.Tie as tie
 
-abbrev Q : tie.After-is-length → List ℕ
-Q c = now (c .before .before .before .args .queue)
+abbrev start : tie.Else1 → tie.Start
+start c = c .before .before
 
-length-ok : (c : tie.Else1) → isQueueLength (length (Q (c .before))) ≡ true
-length-ok c = sym (c .before .is-length .ensures) ∙ not-false _ (c .if1 .left)
+abbrev start₂ : tie.Else2 → tie.Start
+start₂ c = start (c .before)
 
-sound-ok : (c : tie.Else2) → sound (Q (c .before .before .before)) ≡ true
-sound-ok c = sym (c .before .is-sound .ensures) ∙ not-false _ (c .if2 .left)
+abbrev start₃ : tie.After-struct-known → tie.Start
+start₃ c = start₂ (c .before .before)
 
-abbrev S : tie.Else2 → List ℕ
-S c = Q (c .before .before .before)
+abbrev W : tie.Start → List ℕ
+W c = now (c .args .word)
 
-queue-ok : (c : tie.Else2) → Queue (S c)
-queue-ok c = is-queue (S c) (length-ok (c .before .before)) (sound-ok c)
+-- the row is the profile's
+levels-at : (c : tie.After-row-of) → c .row-of .result .q ≡ levels (start₂ (c .before) .args .profile)
+levels-at c = levels-is (start₂ (c .before) .args .profile) (c .row-of .result) (c .row-of .ensures)
 
-past-sound : (c : tie.Else2) (n own : ℕ) → n ≡ own → n ≡ onSound (S c) own
-past-sound c = past (S c) (length-ok (c .before .before)) (sound-ok c)
+length-at : (c : tie.After-row-of) → c .row-of .result .codeword ≡ wordLength (start₂ (c .before) .args .profile)
+length-at c = length-is (start₂ (c .before) .args .profile) (c .row-of .result) (c .row-of .ensures)
 
--- past the tests of the record, one by one
-abbrev start : tie.Else2 → tie.Start
-start c = c .before .before .before .before .before .before
-
-box-ok : (c : tie.Else3) → isBox (start (c .before .before) .args .boxno) ≡ true
-box-ok c = sym (c .before .between .ensures) ∙ not-false _ (c .if3 .left)
-
-profile-ok : (c : tie.Else4) → isProfile (start (c .before .before .before .before) .args .profile) ≡ true
-profile-ok c = sym (c .before .between2 .ensures) ∙ not-false _ (c .if4 .left)
-
-abbrev else4 : tie.Else5 → tie.Else4
-else4 c = c .before .before .before
-
-abbrev start4 : tie.Else4 → tie.Start
-start4 c = start (c .before .before .before .before)
-
-word-ok : (c : tie.Else5) → eqb (length (now (start4 (else4 c) .args .word))) (wordLength (start4 (else4 c) .args .profile)) ≡ true
-word-ok c = eq-eqb _ _ (c .if5 .left ∙ c .before .before .look-up .ensures .1)
-
-symbols-is : (c : tie.After-all-below) → c .all-below .result ≡ symbolsBelow (levels (start4 (else4 (c .before)) .args .profile)) (now (start4 (else4 (c .before)) .args .word))
+symbols-is : (c : tie.After-symbols-below)
+    → c .symbols-below .result ≡ symbolsBelow (levels (start₃ (c .before .before) .args .profile)) (W (start₃ (c .before .before)))
 symbols-is c =
-    c .all-below .ensures ∙ ap (λ (q : ℕ). symbolsBelow q (now (start4 (else4 (c .before)) .args .word))) (c .before .before .before .look-up .ensures .0)
+    c .symbols-below .ensures ∙ ap (λ (q : ℕ). symbolsBelow q (W (start₃ (c .before .before)))) (levels-at (c .before .before .before))
 
-symbols-ok : (c : tie.Else6) → symbolsBelow (levels (start4 (else4 (c .before .before)) .args .profile)) (now (start4 (else4 (c .before .before)) .args .word)) ≡ true
-symbols-ok c = sym (symbols-is (c .before)) ∙ not-false _ (c .if6 .left)
+-- past the tests, one by one
+past-box : (c : tie.Else1) (n own : ℕ) → n ≡ own → n ≡ check (isBox (start c .args .boxno)) 7 own
+past-box c n own = admits (isBox (start c .args .boxno)) 7 n own (not-false _ (c .if1 .left))
 
-past-box : (c : tie.Else3) (n own : ℕ) → n ≡ own → n ≡ onSound (Q (c .before .before .before .before .before)) (check (isBox (start (c .before .before) .args .boxno)) 7 own)
-past-box c n own e = past-sound (c .before .before) n _ (admits (isBox (start (c .before .before) .args .boxno)) 7 n own (box-ok c) e)
+past-profile : (c : tie.Else2) (n own : ℕ) → n ≡ own → n ≡ check (isBox (start₂ c .args .boxno)) 7 (check (isProfile (start₂ c .args .profile)) 1 own)
+past-profile c n own e = past-box (c .before) n _ (admits (isProfile (start₂ c .args .profile)) 1 n own (not-false _ (c .if2 .left)) e)
 
-past-profile : (c : tie.Else4) (n own : ℕ) → n ≡ own
-    → n ≡ onSound (Q (c .before .before .before .before .before .before .before)) (check (isBox (start4 c .args .boxno)) 7 (check (isProfile (start4 c .args .profile)) 1 own))
-past-profile c n own e = past-box (c .before .before) n _ (admits (isProfile (start4 c .args .profile)) 1 n own (profile-ok c) e)
-
-past-word : (c : tie.Else5) (n own : ℕ) → n ≡ own
+past-length : (c : tie.Else3) (n own : ℕ) → n ≡ own
     → n
-    ≡ onSound (Q (else4 c .before .before .before .before .before .before .before)) (check (isBox (start4 (else4 c) .args .boxno)) 7 (check (isProfile (start4 (else4 c) .args .profile)) 1 (check (eqb (length (now (start4 (else4 c) .args .word))) (wordLength (start4 (else4 c) .args .profile))) 2 own)))
-past-word c n own e = past-profile (else4 c) n _ (admits (eqb (length (now (start4 (else4 c) .args .word))) (wordLength (start4 (else4 c) .args .profile))) 2 n own (word-ok c) e)
-
-past-symbols : (c : tie.Else6) (room : Bool) (n : ℕ) → n ≡ check room 8 0
-    → n
-    ≡ onSound (Q (else4 (c .before .before) .before .before .before .before .before .before .before)) (enqueueRefusal room (start4 (else4 (c .before .before)) .args .boxno) (start4 (else4 (c .before .before)) .args .profile) (now (start4 (else4 (c .before .before)) .args .word)))
-past-symbols c room n e =
-    let a = start4 (else4 (c .before .before)) .args in
-    past-word (c .before .before) n _ (admits (symbolsBelow (levels (a .profile)) (now (a .word))) 3 n (check room 8 0) (symbols-ok c) e)
-
-is-length-requires : tie.Need-is-length-requires
-is-length-requires c κs = search needs
+    ≡ check (isBox (start₃ (c .before) .args .boxno)) 7 (check (isProfile (start₃ (c .before) .args .profile)) 1 (check (eqb (length (W (start₃ (c .before)))) (wordLength (start₃ (c .before) .args .profile))) 2 own))
+past-length c n own e =
+    let s = start₃ (c .before) in
+    past-profile (c .before .before .before) n _
+    (admits (eqb (length (W s)) (wordLength (s .args .profile))) 2 n own (eq-eqb _ _ (c .if3 .left ∙ length-at (c .before .before))) e)
 
 returns : tie.Need-returns
-unfolding enqueueAnswer
-returns c =
-    refuses (isQueueLength (length (Q (c .before)))) 5 _ (sym (c .before .is-length .ensures) ∙ not-true _ (c .if1 .taken))
-
-is-sound-requires : tie.Need-is-sound-requires
-is-sound-requires c κs = holds _ (length-ok c)
+returns c = refuses (isBox (c .before .before .args .boxno)) 7 _ (not-true _ (c .if1 .taken))
 
 returns-2 : tie.Need-returns-2
-unfolding enqueueAnswer
-returns-2 c =
-    let s = Q (c .before .before .before) in
-    admits (isQueueLength (length s)) 5 6 _ (length-ok (c .before .before))
-    (refuses (sound s) 6 _ (sym (c .before .is-sound .ensures) ∙ not-true _ (c .if2 .taken)))
+returns-2 c = past-box (c .before) 1 _ (refuses (isProfile (start (c .before) .args .profile)) 1 _ (not-true _ (c .if2 .taken)))
 
-between-requires : tie.Need-between-requires
-between-requires c κs = search needs
+row-of-requires : tie.Need-row-of-requires
+row-of-requires c κs = search needs
 
 returns-3 : tie.Need-returns-3
-unfolding enqueueAnswer
-returns-3 c = past-sound (c .before .before) 7 _ (refuses (isBox (start (c .before .before) .args .boxno)) 7 _ (sym (c .before .between .ensures) ∙ not-true _ (c .if3 .taken)))
+returns-3 c =
+    let s = start₃ (c .before) in
+    past-profile (c .before .before .before) 2 _
+    (refuses (eqb (length (W s)) (wordLength (s .args .profile))) 2 _ (ne-eqb _ _ (λ e. c .if3 .taken (e ∙ sym (length-at (c .before .before))))))
 
-between-requires-2 : tie.Need-between-requires-2
-between-requires-2 c κs = search needs
+symbols-below-requires : tie.Need-symbols-below-requires
+symbols-below-requires c κs = search needs
 
 returns-4 : tie.Need-returns-4
-unfolding enqueueAnswer
 returns-4 c =
     let e = c .before .before in
-    past-box e 1 _ (refuses (isProfile (start (e .before .before) .args .profile)) 1 _ (sym (c .before .between2 .ensures) ∙ not-true _ (c .if4 .taken)))
-
-look-up-requires : tie.Need-look-up-requires
-look-up-requires c κs = holds _ (profile-ok c)
+    let s = start₃ (e .before) in
+    past-length e 3 _ (refuses (symbolsBelow (levels (s .args .profile)) (W s)) 3 _ (sym (symbols-is (c .before)) ∙ not-true _ (c .if4 .taken)))
 
 returns-5 : tie.Need-returns-5
-unfolding enqueueAnswer
 returns-5 c =
-    let e = c .before .before .before in
-    let a = start4 e .args in
-    past-profile e 2 _ (refuses (eqb (length (now (a .word))) (wordLength (a .profile))) 2 _ (ne-eqb _ _ (λ q. c .if5 .taken (q ∙ sym (c .before .before .look-up .ensures .1)))))
-
-all-below-requires : tie.Need-all-below-requires
-all-below-requires c κs = search needs
-
-returns-6 : tie.Need-returns-6
-unfolding enqueueAnswer
-returns-6 c =
     let e = c .before .before in
-    let a = start4 (else4 e) .args in
-    past-word e 3 _ (refuses (symbolsBelow (levels (a .profile)) (now (a .word))) 3 _ (sym (symbols-is (c .before)) ∙ not-true _ (c .if6 .taken)))
-
-shared-slice-read-if7 : tie.Need-shared-slice-read-if7
-shared-slice-read-if7 c =
-    let s = Q (else4 (c .before .before .before) .before .before .before .before .before .before .before) in
-    let z = size-of s (queue-ok (else4 (c .before .before .before) .before .before .before .before) .size) in
-    omega (arith, z .long, z .some)
-
-returns-7 : tie.Need-returns-7
-unfolding enqueueAnswer
-returns-7 c =
-    let s = Q (else4 (c .before .before .before .before) .before .before .before .before .before .before .before) in
-    past-symbols (c .before .before) (not (eqb (firstFree s) 0)) 8 (refuses (not (eqb (firstFree s) 0)) 8 0 (ap not (eq-eqb _ 0 (c .if7 .taken))))
-
-returns-8 : tie.Need-returns-8
-unfolding enqueueAnswer
-returns-8 c =
-    let s = Q (else4 (c .before .before .before .before) .before .before .before .before .before .before .before) in
-    past-symbols (c .before .before) (not (eqb (firstFree s) 0)) 0 (admits (not (eqb (firstFree s) 0)) 8 0 0 (ap not (ne-eqb _ 0 (c .if7 .left))) refl)
+    let s = start₃ (e .before) in
+    past-length e 0 _ (admits (symbolsBelow (levels (s .args .profile)) (W s)) 3 0 0 (sym (symbols-is (c .before)) ∙ not-false _ (c .if4 .left)) refl)
 
 pub admit-spec : {M : Type 1} → statement M
 admit-spec =
     tie.close
     (tie.spec
-    is-length-requires
     returns
-    is-sound-requires
     returns-2
-    between-requires
+    row-of-requires
     returns-3
-    between-requires-2
+    symbols-below-requires
     returns-4
-    look-up-requires
-    returns-5
-    all-below-requires
-    returns-6
-    shared-slice-read-if7
-    returns-7
-    returns-8)
+    returns-5)

@@ -1,12 +1,14 @@
 -- `link` meets its contract. The invariant: what is left to link makes of the queue what all links make of it at the start.
 -- Assumes nothing.
-use mathlib.Core.Path.{_≡_, refl, sym, ap, _∙_}
+use mathlib.Core.Path.{_≡_, refl, sym, ap, subst, _∙_}
 use Prim.Native.Nat.{ℕ, _+_, _-_, _*_, _≤_}
 use native.Mathlib.Omega.{arith}
 use lib.ListN.{length, length-set}
 use denote.Ref.{now}
 use Rattle.sheet.specs.Layout.{Size}
 use Rattle.sheet.specs.Operations.{linked}
+use Rattle.sheet.proofs.Lists.{size-of}
+use borrow.Author.Needs.{needs}
 use Rattle.queue.proofs.Stores.{link-on, link-over}
 use Rattle.queue.proofs.cell.link.Statement.{statement}
 use Rattle.queue.proofs.cell.link.Tie as tie
@@ -18,10 +20,12 @@ abbrev μ-loop : tie.MeasureT-loop
 μ-loop queue₀ cells i₀ queue i = cells - i
 
 size : (c : tie.In-loop Inv-loop μ-loop) → Size (now (c .before .before .before .before .before .args .queue)) (c .before .before .capacity .result)
-size c = c .before .before .capacity .ensures .1
+size c =
+    let s = c .before .before .before .before .before in
+    subst (Size (now (s .args .queue))) (sym (c .before .before .capacity .ensures)) (size-of (now (s .args .queue)) (s .pre))
 
 capacity-requires : tie.Need-capacity-requires Inv-loop μ-loop
-capacity-requires c κs = c .before .before .pre
+capacity-requires c κs = search needs
 
 loop-holds : tie.Need-loop-holds Inv-loop μ-loop
 loop-holds c = (refl, refl, omega arith)
@@ -60,7 +64,7 @@ returns c =
     let l = c .before .loop in
     let k = c .before .before in
     let s = now (k .before .before .before .args .queue) in
-    sym (ap (λ (n : ℕ). linked s 1 (n - 1)) (sym (k .capacity .ensures .0)) ∙ l .inv .0 ∙ link-over (l .queue) (l .i) (k .capacity .result) (c .loop-test .left))
+    sym (ap (λ (n : ℕ). linked s 1 (n - 1)) (sym (k .capacity .ensures)) ∙ l .inv .0 ∙ link-over (l .queue) (l .i) (k .capacity .result) (c .loop-test .left))
 
 pub link-spec : {M : Type 1} → statement M
 link-spec =

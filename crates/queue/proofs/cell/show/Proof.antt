@@ -6,7 +6,7 @@ use Prim.Native.Nat.{ℕ, _*_}
 use lib.ListN.{set}
 use denote.Ref.{now}
 use Rattle.sheet.specs.Operations.{shown}
-use Rattle.queue.proofs.Bytes.{part}
+use Rattle.soundness.proofs.Bytes.{part}
 use Rattle.queue.proofs.Stores.{cell-shown}
 use borrow.Author.Needs.{needs}
 use Rattle.queue.proofs.cell.show.Statement.{statement}

@@ -1,0 +1,74 @@
+-- What the walks over both lists say of the queue.
+-- Assumes nothing.
+use mathlib.Core.Path.{_≡_, refl, sym, ap, ap₂, subst, _∙_}
+use mathlib.Core.Bool.{Bool, true, false, _&&_}
+use mathlib.Core.List.{List, _++_}
+use Prim.Native.Nat.{ℕ, suc}
+use lib.Dec.{T, eqb}
+use lib.ListN.{length, getD, drop}
+use Rattle.modular.specs.Search.{allBelow}
+use Rattle.sheet.specs.Lists.{allZero}
+use Rattle.sheet.specs.Layout.{isQueueLength, capacity, next, firstFree, body}
+use Rattle.sheet.specs.Chains.{chain, used, free}
+use Rattle.sheet.specs.Sound.{isList, eachOnce, sound}
+use Rattle.sheet.proofs.Lists.{size-of}
+use Rattle.soundness.specs.declared.lists.Walked.{Walked}
+use Rattle.soundness.specs.Checked.{reached}
+use Rattle.soundness.specs.Tally.{tallied, AtMost}
+use Rattle.soundness.specs.Walked.{Found, Walks, Checks}
+use Rattle.soundness.proofs.Conditions.{second-off, no-truth}
+use Rattle.soundness.proofs.Tallies.{noneSeen, few-seen, both-seen}
+
+-- a test that fails after one that is not made again
+and-false : (a : Bool) → false ≡ (a && false)
+and-false true = refl
+and-false false = refl
+
+-- the free list's test first, and the last test only where that one passed
+four-tests : (spare used free once f s o : Bool) → used ≡ true → f ≡ free → s ≡ spare → (free ≡ true → o ≡ once)
+    → (f && (s && o)) ≡ (spare && (used && (free && once)))
+four-tests spare used true once f s o u e a d = rw (e, a, u, d refl)
+four-tests spare used false once f s o u e a d = rw (e, u) (and-false spare)
+
+module _ (s : List ℕ) (k i : ℕ) (t : List ℕ) (u : Walked) (size : T (isQueueLength (length s))) (first : i ≡ next s 0) (walked : Walks s true i k noneSeen t u) where
+  abbrev R : ℕ
+  R = capacity s
+
+  list-is : u .good ≡ isList s true R (next s 0)
+  list-is = walked .good-is ∙ ap (isList s true R) first
+
+  pub unsound : u .good ≡ false → Checks s k u
+  unfolding sound
+  unsound e =
+      record {
+        good-is = e ∙ second-off (allZero (drop 1 (body s 0))) (isList s true R (next s 0)) _ (sym list-is ∙ e);
+        cell-is = λ g. no-truth g e;
+        records-is = λ g. no-truth g e;
+      }
+
+  module _ (good : u .good ≡ true) where
+    found : Found (chain s R (next s 0)) noneSeen t k (u .cell) (u .records)
+    found = subst (λ (c : ℕ). Found (chain s R c) noneSeen t k (u .cell) (u .records)) first (walked .found good)
+
+    pub few-after : AtMost 255 t
+    few-after = subst (AtMost 255) (sym (found .seen)) (few-seen s R (next s 0) (size-of s size .few))
+
+    pub checks : (j : ℕ) (t′ : List ℕ) (f : Walked) (spare once : Bool) → j ≡ firstFree s → Walks s false j 0 t t′ f → spare ≡ allZero (drop 1 (body s 0))
+        → once ≡ allBelow (λ c. eqb (getD t′ (suc c) 0) 1) R
+        → Checks s k (record { good = f .good && (spare && once); cell = u .cell; records = u .records })
+    unfolding sound reached used free
+    checks j t′ f spare once second w a o =
+        let U = chain s R (next s 0) in
+        let F = chain s R (firstFree s) in
+        let free-is : f .good ≡ isList s false R (firstFree s) = w .good-is ∙ ap (isList s false R) second in
+        let tally : f .good ≡ true → t′ ≡ tallied (tallied noneSeen U) F =
+        λ g. w .found g .seen ∙ ap₂ (λ (l : List ℕ) (c : ℕ). tallied l (chain s R c)) (found .seen) second in
+        record {
+          good-is =
+              four-tests (allZero (drop 1 (body s 0))) (isList s true R (next s 0)) (isList s false R (firstFree s)) (eachOnce R (used s ++ free s)) (f .good) spare once (sym list-is ∙ good) free-is a
+              (λ g. o
+              ∙ ap (λ (l : List ℕ). allBelow (λ c. eqb (getD l (suc c) 0) 1) R) (tally (free-is ∙ g))
+              ∙ both-seen R U F (size-of s size .few));
+          cell-is = λ _. found .cell-is;
+          records-is = λ _. found .records-is;
+        }

@@ -1,0 +1,49 @@
+-- `check` meets its contract: the length first, and then what the walks found.
+-- Assumes nothing.
+use mathlib.Core.Path.{_≡_, sym, ap₂, _∙_}
+use mathlib.Core.Bool.{true}
+use mathlib.Core.List.{List}
+use Prim.Native.Nat.{ℕ}
+use lib.ListN.{length}
+use denote.Ref.{now}
+use borrow.Author.Tests.{not-true, not-false}
+use Rattle.sheet.specs.Layout.{isQueueLength}
+use Rattle.soundness.specs.declared.Checked.the-variants.{Sound}
+use Rattle.soundness.specs.Checked.{checked}
+use Rattle.soundness.proofs.Conditions.{holds}
+use borrow.Author.Needs.{needs}
+use Rattle.soundness.proofs.check.Statement.{statement}
+use Rattle.soundness.proofs.check.Tie as tie
+
+abbrev Q : tie.After-is-length → List ℕ
+Q c = now (c .before .before .args .queue)
+
+length-ok : (c : tie.Else1) → isQueueLength (length (Q (c .before))) ≡ true
+length-ok c = sym (c .before .is-length .ensures) ∙ not-false _ (c .if1 .left)
+
+is-length-requires : tie.Need-is-length-requires
+is-length-requires c κs = search needs
+
+returns : tie.Need-returns
+unfolding checked
+returns c = rw (sym (c .before .is-length .ensures) ∙ not-true _ (c .if1 .taken))
+
+walk-both-requires : tie.Need-walk-both-requires
+walk-both-requires c κs = holds _ (length-ok c)
+
+returns-2 : tie.Need-returns-2
+unfolding checked
+returns-2 c =
+    let w = c .before .before in
+    rw (length-ok (w .before), sym (w .walk-both .ensures .good-is) ∙ not-true _ (c .if2 .taken))
+
+returns-3 : tie.Need-returns-3
+unfolding checked
+returns-3 c =
+    let w = c .before .before in
+    let good = not-false _ (c .if2 .left) in
+    rw (length-ok (w .before), sym (w .walk-both .ensures .good-is) ∙ good)
+    (ap₂ Sound (w .walk-both .ensures .cell-is good) (w .walk-both .ensures .records-is good))
+
+pub check-spec : {M : Type 1} → statement M
+check-spec = tie.close (tie.spec is-length-requires returns walk-both-requires returns-2 returns-3)

@@ -1,0 +1,144 @@
+-- `walk` meets its contract. The invariant: what is left to walk gives the test, the counts and the cell of the whole list.
+-- Assumes nothing.
+use mathlib.Core.Path.{_≡_, refl, sym, _∙_}
+use mathlib.Core.Bool.{true}
+use Prim.Native.Nat.{_≤_}
+use native.Mathlib.Omega.{arith}
+use denote.Ref.{now}
+use borrow.Author.Needs.{needs}
+use borrow.Author.Tests.{not-true, not-false}
+use Rattle.sheet.specs.Layout.{Size, capacity}
+use Rattle.sheet.specs.Sound.{isCell}
+use Rattle.sheet.proofs.Lists.{size-of}
+use Rattle.soundness.proofs.Walks.{Walk, walk-start, walk-ended, walk-over, walk-fails, walk-on, cell-below}
+use Rattle.soundness.proofs.lists.walk.Statement.{statement}
+use Rattle.soundness.proofs.lists.walk.Tie as tie
+
+abbrev Inv-loop : tie.InvT-loop
+Inv-loop queue used first number seen₀ left₀ cell₀ reached₀ met₀ seen left cell reached met = Walk queue used first number seen₀ seen left cell reached met
+
+abbrev μ-loop : tie.MeasureT-loop
+μ-loop queue used first number seen₀ left₀ cell₀ reached₀ met₀ seen left cell reached met = left
+
+abbrev start : tie.In-loop Inv-loop μ-loop → tie.Start Inv-loop μ-loop
+start c = c .before .before .before .before
+
+size : (c : tie.In-loop Inv-loop μ-loop) → Size (now (start c .args .queue)) (capacity (now (start c .args .queue)))
+size c = size-of (now (start c .args .queue)) (start c .pre .0)
+
+abbrev in-loop : tie.Else2 Inv-loop μ-loop → tie.In-loop Inv-loop μ-loop
+in-loop c = c .before .before .before
+
+good : (c : tie.Else2 Inv-loop μ-loop) → isCell (now (start (in-loop c) .args .queue)) (start (in-loop c) .args .used) (in-loop c .before .loop .cell) ≡ true
+good c = sym (c .before .is-cell .ensures) ∙ not-false _ (c .if2 .left)
+
+cell-in : (c : tie.Else2 Inv-loop μ-loop)
+    → (in-loop c .before .loop .cell ≤ capacity (now (start (in-loop c) .args .queue))) × (capacity (now (start (in-loop c) .args .queue)) ≤ 255)
+cell-in c =
+    let m = in-loop c in
+    let a = start m .args in
+    (cell-below (now (a .queue)) (a .used) (m .before .loop .cell) (good c), size m .few)
+
+capacity-requires : tie.Need-capacity-requires Inv-loop μ-loop
+capacity-requires c κs = search needs
+
+loop-holds : tie.Need-loop-holds Inv-loop μ-loop
+loop-holds c =
+    let a = c .before .before .args in
+    walk-start (now (a .queue)) (a .used) (a .first) (a .number) (now (a .seen)) (c .capacity .result) (c .before .before .pre .1) (c .capacity .ensures)
+
+returns : tie.Need-returns Inv-loop μ-loop
+returns c =
+    let m = c .before in
+    let l = m .before .loop in
+    let a = start m .args in
+    walk-over (now (a .queue)) (a .used) (a .first) (a .number) (now (a .seen)) (l .seen) (l .left) (l .cell) (l .reached) (l .met) (l .inv) (c .if1 .taken) (m .loop-test .taken) _ refl
+
+is-cell-requires : tie.Need-is-cell-requires Inv-loop μ-loop
+is-cell-requires c κs = start (c .before) .pre .0
+
+returns-2 : tie.Need-returns-2 Inv-loop μ-loop
+returns-2 c =
+    let m = c .before .before .before in
+    let l = m .before .loop in
+    let a = start m .args in
+    let bad = not-true _ (c .if2 .taken) in
+    walk-fails (now (a .queue)) (a .used) (a .first) (a .number) (now (a .seen)) (l .seen) (l .left) (l .cell) (l .reached) (l .met) (l .inv) (c .before .before .if1 .left) (m .loop-test .taken)
+    (sym (c .before .is-cell .ensures) ∙ bad) _ bad
+
+mul-seen : tie.Need-mul-seen Inv-loop μ-loop
+mul-seen c = omega (arith, cell-in c)
+
+element-copy-out-seen : tie.Need-element-copy-out-seen Inv-loop μ-loop
+element-copy-out-seen c = omega (arith, cell-in c)
+
+add-seen : tie.Need-add-seen Inv-loop μ-loop
+add-seen c =
+    let m = in-loop (c .before) in
+    omega (arith, m .before .loop .inv .bound (m .before .loop .cell), size m .few)
+
+element-write-seen : tie.Need-element-write-seen Inv-loop μ-loop
+element-write-seen c = omega (arith, cell-in (c .before))
+
+add-met : tie.Need-add-met Inv-loop μ-loop
+add-met c =
+    let m = in-loop (c .before) in
+    omega (arith, m .before .loop .inv .steps, size m .few)
+
+go-on-requires : tie.Need-go-on-requires Inv-loop μ-loop
+go-on-requires c κs = search needs
+
+mul-at : tie.Need-mul-at Inv-loop μ-loop
+mul-at c = omega (arith, cell-in (c .before .before))
+
+shared-slice-read-wide : tie.Need-shared-slice-read-wide Inv-loop μ-loop
+shared-slice-read-wide c = omega (arith, cell-in (c .before .before .before), size (in-loop (c .before .before .before)) .long)
+
+wide-requires : tie.Need-wide-requires Inv-loop μ-loop
+wide-requires c κs = search needs
+
+sub-left : tie.Need-sub-left Inv-loop μ-loop
+sub-left c = omega (arith, c .before .before .before .before .before .before .if1 .left)
+
+loop-less : tie.Need-loop-less Inv-loop μ-loop
+loop-less c = omega (arith, c .before .before .before .before .before .before .if1 .left)
+
+loop-again : tie.Need-loop-again Inv-loop μ-loop
+loop-again c =
+    let e = c .before .before .before .before in
+    let m = in-loop e in
+    let l = m .before .loop in
+    let a = start m .args in
+    walk-on (now (a .queue)) (a .used) (a .first) (a .number) (now (a .seen)) (l .seen) (l .left) (l .cell) (l .reached) (l .met) (l .inv) (e .before .before .if1 .left) (m .loop-test .taken)
+    (good e) (c .wide .result) (c .before .before .go-on .result) (c .wide .ensures) (c .before .before .go-on .ensures)
+
+returns-3 : tie.Need-returns-3 Inv-loop μ-loop
+returns-3 c =
+    let l = c .before .loop in
+    let a = c .before .before .before .before .args in
+    walk-ended (now (a .queue)) (a .used) (a .first) (a .number) (now (a .seen)) (l .seen) (l .left) (l .cell) (l .reached) (l .met) (l .inv) (c .loop-test .left)
+
+pub walk-spec : {M : Type 1} → statement M
+walk-spec =
+    tie.close
+    (tie.spec
+    Inv-loop
+    μ-loop
+    capacity-requires
+    loop-holds
+    returns
+    is-cell-requires
+    returns-2
+    mul-seen
+    element-copy-out-seen
+    add-seen
+    element-write-seen
+    add-met
+    go-on-requires
+    mul-at
+    shared-slice-read-wide
+    wide-requires
+    sub-left
+    loop-less
+    loop-again
+    returns-3)

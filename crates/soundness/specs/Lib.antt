@@ -1,0 +1,4 @@
+pub mod Word
+pub mod Tally
+pub mod Checked
+pub mod Walked

@@ -1,0 +1,124 @@
+-- The four row sums of a component, a symbol at a time, and what they are where the table of columns is right.
+-- Assumes nothing.
+use mathlib.Core.Path.{_≡_, refl, sym, ap, ap₂, _∙_}
+use mathlib.Core.List.{List, [], _∷_}
+use Prim.Native.Nat.{ℕ, zero, suc, _+_, _-_, _*_, _%_, _^_, _≤_, _<_, zero-le}
+use native.Mathlib.Nat.{mod-lt, mul-le-mul, zero-mod}
+use native.Mathlib.Numerals.{add-one}
+use native.Mathlib.Omega.{arith}
+use lib.ListN.{length, getD, take}
+use lib.Seq.{take-all}
+use Rattle.modular.specs.Digits.{digits}
+use Rattle.modular.specs.Sum.{weight, dot}
+use Rattle.modular.proofs.Sum.{dot-same, dot-one, dot-zero}
+use Rattle.code.specs.Component.{checkRow, syndrome}
+use Rattle.code.proofs.Columns.{q-positive}
+use Rattle.symbols.specs.declared.profiles.Row.{Row}
+use Rattle.symbols.specs.declared.syndromes.Sums.{Sums}
+use Rattle.symbols.specs.Row.{parameters, Valid}
+use Rattle.symbols.specs.Remainder.{residue}
+use Rattle.symbols.specs.Columns.{Columns}
+use Rattle.symbols.specs.Syndromes.{digit, rowSums, Light, Added, FourRows}
+use Rattle.symbols.proofs.Digits.{digits-high}
+use Rattle.symbols.proofs.Reduce.{residue-is}
+use Rattle.symbols.proofs.Words.{dot-take, weight-take}
+
+-- a product of two bytes
+pub product-small : {a b : ℕ} → a ≤ 255 → b ≤ 255 → a * b ≤ 65025
+product-small h k = mul-le-mul h k
+
+-- s holds the sums of the first i symbols of c, each of them a byte times a byte
+pub record Summing (columns : List (List ℕ)) (c : List ℕ) (i : ℕ) (s : Sums) : Type 0 where
+  pub low : s .low ≡ dot (digit columns 0) (take i c)
+  pub middle : s .middle ≡ dot (digit columns 1) (take i c)
+  pub high : s .high ≡ dot (digit columns 2) (take i c)
+  pub ones : s .ones ≡ weight (take i c)
+  pub low-small : s .low ≤ 65025 * i
+  pub middle-small : s .middle ≤ 65025 * i
+  pub high-small : s .high ≤ 65025 * i
+  pub ones-small : s .ones ≤ 65025 * i
+
+pub summing-none : (columns : List (List ℕ)) (c : List ℕ) → Summing columns c 0 (record { low = 0; middle = 0; high = 0; ones = 0 })
+summing-none columns c =
+    record { low = refl; middle = refl; high = refl; ones = refl; low-small = zero-le; middle-small = zero-le; high-small = zero-le; ones-small = zero-le }
+
+module _ {columns : List (List ℕ)} {c : List ℕ} {i : ℕ} {s : Sums} (h : Summing columns c i s) where
+  -- so that a product more fits
+  pub summing-light : i < 48 → Light s
+  summing-light l = record { low = omega arith; middle = omega arith; high = omega arith; ones = omega arith }
+
+  pub summing-more : {x : ℕ} → getD c i 0 ≡ x → {r : Sums} → Added s (getD columns i []) x r → Summing columns c (i + 1) r
+  summing-more {x} e {r} a =
+      let f : i + 1 ≡ suc i = add-one i in
+      record {
+        low = rw f (row 0 (h .low) (a .low));
+        middle = rw f (row 1 (h .middle) (a .middle));
+        high = rw f (row 2 (h .high) (a .high));
+        ones = rw f (omega (arith, weight-take i c));
+        low-small = omega arith;
+        middle-small = omega arith;
+        high-small = omega arith;
+        ones-small = omega arith;
+      }
+    where
+      row : (j : ℕ) {y z : ℕ} → y ≡ dot (digit columns j) (take i c) → z ≡ y + digit columns j i * x → z ≡ dot (digit columns j) (take (suc i) c)
+      row j hy hz = hz ∙ ap₂ (λ (u v : ℕ). u + digit columns j i * v) hy (sym e) ∙ sym (dot-take (digit columns j) i c)
+
+  pub summing-all : (q : ℕ) → length c ≤ i → {l : List ℕ} → l ≡ residue q (s .low) ∷ residue q (s .middle) ∷ residue q (s .high) ∷ residue q (s .ones) ∷ []
+      → l ≡ rowSums q columns c
+  unfolding rowSums
+  summing-all q k e =
+      let t : take i c ≡ c = take-all i c k in
+      e ∙ rw (h .low, h .middle, h .high, h .ones, t)
+
+-- a digit of a column, three of them
+column-digit : {q : ℕ} {columns : List (List ℕ)} → Columns q columns → (i j : ℕ) → i < 48 → j < 3 → digit columns j i ≡ checkRow q 4 j i
+column-digit {q} {columns} c i zero h k = ap (λ (l : List ℕ). getD l 0 0) (c .at i h)
+column-digit {q} {columns} c i (suc zero) h k = ap (λ (l : List ℕ). getD l 1 0) (c .at i h)
+column-digit {q} {columns} c i (suc (suc zero)) h k = ap (λ (l : List ℕ). getD l 2 0) (c .at i h)
+column-digit {q} {columns} c i (suc (suc (suc j))) h k = absurd (omega arith)
+
+-- The sums by a right table of columns.
+module _ {q : ℕ} {columns : List (List ℕ)} (some : 1 ≤ q) (right : Columns q columns) (c : List ℕ) (room : length c ≤ 48) where
+  digit-row : (j : ℕ) → j < 3 → residue q (dot (digit columns j) c) ≡ dot (checkRow q 4 j) c % q
+  digit-row j h =
+      residue-is (dot (digit columns j) c) some
+      ∙ ap (λ (s : ℕ). s % q) (dot-same (digit columns j) (checkRow q 4 j) c (λ i l. column-digit right i j (omega arith) h))
+
+  -- they are the syndrome of four rows
+  pub sums-are : (j : ℕ) → j < 4 → getD (rowSums q columns c) j 0 ≡ syndrome q 4 c j
+  unfolding rowSums syndrome
+  sums-are zero h = digit-row 0 (omega arith)
+  sums-are (suc zero) h = digit-row 1 (omega arith)
+  sums-are (suc (suc zero)) h = digit-row 2 (omega arith)
+  sums-are (suc (suc (suc zero))) h = residue-is (weight c) some ∙ ap (λ (s : ℕ). s % q) (sym (dot-one c))
+  sums-are (suc (suc (suc (suc j)))) h = absurd (omega arith)
+
+  pub sums-below : (j : ℕ) → j < 4 → getD (rowSums q columns c) j 0 < q
+  unfolding syndrome
+  sums-below j h = rw (sums-are j h) (mod-lt (dot (checkRow q 4 j) c) some)
+
+  -- a digit row past the digits of every position is 0
+  pub sums-unused : (k : ℕ) → length c < q ^ k → (j : ℕ) → k ≤ j → j < 3 → getD (rowSums q columns c) j 0 ≡ 0
+  unfolding syndrome
+  sums-unused k within j h l =
+      sums-are j (omega arith)
+      ∙ ap (λ (s : ℕ). s % q) (dot-same (checkRow q 4 j) (λ i. 0) c (λ i m. zero-at i m) ∙ dot-zero c)
+      ∙ zero-mod q
+    where
+      zero-at : (i : ℕ) → i < length c → checkRow q 4 j i ≡ 0
+      zero-at i m =
+          sym (column-digit right i j (omega arith) l)
+          ∙ ap (λ (d : List ℕ). getD d j 0) (right .at i (omega arith))
+          ∙ digits-high q k 3 (suc i) j some (omega arith) h
+
+-- in a row of the table: the four rows, those that r does not have 0
+pub four-rows : (t : Row) → Valid t → {columns : List (List ℕ)} → Columns (t .q) columns → (c : List ℕ) → length c ≤ t .n
+    → FourRows t (rowSums (t .q) columns c)
+four-rows t v right c l =
+    let some : 1 ≤ t .q = q-positive (parameters t) (v .sized) in
+    let room : length c ≤ 48 = omega (arith, v .length) in
+    record {
+      below = sums-below some right c room;
+      unused = sums-unused some right c room (t .r - 1) (omega (arith, v .sized .columns));
+    }

@@ -1,0 +1,44 @@
+-- Sums that grow by one symbol at a time, and what every other symbol of a word is.
+-- Assumes nothing.
+use mathlib.Core.Path.{_≡_, refl}
+use mathlib.Core.Bool.{Bool, true, false}
+use mathlib.Core.List.{List, [], _∷_}
+use Prim.Native.Nat.{ℕ, zero, suc, _+_, _*_, _≤_, zero-le}
+use native.Mathlib.Omega.{arith}
+use lib.ListN.{length, getD, take, drop}
+use Rattle.modular.specs.Sum.{weight, dot}
+use Rattle.code.specs.Codeword.{alternate}
+
+-- one symbol more; past the end it is 0
+pub dot-take : (f : ℕ → ℕ) (i : ℕ) (c : List ℕ) → dot f (take (suc i) c) ≡ dot f (take i c) + f i * getD c i 0
+dot-take f zero [] = omega arith
+dot-take f (suc i) [] = omega arith
+dot-take f zero (x ∷ xs) = omega arith
+dot-take f (suc i) (x ∷ xs) = omega (arith, dot-take (λ j. f (suc j)) i xs)
+
+pub weight-take : (i : ℕ) (c : List ℕ) → weight (take (suc i) c) ≡ weight (take i c) + getD c i 0
+weight-take zero [] = refl
+weight-take (suc i) [] = refl
+weight-take zero (x ∷ xs) = omega arith
+weight-take (suc i) (x ∷ xs) = omega (arith, weight-take i xs)
+
+-- a word's weight is that of its odd positions and that of its even ones
+pub weight-alternate : (c : List ℕ) → weight (alternate true c) + weight (alternate false c) ≡ weight c
+weight-alternate [] = refl
+weight-alternate (x ∷ c) = omega (arith, weight-alternate c)
+
+pub length-alternate : (b : Bool) (k : ℕ) (c : List ℕ) → length c ≤ 2 * k → length (alternate b c) ≤ k
+length-alternate b k [] h = zero-le
+length-alternate b zero (x ∷ c) h = absurd (omega arith)
+length-alternate true (suc k) (x ∷ []) h = omega arith
+length-alternate false (suc k) (x ∷ []) h = zero-le
+length-alternate true (suc k) (x ∷ y ∷ c) h = omega (arith, length-alternate true k c (omega arith))
+length-alternate false (suc k) (x ∷ y ∷ c) h = omega (arith, length-alternate false k c (omega arith))
+
+pub size-alternate : (b : Bool) (k : ℕ) (c : List ℕ) → length c ≡ 2 * k → length (alternate b c) ≡ k
+size-alternate b zero [] h = refl
+size-alternate b (suc k) [] h = absurd (omega arith)
+size-alternate b zero (x ∷ c) h = absurd (omega arith)
+size-alternate b (suc k) (x ∷ []) h = absurd (omega arith)
+size-alternate true (suc k) (x ∷ y ∷ c) h = omega (arith, size-alternate true k c (omega arith))
+size-alternate false (suc k) (x ∷ y ∷ c) h = omega (arith, size-alternate false k c (omega arith))

@@ -1,0 +1,4 @@
+pub mod Row
+pub mod Remainder
+pub mod Columns
+pub mod Syndromes

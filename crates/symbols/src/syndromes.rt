@@ -1,0 +1,89 @@
+// The syndromes (01: check row sums) of both components of an interleaved word.
+use crate::residue::remainder;
+ghost use mathlib.Core.Path.{_≡_};
+ghost use mathlib.Core.Bool.{true, false};
+ghost use mathlib.Core.List.{[], _∷_};
+ghost use Prim.Native.Nat.{min, _≤_};
+ghost use Rattle.symbols.specs.Remainder.{residue};
+ghost use Rattle.symbols.specs.Syndromes.{Light, Added, part, rowSums};
+
+// Four row sums each: three digit rows, and the row of ones.
+pub struct Syndromes {
+    pub first: [u8; 4],
+    pub second: [u8; 4],
+}
+
+// Row sums not yet reduced mod q.
+pub(crate) struct Sums {
+    pub(crate) low: u32,
+    pub(crate) middle: u32,
+    pub(crate) high: u32,
+    pub(crate) ones: u32,
+}
+
+// A byte as a number that the sums of 48 products fit.
+fn wide(x: u8) -> u32
+    ensures { λ r. ⌜ (r ≡ x) × (r ≤ 255) ⌝ }
+{
+    x as u32
+}
+
+// A symbol x in a column more.
+fn added(s: Sums, column: [u8; 3], x: u8) -> Sums
+    requires { ⌜ Light s ⌝ }
+    ensures { λ r. ⌜ Added s column x r ⌝ }
+{
+    let y = wide(x);
+    Sums {
+        low: s.low + wide(column[0]) * y,
+        middle: s.middle + wide(column[1]) * y,
+        high: s.high + wide(column[2]) * y,
+        ones: s.ones + y,
+    }
+}
+
+// The sums mod q.
+fn reduced(q: u8, s: Sums) -> [u8; 4]
+    ensures { λ r. ⌜ r ≡ residue q (s .low) ∷ residue q (s .middle) ∷ residue q (s .high) ∷ residue q (s .ones) ∷ [] ⌝ }
+{
+    [
+        remainder(q, s.low as usize),
+        remainder(q, s.middle as usize),
+        remainder(q, s.high as usize),
+        remainder(q, s.ones as usize),
+    ]
+}
+
+// The syndromes of the components in x: x[0] is neither's, and then their symbols follow in turn, n of
+// each, or all 48.
+pub fn syndromes_of(q: u8, n: usize, columns: &[[u8; 3]; 48], x: &[u8; 97]) -> Syndromes
+    ensures { λ s. ⌜ (s .first ≡ rowSums q (now (columns .entry)) (part true (min n 48) (now (x .entry)))) × (s .second ≡ rowSums q (now (columns .entry)) (part false (min n 48) (now (x .entry)))) ⌝ }
+{
+    let mut end = n;
+    if 48 < end {
+        end = 48;
+    }
+    let mut first = Sums {
+        low: 0,
+        middle: 0,
+        high: 0,
+        ones: 0,
+    };
+    let mut second = Sums {
+        low: 0,
+        middle: 0,
+        high: 0,
+        ones: 0,
+    };
+    let mut i = 0;
+    while i < end {
+        let column = columns[i];
+        first = added(first, column, x[2 * i + 1]);
+        second = added(second, column, x[2 * i + 2]);
+        i += 1;
+    }
+    Syndromes {
+        first: reduced(q, first),
+        second: reduced(q, second),
+    }
+}
