@@ -4,8 +4,8 @@
 mod show;
 mod text;
 
-use codec::Decoded;
-use codec::Encoded;
+use decoder::Decoded;
+use encoder::Encoded;
 use libc::STDIN_FILENO;
 use libc::STDOUT_FILENO;
 use show::FILL;
@@ -20,7 +20,7 @@ use text::until;
 
 // Encodes into the output, and prints the word or the refusal.
 fn encode_and_print(profile: usize, first: &[u8], second: &[u8], out: &mut [u8]) {
-    let answer = codec::encode(profile, first, second, out);
+    let answer = encoder::encode(profile, first, second, out);
     match answer {
         Encoded::Done => {
             print_word(out);
@@ -51,7 +51,7 @@ fn print_unread(number: u8, first: &[u8], second: &[u8]) {
 
 // Decodes into the outputs, and prints the answer and the messages, or the refusal.
 fn decode_and_print(profile: usize, word: &[u8], first: &mut [u8], second: &mut [u8]) {
-    let answer = codec::decode(profile, word, first, second);
+    let answer = decoder::decode(profile, word, first, second);
     match answer {
         Decoded::Clean => {
             io::write_all(STDOUT_FILENO, b"C 0 0");

@@ -13,7 +13,7 @@ use Rattle.modular.proofs.Residue.{of-eq, same, symm, _then_, add, reduce}
 use Rattle.modular.proofs.Sum.{dot-one}
 use Rattle.code.specs.Parameters.{delta}
 use Rattle.code.specs.Codeword.{alternate, alpha, beta}
-use Rattle.code.proofs.Weights.{spread, spread-take, spread-skip, dot-alternate}
+use Rattle.code.proofs.Weights.{spread, spread-take, dot-alternate}
 use Rattle.code.proofs.Alternate.{first-kept, second-kept}
 use Rattle.decoding.specs.Syndromes.{index}
 use Rattle.decoding.specs.Decoded.{checkSymbol}
@@ -30,15 +30,11 @@ check-is q true w = refl
 check-is q false w = rw add-zero refl
 
 -- the symbols of a parity are counted once each, and the others are not
-pub counted : (b : Bool) (k : ℕ) → spread b (λ x. 1) (index b k) ≡ 1
+counted : (b : Bool) (k : ℕ) → spread b (λ x. 1) (index b k) ≡ 1
 counted true k = ap (spread true (λ x. 1)) (index-odd k) ∙ spread-take (λ x. 1) k
 counted false k = ap (spread false (λ x. 1)) (index-even k) ∙ spread-take (λ x. 1) k
 
-pub uncounted : (b : Bool) (k : ℕ) → spread (not b) (λ x. 1) (index b k) ≡ 0
-uncounted true k = ap (spread false (λ x. 1)) (index-odd k) ∙ spread-skip (λ x. 1) k
-uncounted false k = ap (spread true (λ x. 1)) (index-even k) ∙ spread-skip (λ x. 1) k
-
-pub sum-is : (b : Bool) (w : List ℕ) → dot (spread b (λ x. 1)) w ≡ weight (alternate b w)
+sum-is : (b : Bool) (w : List ℕ) → dot (spread b (λ x. 1)) w ≡ weight (alternate b w)
 sum-is b w = sym (dot-alternate b (λ x. 1) w) ∙ dot-one (alternate b w)
 
 pub check-gained : {q : ℕ} (b : Bool) (w : List ℕ) (k y e : ℕ) → index b k < length w → Congruent q (getD w (index b k) 0 + e) y

@@ -13,9 +13,5 @@ pub mod Answers
 pub mod Nearby
 pub mod Outcomes
 pub mod Decoded
--- For loops over arrays
-pub mod Agree
-pub mod Steps
-pub mod Search
 -- The starred cases
 pub mod Cases

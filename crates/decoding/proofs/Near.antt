@@ -2,7 +2,7 @@
 -- the one symbol that has it.
 -- Assumes nothing.
 use mathlib.Core.Path.{_≡_, refl, sym, ap, subst, _∙_}
-use mathlib.Core.Logic.{_≢_, _⊎_, inl, inr, ⊎-elim}
+use mathlib.Core.Logic.{_⊎_, inl, inr, ⊎-elim}
 use mathlib.Core.Bool.{Bool, true, false, _||_}
 use mathlib.Core.List.{List}
 use Prim.Native.Nat.{ℕ, suc, _-_, _≤_, _<_, suc-le-suc}
@@ -14,7 +14,7 @@ use Rattle.modular.specs.Search.{allBelow}
 use Rattle.modular.specs.Sum.{dot}
 use Rattle.modular.specs.Residue.{Congruent}
 use Rattle.modular.specs.Digits.{digits}
-use Rattle.modular.proofs.Search.{eq-test, passes, fails, same-test, all-at, all-of, or-cases, or-left, or-right}
+use Rattle.modular.proofs.Search.{eq-test, same-test, all-at, all-of, or-cases, or-left, or-right}
 use Rattle.modular.proofs.Residue.{of-eq, symm, _then_, reduce, small}
 use Rattle.modular.proofs.Digits.{digits-below}
 use Rattle.code.specs.Parameters.{Parameters, Sized}
@@ -59,15 +59,6 @@ zero-test {p} {c} {S} w =
     let f : ℕ → ℕ = λ j. getD S j 0 in
     let g : ℕ → ℕ = syndrome (p .q) (p .r) c in
     same-test _ _ (all-zero f g (p .r) (w .at)) (all-zero g f (p .r) (λ j h. sym (w .at j h)))
-
--- the test by its rows
-pub zero-rows : (p : Parameters) (S : List ℕ) → ((j : ℕ) → j < p .r → getD S j 0 ≡ 0) → zeroSyndrome p S ≡ true
-unfolding zeroSyndrome
-zero-rows p S e = passes (all-of (λ j. eqb (getD S j 0) 0) (p .r) (λ j h. eq-test (e j h)))
-
-pub nonzero-row : (p : Parameters) (S : List ℕ) (j : ℕ) → j < p .r → getD S j 0 ≢ 0 → zeroSyndrome p S ≡ false
-unfolding zeroSyndrome
-nonzero-row p S j h n = fails (λ t. n (eqb→eq _ _ (all-at (λ j. eqb (getD S j 0) 0) (p .r) t j h)))
 
 -- what the test of a column says
 pub record Named (p : Parameters) (S : List ℕ) : Type 0 where

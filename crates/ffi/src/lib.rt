@@ -4,11 +4,11 @@ ghost use mathlib.Core.Bool.{true, false};
 ghost use lib.ListN.{length};
 ghost use Rattle.code.specs.Operations.{encodeRefusal, encodeOutput, decodeAnswer, decodeOutput, report};
 ghost use Rattle.sheet.specs.Operations.{formatAnswer, formatQueue, enqueueAnswer, enqueueQueue, peekAnswer, peekOutput, dequeueAnswer, dequeueQueue, dequeueOutput};
-ghost use Rattle.codec.specs.Answer.{encodedNumber};
-ghost use Rattle.codec.specs.Decode.{decodedReport};
+ghost use Rattle.encoder.specs.Answer.{encodedNumber};
+ghost use Rattle.decoder.specs.Decode.{decodedReport};
 ghost use Rattle.ffi.specs.Packed.{packed, Within};
-use codec::Decoded;
-use codec::Encoded;
+use decoder::Decoded;
+use encoder::Encoded;
 
 // 01: Write.
 #[no_mangle]
@@ -16,7 +16,7 @@ pub extern "C" fn fogzurt_encode(profile: usize, first: &[u8], second: &[u8], ou
     ensures { λ r. ⌜ r ≡ encodeRefusal profile (now (first .entry)) (now (second .entry)) (length (now (out .entry))) ⌝ }
     ensures { λ r. ⌜ now (out .exit) ≡ encodeOutput profile (now (first .entry)) (now (second .entry)) (now (out .entry)) ⌝ }
 {
-    encode_number(codec::encode(profile, first, second, out))
+    encode_number(encoder::encode(profile, first, second, out))
 }
 
 fn encode_number(answer: Encoded) -> u64
@@ -40,7 +40,7 @@ pub extern "C" fn fogzurt_decode(
     ensures { λ _. ⌜ now (first .exit) ≡ decodeOutput true (decodeAnswer profile (now (word .entry)) (length (now (first .entry))) (length (now (second .entry)))) (now (first .entry)) ⌝ }
     ensures { λ _. ⌜ now (second .exit) ≡ decodeOutput false (decodeAnswer profile (now (word .entry)) (length (now (first .entry))) (length (now (second .entry)))) (now (second .entry)) ⌝ }
 {
-    pack(codec::decode(profile, word, first, second))
+    pack(decoder::decode(profile, word, first, second))
 }
 
 // Decode's answer in one number.

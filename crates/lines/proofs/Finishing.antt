@@ -13,9 +13,8 @@ use Rattle.modular.proofs.Search.{le-or-lt}
 use lib.Seq.{take-all, take-nil}
 use Rattle.stream.specs.Feed.{Model, Fed, answerAtEnd, stopped, finishing, isEmpty, isDone, overwritten}
 use Rattle.stream.proofs.Cutting.{finish-on, finish-stop}
-use Rattle.lines.specs.Writing.{Written}
-use Rattle.lines.specs.States.{partialOf, pendingOf}
-use Rattle.lines.proofs.Stepping.{Turn, Done, length-pending, nothing, written-fits, no-room, no-input, stepped}
+use Rattle.lines.specs.States.{partialOf, pendingOf, Holds}
+use Rattle.lines.proofs.Stepping.{Turn, Done, length-pending, nothing, no-room, no-input, stepped}
 
 module _ {out₀ line : List ℕ} {len : ℕ} {pending : List ℕ} {from′ to n : ℕ} {out : List ℕ} (o : List ℕ)
     (t : Turn (stopped (partialOf line len) o (length out₀)) [] out₀ line len pending from′ to 0 n out) where
@@ -36,14 +35,14 @@ module _ {out₀ line : List ℕ} {len : ℕ} {pending : List ℕ} {from′ to n
         ∙ append-nil (take n out)
 
     -- the answer at the end is pending
-    pub ended : {pending′ : List ℕ} {end : ℕ} → length pending′ ≡ 101 → Written pending pending′ 0 end (answerAtEnd (partialOf line len)) → length o ≡ n
+    pub ended : {pending′ : List ℕ} {end : ℕ} → Holds pending′ end (answerAtEnd (partialOf line len)) → length o ≡ n
         → Turn (finishing (record { line = partialOf line len; pending = o }) (length out₀)) [] out₀ line 0 pending′ 0 end 0 n out
-    ended {pending′} {end} h w e =
+    ended {pending′} {end} w e =
         record {
           long-line = t .long-line;
-          long-pending = h;
+          long-pending = w .long;
           order = zero-le;
-          end = omega (arith, written-fits w);
+          end = w .fits;
           taken = zero-le;
           put = t .put;
           same = t .same;

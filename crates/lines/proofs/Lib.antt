@@ -1,7 +1,6 @@
-pub mod Writing
-pub mod Forms
-pub mod Answers
-pub mod Gathering
+pub mod Copying
+pub mod Ends
+pub mod Holding
 pub mod Clamping
 pub mod Turns
 pub mod Stepping

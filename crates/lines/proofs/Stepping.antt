@@ -1,21 +1,17 @@
 -- The loop of `step`: its invariant, and what each part of a turn does to it.
 -- Assumes nothing.
-use mathlib.Core.Path.{_≡_, refl, sym, ap, _∙_, subst}
-use mathlib.Core.Logic.{⊎-elim}
-use mathlib.Core.Bool.{true, false}
+use mathlib.Core.Path.{_≡_, refl, sym, ap, _∙_}
 use mathlib.Core.List.{List, [], _∷_, _++_, append-nil}
 use Prim.Native.Nat.{ℕ, zero, suc, _+_, _-_, _≤_, _<_, zero-le}
-use native.Mathlib.Nat.{le-of-lt, zero-add}
+use native.Mathlib.Nat.{zero-add}
 use native.Mathlib.Omega.{arith}
 use lib.ListN.{length, take, drop, length-drop, take-append-drop, drop-of-length-le}
-use lib.Seq.{take-all, length-take-le, drop-drop, take-take, take-paste, drop-paste, length-paste, take-nil, drop-nil}
-use Rattle.modular.proofs.Search.{le-or-lt}
+use lib.Seq.{length-take-le, drop-drop, take-take, getD-drop, take-paste, drop-paste, length-paste, take-nil, drop-nil}
 use Rattle.stream.specs.Feed.{Model, Fed, answerTo, feedFrom, overwritten}
 use Rattle.stream.proofs.Feed.{feed-stop}
-use Rattle.lines.specs.declared.gather.Gathered.{Gathered}
-use Rattle.lines.specs.Writing.{Written}
-use Rattle.lines.specs.States.{partialOf, pendingOf, Gather, gatherFrom, gathered, Emitted}
-use Rattle.lines.proofs.Turns.{ahead, ahead-ahead, emit-law, resumed, gather-law, gather-bounds, gather-moves}
+use Rattle.lines.specs.States.{partialOf, pendingOf, extendedBy, Holds, Emitted}
+use Rattle.lines.specs.Ends.{LineEnd}
+use Rattle.lines.proofs.Turns.{ahead, ahead-ahead, emit-law, piece-law, end-law}
 
 -- `goal` is what the whole call comes to
 pub record Turn (goal : Fed) (input out₀ line : List ℕ) (len : ℕ) (pending : List ℕ) (from to consumed produced : ℕ) (out : List ℕ) : Type 0 where
@@ -41,12 +37,6 @@ pending-take [] (suc from) zero n h = refl
 pending-take [] (suc from) (suc to) n h = refl
 pending-take (x ∷ pending) (suc from) zero n h = absurd (omega arith)
 pending-take (x ∷ pending) (suc from) (suc to) n h = pending-take pending from to n (omega arith)
-
-pub written-fits : {old new bytes : List ℕ} {end : ℕ} → Written old new 0 end bytes → end ≤ length new
-written-fits {old} {new} {bytes} {end} w =
-    ⊎-elim (λ (h : end ≤ length new). h)
-    (λ (h : length new < end). let e : length new ≡ length bytes = ap length (sym (take-all end new (le-of-lt h)) ∙ w .text) in omega (arith, w .ends))
-    (le-or-lt end (length new))
 
 -- Putting out.
 
@@ -102,61 +92,56 @@ nothing pending from to h k l =
 
 module _ {goal : Fed} {input out₀ line : List ℕ} {len : ℕ} {pending : List ℕ} {from to consumed produced : ℕ} {out : List ℕ}
     (t : Turn goal input out₀ line len pending from to consumed produced out) (none : to ≤ from) where
-  -- what is left to do, after the bytes that were gathered
-  resumes : goal ≡ resumed input (length out₀ - produced) (take produced out) (gatherFrom (partialOf line len) consumed (drop consumed input))
-  resumes =
-      t .left
-      ∙ ap (λ (o : List ℕ). ahead consumed (take produced out) (feedFrom (partialOf line len) o (drop consumed input) (length out₀ - produced)))
-      (nothing pending from to (t .long-pending) (t .end) none)
-      ∙ gather-law input (drop consumed input) consumed (partialOf line len) (take produced out) (length out₀ - produced) refl
+  module _ {end : ℕ} (e : LineEnd input consumed (length input) end) where
+    -- the bytes of the line in this piece
+    bytes : List ℕ
+    bytes = take (end - consumed) (drop consumed input)
 
-  -- how far they go
-  reaches : gatherFrom (partialOf line len) consumed (drop consumed input) .at ≤ length input
-  reaches = omega (arith, gather-bounds (drop consumed input) consumed (partialOf line len) .1, length-drop consumed input, t .taken)
-
-  pub moves : consumed < length input → consumed < gatherFrom (partialOf line len) consumed (drop consumed input) .at
-  moves h = gather-moves (drop consumed input) consumed (partialOf line len) (rw length-drop (omega arith))
-
-  module _ (line′ : List ℕ) (g : Gathered) (long : length line′ ≡ 101)
-      (e : gathered line′ g ≡ gatherFrom (partialOf line len) consumed (drop consumed input)) where
-    within : g .at ≤ length input
-    within = subst (λ (x : ℕ). x ≤ length input) (sym (ap (λ (x : Gather). x .at) e)) reaches
-
-    pub further : consumed < length input → consumed < g .at
-    further h = subst (λ (x : ℕ). consumed < x) (sym (ap (λ (x : Gather). x .at) e)) (moves h)
-
-    resumes-gathered : goal ≡ resumed input (length out₀ - produced) (take produced out) (gathered line′ g)
-    resumes-gathered = resumes ∙ ap (resumed input (length out₀ - produced) (take produced out)) (sym e)
+    -- what is left to do, after them
+    resumes : goal ≡ ahead end (take produced out) (feedFrom (extendedBy (partialOf line len) bytes) [] (drop end input) (length out₀ - produced))
+    unfolding bytes
+    resumes =
+        let a : consumed + (end - consumed) ≡ end = omega (arith, e .low) in
+        t .left
+        ∙ ap (λ (o : List ℕ). ahead consumed (take produced out) (feedFrom (partialOf line len) o (drop consumed input) (length out₀ - produced)))
+        (nothing pending from to (t .long-pending) (t .end) none)
+        ∙ piece-law (drop consumed input) (end - consumed) consumed (partialOf line len) (take produced out) (length out₀ - produced) (rw length-drop (omega (arith, e .high)))
+        (λ j h. rw (getD-drop consumed input j 0) (e .none (consumed + j) (omega arith) (omega arith)))
+        ∙ rw (drop-drop (end - consumed) consumed input, a)
 
     -- byte 10 came: the answer to the line is pending
-    pub answered : {pending′ : List ℕ} {end : ℕ} → g .ended ≡ true → length pending′ ≡ 101
-        → Written pending pending′ 0 end (answerTo (partialOf line′ (g .len))) → Turn goal input out₀ line′ 0 pending′ 0 end (g .at) produced out
-    answered {pending′} {end} b h w =
+    pub answered : {line′ pending′ : List ℕ} {to′ : ℕ} → end < length input → length line′ ≡ 101
+        → Holds pending′ to′ (answerTo (extendedBy (partialOf line len) (take (end - consumed) (drop consumed input))))
+        → Turn goal input out₀ line′ 0 pending′ 0 to′ (end + 1) produced out
+    unfolding bytes
+    answered {line′} {pending′} {to′} h l w =
         record {
-          long-line = long;
-          long-pending = h;
+          long-line = l;
+          long-pending = w .long;
           order = zero-le;
-          end = omega (arith, written-fits w);
-          taken = within;
+          end = w .fits;
+          taken = omega arith;
           put = t .put;
           same = t .same;
           rest = t .rest;
-          left = resumes-gathered ∙ rw (b, resumed, w .text);
+          left = resumes ∙ end-law input end (extendedBy (partialOf line len) bytes) (take produced out) (length out₀ - produced) h (e .ends h) ∙ rw (w .text);
         }
 
     -- the piece is at its end
-    pub exhausted : g .ended ≡ false → Turn goal input out₀ line′ (g .len) pending from to (g .at) produced out
-    exhausted b =
+    pub exhausted : (line′ : List ℕ) (len′ : ℕ) → length line′ ≡ 101 → partialOf line′ len′ ≡ extendedBy (partialOf line len) (take (end - consumed) (drop consumed input))
+        → Turn goal input out₀ line′ len′ pending from to end produced out
+    unfolding bytes
+    exhausted line′ len′ l p =
         record {
-          long-line = long;
+          long-line = l;
           long-pending = t .long-pending;
           order = t .order;
           end = t .end;
-          taken = within;
+          taken = e .high;
           put = t .put;
           same = t .same;
           rest = t .rest;
-          left = resumes-gathered ∙ rw (b, resumed, nothing pending from to (t .long-pending) (t .end) none);
+          left = resumes ∙ rw (p, nothing pending from to (t .long-pending) (t .end) none);
         }
 
 -- Where the loop is left.

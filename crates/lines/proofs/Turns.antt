@@ -4,18 +4,18 @@ use mathlib.Core.Path.{_≡_, refl, sym, ap, _∙_}
 use mathlib.Core.Logic.{⊎-elim}
 use mathlib.Core.Bool.{true, false}
 use mathlib.Core.List.{List, [], _∷_, _++_, append-assoc}
-use Prim.Native.Nat.{ℕ, suc, _+_, _-_, _≤_, _<_, zero-le}
+use Prim.Native.Nat.{ℕ, zero, suc, _+_, _-_, _≤_, _<_, zero-le}
 use native.Mathlib.Numerals.{add-one}
 use native.Mathlib.Omega.{arith}
 use lib.Dec.{eqb}
-use lib.ListN.{length, take, drop, length-drop, take-append-drop}
-use lib.Seq.{drop-drop, take-add}
+use lib.ListN.{length, getD, take, drop, length-drop, take-append-drop}
+use lib.Seq.{drop-drop, take-add, drop-cons}
+use borrow.Author.Tests.{eq-eqb, ne-eqb}
 use Rattle.modular.proofs.Search.{le-or-lt}
-use Rattle.code.proofs.Merge.{cases}
 use Rattle.stream.specs.Feed.{Partial, held, Fed, extended, answerTo, lineAfter, answerAfter, stopped, onward, feedFrom}
 use Rattle.stream.proofs.Whole.{line-ends, line-grows}
 use Rattle.stream.proofs.Feed.{feed-on, feed-stop}
-use Rattle.lines.specs.States.{Gather, gatherFrom}
+use Rattle.lines.specs.States.{extendedBy}
 
 -- o was put out and k bytes were taken before f
 abbrev pub ahead : ℕ → List ℕ → Fed → Fed
@@ -60,18 +60,7 @@ emit-law p o s room n h k =
     ∙ emit-stopped p o room n k
     ∙ ap (ahead 0 (take n o)) (sym (feed-stop p (drop n o) s (room - n) (omega arith)))) (le-or-lt (length o) room)
 
--- Taking bytes up to the end of a line, where nothing is pending.
-
--- the call goes on after the line's end, with its answer pending, or after the piece's
-abbrev pub resumed : List ℕ → ℕ → List ℕ → Gather → Fed
-resumed input room o g =
-    elim (g .ended) [
-      | true ↦ ahead (g .at) o (feedFrom (held []) (answerTo (g .line)) (drop (g .at) input) room)
-      | false ↦ ahead (g .at) o (feedFrom (g .line) [] (drop (g .at) input) room)
-    ]
-
-drop-next : (input : List ℕ) (at b : ℕ) (s : List ℕ) → drop at input ≡ b ∷ s → drop (suc at) input ≡ s
-drop-next input at b s e = ap (λ (i : ℕ). drop i input) (sym (add-one at)) ∙ sym (drop-drop 1 at input) ∙ ap (drop 1) e
+-- Taking bytes of a line, where nothing is pending.
 
 take-byte : (p : Partial) (at b : ℕ) (o s : List ℕ) (room : ℕ)
     → ahead at o (feedFrom p [] (b ∷ s) room) ≡ ahead (suc at) o (feedFrom (lineAfter p b) (answerAfter p b) s room)
@@ -80,25 +69,22 @@ take-byte p at b o s room =
     ap (ahead at o) (feed-on p [] b s room zero-le ∙ ap (λ (i : ℕ). onward [] (feedFrom (lineAfter p b) (answerAfter p b) s i)) r)
     ∙ fed-same refl (omega arith) refl
 
-pub gather-law : (input s : List ℕ) (at : ℕ) (p : Partial) (o : List ℕ) (room : ℕ) → drop at input ≡ s
-    → ahead at o (feedFrom p [] s room) ≡ resumed input room o (gatherFrom p at s)
-gather-law input [] at p o room e = rw e
-gather-law input (b ∷ s) at p o room e =
+-- n bytes, none of them byte 10
+pub piece-law : (s : List ℕ) (n at : ℕ) (p : Partial) (o : List ℕ) (room : ℕ) → n ≤ length s → ((j : ℕ) → j < n → getD s j 0 ≡ 10 → ⊥)
+    → ahead at o (feedFrom p [] s room) ≡ ahead (at + n) o (feedFrom (extendedBy p (take n s)) [] (drop n s) room)
+piece-law s zero at p o room h none = let e : at + 0 ≡ at = omega arith in rw e
+piece-law [] (suc n) at p o room h none = absurd (omega arith)
+piece-law (b ∷ s) (suc n) at p o room h none =
+    let t : eqb b 10 ≡ false = ne-eqb b 10 (none 0 (omega arith)) in
+    let e : suc at + n ≡ at + suc n = omega arith in
     take-byte p at b o s room
-    ∙ cases (eqb b 10)
-    (λ t. rw (line-ends p b t .0, line-ends p b t .1, t, gatherFrom, drop-next input at b s e))
-    (λ t. rw (line-grows p b t .0, line-grows p b t .1, t, gatherFrom) (gather-law input s (suc at) (extended p b) o room (drop-next input at b s e)))
+    ∙ rw (line-grows p b t .0, line-grows p b t .1) (piece-law s n (suc at) (extended p b) o room (omega arith) (λ j k. none (suc j) (omega arith)))
+    ∙ ap (λ (i : ℕ). ahead i o (feedFrom (extendedBy (extended p b) (take n s)) [] (drop n s) room)) e
 
--- it takes a byte, where there is one, and no more than there are
-pub gather-bounds : (s : List ℕ) (at : ℕ) (p : Partial) → (at ≤ gatherFrom p at s .at) × (gatherFrom p at s .at ≤ at + length s)
-gather-bounds [] at p = (omega arith, omega arith)
-gather-bounds (b ∷ s) at p =
-    let n = gather-bounds s (suc at) (extended p b) in
-    cases (eqb b 10) (λ t. rw (t, gatherFrom) (omega arith, omega arith))
-    (λ t. rw (t, gatherFrom) (omega (arith, n .0), omega (arith, n .1)))
-
-pub gather-moves : (s : List ℕ) (at : ℕ) (p : Partial) → 0 < length s → at < gatherFrom p at s .at
-gather-moves [] at p h = absurd (omega arith)
-gather-moves (b ∷ s) at p h =
-    let n = gather-bounds s (suc at) (extended p b) in
-    cases (eqb b 10) (λ t. rw (t, gatherFrom) (omega arith)) (λ t. rw (t, gatherFrom) (omega (arith, n .0)))
+-- and byte 10
+pub end-law : (input : List ℕ) (at : ℕ) (p : Partial) (o : List ℕ) (room : ℕ) → at < length input → getD input at 0 ≡ 10
+    → ahead at o (feedFrom p [] (drop at input) room) ≡ ahead (at + 1) o (feedFrom (held []) (answerTo p) (drop (at + 1) input) room)
+end-law input at p o room h e =
+    let t : eqb (getD input at 0) 10 ≡ true = eq-eqb (getD input at 0) 10 e in
+    rw (add-one at, drop-cons input at 0 h)
+    (take-byte p at (getD input at 0) o (drop (suc at) input) room ∙ rw (line-ends p (getD input at 0) t .0, line-ends p (getD input at 0) t .1))

@@ -1,3 +1,2 @@
-pub mod Writing
-pub mod Forms
 pub mod States
+pub mod Ends

@@ -1,8 +1,7 @@
 // The line program of document 01 over input that comes in pieces of any size, into outputs of any size.
-mod answer;
-mod form;
-mod gather;
-mod text;
+mod line;
+mod pending;
+mod search;
 
 ghost use mathlib.Core.Path.{_≡_};
 ghost use lib.ListN.{length};
@@ -50,28 +49,28 @@ pub fn step(state: State, input: &[u8], output: &mut [u8]) -> Stepped
     let mut line = state.line;
     let mut len = state.len;
     let mut pending = state.answer;
-    let mut to = gather::least(state.to, 101);
-    let mut from = gather::least(state.from, to);
+    let mut to = pending::least(state.to, 101);
+    let mut from = pending::least(state.from, to);
     let mut consumed = 0;
     let mut produced = 0;
     loop {
-        let n = gather::emit(&pending, from, to, output, produced);
+        let n = pending::emit(&pending, from, to, output, produced);
         from += n;
         produced += n;
         if from < to {
             break;
         }
-        if consumed == input.len() {
+        let end = search::line_end(input, consumed);
+        let bytes = &input[consumed..end];
+        if end == input.len() {
+            len = line::hold(&mut line, len, bytes);
+            consumed = end;
             break;
         }
-        let g = gather::gather(input, consumed, &mut line, len);
-        consumed = g.at;
-        len = g.len;
-        if g.ended {
-            to = answer::answer_to(&line, len, &mut pending);
-            from = 0;
-            len = 0;
-        }
+        to = line::answer(&mut line, len, bytes, &mut pending);
+        from = 0;
+        len = 0;
+        consumed = end + 1;
     }
     let state = State {
         line,
@@ -105,9 +104,9 @@ pub fn finish(state: State, output: &mut [u8]) -> Finished
     let line = state.line;
     let len = state.len;
     let mut pending = state.answer;
-    let to = gather::least(state.to, 101);
-    let from = gather::least(state.from, to);
-    let n = gather::emit(&pending, from, to, output, 0);
+    let to = pending::least(state.to, 101);
+    let from = pending::least(state.from, to);
+    let n = pending::emit(&pending, from, to, output, 0);
     if from + n < to {
         let left = State {
             line,
@@ -122,8 +121,8 @@ pub fn finish(state: State, output: &mut [u8]) -> Finished
             done: false,
         };
     }
-    let end = answer::answer_at_end(&line, len, &mut pending);
-    let k = gather::emit(&pending, 0, end, output, n);
+    let end = line::answer_at_end(&line, len, &mut pending);
+    let k = pending::emit(&pending, 0, end, output, n);
     let left = State {
         line,
         len: 0,

@@ -35,13 +35,13 @@ clip-short l h = rw (le-leb (length l) 101 h, clip)
 pub clip-long : (l : List ℕ) → 101 < length l → clip l ≡ tooLong
 clip-long l h = rw (lt-leb (length l) 101 h, clip)
 
-pub extended-room : (l : List ℕ) (b : ℕ) → length l < 101 → extended (held l) b ≡ held (l ++ b ∷ [])
+extended-room : (l : List ℕ) (b : ℕ) → length l < 101 → extended (held l) b ≡ held (l ++ b ∷ [])
 extended-room l b h = rw (lt-ltb (length l) 101 h, extended)
 
-pub extended-full : (l : List ℕ) (b : ℕ) → 101 ≤ length l → extended (held l) b ≡ tooLong
+extended-full : (l : List ℕ) (b : ℕ) → 101 ≤ length l → extended (held l) b ≡ tooLong
 extended-full l b h = rw (le-ltb (length l) 101 h, extended)
 
-answer-clip : (l : List ℕ) → answerTo (clip l) ≡ lineAnswer l
+pub answer-clip : (l : List ℕ) → answerTo (clip l) ≡ lineAnswer l
 answer-clip l =
     ⊎-elim (λ (h : length l ≤ 101). ap answerTo (clip-short l h)) (λ (h : 101 < length l). ap answerTo (clip-long l h) ∙ sym (long-line l h))
     (le-or-lt (length l) 101)
@@ -53,7 +53,7 @@ last-clip (b ∷ l) =
     (λ (h : 101 < length (b ∷ l)). ap answerAtEnd (clip-long (b ∷ l) h) ∙ sym (long-line (b ∷ l) h))
     (le-or-lt (length (b ∷ l)) 101)
 
-extended-clip : (l : List ℕ) (b : ℕ) → extended (clip l) b ≡ clip (l ++ b ∷ [])
+pub extended-clip : (l : List ℕ) (b : ℕ) → extended (clip l) b ≡ clip (l ++ b ∷ [])
 extended-clip l b =
     ⊎-elim (λ (h : length l ≤ 100). ap (λ (p : Partial). extended p b) (clip-short l (omega arith)) ∙ extended-room l b (omega arith) ∙ sym (clip-short (l ++ b ∷ []) (omega (arith, longer))))
     (λ (h : 100 < length l). full h ∙ sym (clip-long (l ++ b ∷ []) (omega (arith, longer)))) (le-or-lt (length l) 100)

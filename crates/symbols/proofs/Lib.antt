@@ -2,6 +2,7 @@
 pub mod Table
 pub mod Digits
 pub mod DigitRows
+pub mod Numbers
 -- Sums mod q
 pub mod Reduce
 -- Words: their levels and their weight

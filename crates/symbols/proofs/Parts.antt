@@ -1,6 +1,6 @@
 -- The symbols of a component in an interleaved word.
 -- Assumes nothing.
-use mathlib.Core.Path.{_≡_, sym, ap, _∙_}
+use mathlib.Core.Path.{_≡_, sym, _∙_}
 use mathlib.Core.Bool.{Bool, true, false}
 use mathlib.Core.List.{List}
 use Prim.Native.Nat.{ℕ, suc, _+_, _*_, _≤_, _<_}
@@ -8,7 +8,6 @@ use native.Mathlib.Nat.{min-le-left}
 use native.Mathlib.Omega.{arith}
 use lib.ListN.{length, getD, take, drop, length-take, length-drop}
 use lib.Seq.{getD-take, getD-drop, length-take-le}
-use Rattle.code.specs.Codeword.{alternate}
 use Rattle.code.proofs.Weights.{double, double-is}
 use Rattle.code.proofs.Alternate.{first-at, second-at}
 use Rattle.symbols.specs.Syndromes.{part}

@@ -2,8 +2,11 @@
 ghost use mathlib.Core.Path.{_≡_};
 ghost use Rattle.symbols.specs.Columns.{digitRows, columnsOf};
 
+// A column for each position from 1 to 48.
+pub type Matrix = [[u8; 3]; 48];
+
 // Three digits in base 3 of each position from 1 to 48, the lowest first.
-const BASE_3: [[u8; 3]; 48] = [
+const BASE_3: Matrix = [
     [1, 0, 0],
     [2, 0, 0],
     [0, 1, 0],
@@ -55,7 +58,7 @@ const BASE_3: [[u8; 3]; 48] = [
 ];
 
 // Three digits in base 5 of each position from 1 to 48, the lowest first.
-const BASE_5: [[u8; 3]; 48] = [
+const BASE_5: Matrix = [
     [1, 0, 0],
     [2, 0, 0],
     [3, 0, 0],
@@ -107,7 +110,7 @@ const BASE_5: [[u8; 3]; 48] = [
 ];
 
 // Three digits in base 7 of each position from 1 to 48, the lowest first.
-const BASE_7: [[u8; 3]; 48] = [
+const BASE_7: Matrix = [
     [1, 0, 0],
     [2, 0, 0],
     [3, 0, 0],
@@ -158,26 +161,26 @@ const BASE_7: [[u8; 3]; 48] = [
     [6, 6, 0],
 ];
 
-fn base_3() -> [[u8; 3]; 48]
+fn base_3() -> Matrix
     ensures { λ r. ⌜ r ≡ digitRows 3 1 48 ⌝ }
 {
     BASE_3
 }
 
-fn base_5() -> [[u8; 3]; 48]
+fn base_5() -> Matrix
     ensures { λ r. ⌜ r ≡ digitRows 5 1 48 ⌝ }
 {
     BASE_5
 }
 
-fn base_7() -> [[u8; 3]; 48]
+fn base_7() -> Matrix
     ensures { λ r. ⌜ r ≡ digitRows 7 1 48 ⌝ }
 {
     BASE_7
 }
 
 // The columns of a profile: an array of digit arrays; zeros where the number is no profile's.
-pub fn columns(profile: usize) -> [[u8; 3]; 48]
+pub fn columns(profile: usize) -> Matrix
     ensures { λ r. ⌜ r ≡ columnsOf profile ⌝ }
 {
     if profile == 1 {

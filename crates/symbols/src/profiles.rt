@@ -1,6 +1,5 @@
 // The four profiles (01: The four profiles), a row each, with the numbers that follow from q, r and n.
 ghost use mathlib.Core.Path.{_≡_};
-ghost use Prim.Native.Nat.{min, _-_};
 ghost use Rattle.code.specs.Profiles.{derivedRow};
 ghost use Rattle.symbols.specs.Row.{cells};
 
@@ -74,22 +73,22 @@ const ROWS: [Row; 5] = [
     },
 ];
 
-// Where the row of a number stands. The definitions give 0 the first row's parameters, and 5 and up zeros.
-fn index(profile: usize) -> usize
-    ensures { λ r. ⌜ r ≡ min (profile - 1) 4 ⌝ }
-{
-    if 4 < profile {
-        return 4;
-    }
-    if profile == 0 {
-        return 0;
-    }
-    profile - 1
-}
-
-// The row of a profile.
+// The row of a profile. The definitions give 0 the first row's parameters, and 5 and up zeros. Each row has a way out of its own, so that the
+// compiler need not put the table into memory to look into it.
 pub fn row_of(profile: usize) -> Row
     ensures { λ t. ⌜ cells profile t ≡ derivedRow profile ⌝ }
 {
-    ROWS[index(profile)]
+    if 4 < profile {
+        return ROWS[4];
+    }
+    if profile == 4 {
+        return ROWS[3];
+    }
+    if profile == 3 {
+        return ROWS[2];
+    }
+    if profile == 2 {
+        return ROWS[1];
+    }
+    ROWS[0]
 }

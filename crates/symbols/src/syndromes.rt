@@ -1,5 +1,7 @@
 // The syndromes (01: check row sums) of both components of an interleaved word.
+use crate::matrix::Matrix;
 use crate::residue::remainder;
+use crate::weight::Body;
 ghost use mathlib.Core.Path.{_≡_};
 ghost use mathlib.Core.Bool.{true, false};
 ghost use mathlib.Core.List.{[], _∷_};
@@ -56,7 +58,7 @@ fn reduced(q: u8, s: Sums) -> [u8; 4]
 
 // The syndromes of the components in x: x[0] is neither's, and then their symbols follow in turn, n of
 // each, or all 48.
-pub fn syndromes_of(q: u8, n: usize, columns: &[[u8; 3]; 48], x: &[u8; 97]) -> Syndromes
+pub fn syndromes_of(q: u8, n: usize, columns: &Matrix, x: &Body) -> Syndromes
     ensures { λ s. ⌜ (s .first ≡ rowSums q (now (columns .entry)) (part true (min n 48) (now (x .entry)))) × (s .second ≡ rowSums q (now (columns .entry)) (part false (min n 48) (now (x .entry)))) ⌝ }
 {
     let mut end = n;

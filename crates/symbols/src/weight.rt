@@ -6,6 +6,9 @@ ghost use lib.ListN.{take};
 ghost use Rattle.modular.specs.Sum.{weight};
 ghost use Rattle.code.specs.Codeword.{alternate};
 
+// 01: an array of 97 holds w; x is as long.
+pub type Body = [u8; 97];
+
 // The sums over the odd positions, 1, 3, .., and over the even ones.
 pub struct Weight {
     pub odd: usize,
@@ -20,7 +23,7 @@ fn wide(x: u8) -> u16
 }
 
 // The first m symbols weighed, or all 97, in pairs.
-pub fn weigh(word: &[u8; 97], m: usize) -> Weight
+pub fn weigh(word: &Body, m: usize) -> Weight
     ensures { λ r. ⌜ (r .odd ≡ weight (alternate true (take (min m 97) (now (word .entry))))) × (r .even ≡ weight (alternate false (take (min m 97) (now (word .entry))))) ⌝ }
 {
     let mut end = m;

@@ -2,15 +2,15 @@
 -- Assumes nothing.
 use mathlib.Core.Path.{_≡_, sym, ap, _∙_}
 use mathlib.Core.List.{List}
-use Prim.Native.Nat.{ℕ, _-_}
+use Prim.Native.Nat.{ℕ, _-_, _<_}
 use native.Mathlib.Omega.{arith}
 use denote.Ref.{now}
 use lib.ListN.{length}
-use borrow.Author.Needs.{needs}
 use Rattle.stream.specs.Feed.{feedFrom, feed}
 use Rattle.lines.specs.States.{partialOf, pendingOf, modelOf}
 use Rattle.lines.proofs.Clamping.{clamped}
-use Rattle.lines.proofs.Stepping.{Turn, begins, emitted, further, answered, exhausted, no-room, no-input, stepped}
+use Rattle.lines.proofs.Stepping.{Turn, begins, emitted, answered, exhausted, no-room, no-input, stepped}
+use borrow.Author.Needs.{needs}
 use Rattle.lines.proofs.step.Statement.{statement}
 use Rattle.lines.proofs.step.Tie as tie
 
@@ -22,8 +22,33 @@ abbrev μ-loop : tie.MeasureT-loop
 μ-loop input output₀ line₀ len₀ pending₀ to₀ from₀ consumed₀ produced₀ output line len pending to from consumed produced =
     length input - consumed
 
-long-answer : (c : tie.After-pending Inv-loop μ-loop) → length (c .before .before .before .before .args .state .answer) ≡ 101
+-- the places before a place: pending bytes were put out, the loop's head, the start
+abbrev put-out : tie.After-line-end Inv-loop μ-loop → tie.After-emit Inv-loop μ-loop
+put-out c = c .before .before .before .before
+
+abbrev head : tie.After-emit Inv-loop μ-loop → tie.At-loop Inv-loop μ-loop
+head c = c .before .before .before
+
+abbrev started : tie.At-loop Inv-loop μ-loop → tie.Start Inv-loop μ-loop
+started c = c .before .before .before .before .before .before .before
+
+long-answer : (c : tie.At-loop Inv-loop μ-loop) → length (started c .args .state .answer) ≡ 101
 long-answer c = search needs
+
+-- the pending bytes of the call, whatever indices the state holds
+same-call : (c : tie.At-loop Inv-loop μ-loop) → feedFrom (partialOf (started c .args .state .line) (started c .args .state .len)) (pendingOf (started c .args .state .answer) (c .before .least2 .result) (c .before .before .least .result)) (now (started c .args .input)) (length (now (started c .args .output))) ≡ feed (modelOf (started c .args .state)) (now (started c .args .input)) (length (now (started c .args .output)))
+unfolding modelOf feed
+same-call c =
+    let s = started c .args in
+    ap (λ (o : List ℕ). feedFrom (partialOf (s .state .line) (s .state .len)) o (now (s .input)) (length (now (s .output))))
+    (clamped (s .state .answer) (s .state .from) (s .state .to) _ _ (long-answer c) (c .before .before .least .ensures) (c .before .least2 .ensures))
+
+line-long : (c : tie.After-line-end Inv-loop μ-loop) → length (head (put-out c) .loop .line) ≡ 101
+line-long c = head (put-out c) .loop .inv .long-line
+
+-- byte 10 stands before the end of the piece
+further : (c : tie.Else2 Inv-loop μ-loop) → c .before .before .line-end .result < length (now (started (head (put-out (c .before .before))) .args .input))
+further c = omega (arith, c .before .before .line-end .ensures .high, c .if2 .left)
 
 least-requires : tie.Need-least-requires Inv-loop μ-loop
 least-requires c κs = tt
@@ -43,123 +68,75 @@ emit-requires c κs = let t = c .before .before .loop .inv in (t .order, omega (
 add-from : tie.Need-add-from Inv-loop μ-loop
 add-from c =
     let em = c .before .before in
-    let l = em .before .before .before in
-    omega (arith, em .emit .ensures .within, l .loop .inv .order, l .loop .inv .end)
+    omega (arith, em .emit .ensures .within, head em .loop .inv .order, head em .loop .inv .end)
 
 add-produced : tie.Need-add-produced Inv-loop μ-loop
 add-produced c = let em = c .before .before in omega (arith, em .emit .ensures .fits)
 
-slice-aggregate-gather : tie.Need-slice-aggregate-gather Inv-loop μ-loop
-slice-aggregate-gather c = sym (c .before .before .before .before .before .before .before .before .loop .inv .long-line)
+line-end-requires : tie.Need-line-end-requires Inv-loop μ-loop
+line-end-requires c κs = head (c .before .before .before) .loop .inv .taken
 
-gather-requires : tie.Need-gather-requires Inv-loop μ-loop
-gather-requires c κs = c .before .before .before .before .before .before .before .before .loop .inv .long-line
+sub-bytes : tie.Need-sub-bytes Inv-loop μ-loop
+sub-bytes c = c .line-end .ensures .low
 
-slice-aggregate-answer-to : tie.Need-slice-aggregate-answer-to Inv-loop μ-loop
-slice-aggregate-answer-to c =
-    let g = c .before .before .before in
-    let e1 = g .before .before .before in
-    let em = e1 .before .before .before in
-    let l = em .before .before .before in
-    let t = emitted (l .loop .inv) (em .emit .ensures) in
-    let long = g .gather .kept .1 .1 .0 ∙ l .loop .inv .long-line in
-    sym long
+part-bytes-start : tie.Need-part-bytes-start Inv-loop μ-loop
+part-bytes-start c = c .line-end .ensures .low
 
-slice-aggregate-answer-to-2 : tie.Need-slice-aggregate-answer-to-2 Inv-loop μ-loop
-slice-aggregate-answer-to-2 c =
-    let g = c .before .before .before .before in
-    let e1 = g .before .before .before in
-    let em = e1 .before .before .before in
-    let l = em .before .before .before in
-    let t = emitted (l .loop .inv) (em .emit .ensures) in
-    let long = g .gather .kept .1 .1 .0 ∙ l .loop .inv .long-line in
-    sym (l .loop .inv .long-pending)
+part-bytes-end : tie.Need-part-bytes-end Inv-loop μ-loop
+part-bytes-end c = c .line-end .ensures .high
 
-answer-to-requires : tie.Need-answer-to-requires Inv-loop μ-loop
-answer-to-requires c κs =
-    let g = c .before .before .before .before in
-    let e1 = g .before .before .before in
-    let em = e1 .before .before .before in
-    let l = em .before .before .before in
-    let t = emitted (l .loop .inv) (em .emit .ensures) in
-    let long = g .gather .kept .1 .1 .0 ∙ l .loop .inv .long-line in
-    (long, l .loop .inv .long-pending)
+slice-aggregate-hold : tie.Need-slice-aggregate-hold Inv-loop μ-loop
+slice-aggregate-hold c = sym (line-long (c .before .before .before))
+
+hold-requires : tie.Need-hold-requires Inv-loop μ-loop
+hold-requires c κs = line-long (c .before .before .before)
+
+slice-aggregate-answer : tie.Need-slice-aggregate-answer Inv-loop μ-loop
+slice-aggregate-answer c = sym (line-long (c .before .before .before))
+
+answer-requires : tie.Need-answer-requires Inv-loop μ-loop
+answer-requires c κs =
+    let f = c .before .before .before .before in
+    (line-long f, head (put-out f) .loop .inv .long-pending)
+
+add-consumed : tie.Need-add-consumed Inv-loop μ-loop
+add-consumed c =
+    let e = c .before .before .before .before in
+    omega (arith, head (put-out (e .before .before)) .before .before .before .before .before .before, further e)
 
 loop-less : tie.Need-loop-less Inv-loop μ-loop
 loop-less c =
-    let g = c .before .before .before .before .before .before in
-    let e1 = g .before .before .before in
-    let em = e1 .before .before .before in
-    let l = em .before .before .before in
-    let t = emitted (l .loop .inv) (em .emit .ensures) in
-    let long = g .gather .kept .1 .1 .0 ∙ l .loop .inv .long-line in
-    omega (arith, further t (e1 .if1 .left) (g .gather .last .1 .1 .0) (g .gather .result) long (g .gather .ensures) (omega (arith, l .loop .inv .taken, g .before .before .if2 .left)))
+    let e = c .before .before .before .before in
+    omega (arith, e .before .before .line-end .ensures .low, further e)
 
 loop-again : tie.Need-loop-again Inv-loop μ-loop
 loop-again c =
-    let g = c .before .before .before .before .before .before in
-    let e1 = g .before .before .before in
-    let em = e1 .before .before .before in
-    let l = em .before .before .before in
-    let t = emitted (l .loop .inv) (em .emit .ensures) in
-    let long = g .gather .kept .1 .1 .0 ∙ l .loop .inv .long-line in
-    answered t (e1 .if1 .left) (g .gather .last .1 .1 .0) (g .gather .result) long (g .gather .ensures) (c .before .before .before .before .if3 .taken) (c .before .answer-to .kept .1 .1 .0 ∙ l .loop .inv .long-pending) (c .before .answer-to .ensures)
-
-loop-less-2 : tie.Need-loop-less-2 Inv-loop μ-loop
-loop-less-2 c =
-    let g = c .before .before in
-    let e1 = g .before .before .before in
-    let em = e1 .before .before .before in
-    let l = em .before .before .before in
-    let t = emitted (l .loop .inv) (em .emit .ensures) in
-    let long = g .gather .kept .1 .1 .0 ∙ l .loop .inv .long-line in
-    omega (arith, further t (e1 .if1 .left) (g .gather .last .1 .1 .0) (g .gather .result) long (g .gather .ensures) (omega (arith, l .loop .inv .taken, g .before .before .if2 .left)))
-
-loop-again-2 : tie.Need-loop-again-2 Inv-loop μ-loop
-loop-again-2 c =
-    let g = c .before .before in
-    let e1 = g .before .before .before in
-    let em = e1 .before .before .before in
-    let l = em .before .before .before in
-    let t = emitted (l .loop .inv) (em .emit .ensures) in
-    let long = g .gather .kept .1 .1 .0 ∙ l .loop .inv .long-line in
-    exhausted t (e1 .if1 .left) (g .gather .last .1 .1 .0) (g .gather .result) long (g .gather .ensures) (c .if3 .left)
+    let e = c .before .before .before .before in
+    let f = e .before .before in
+    let em = put-out f in
+    answered (emitted (head em .loop .inv) (em .emit .ensures)) (f .before .if1 .left) (f .line-end .ensures) (further e) (c .before .answer .kept .0 ∙ line-long f) (c .before .answer .ensures)
 
 same-length : tie.Need-same-length Inv-loop μ-loop
-same-length c =
-    let em = c .before .before .before in
-    let l = em .before .before .before in
-    let t = emitted (l .loop .inv) (em .emit .ensures) in
-    t .same
+same-length c = let em = c .before .before .before in emitted (head em .loop .inv) (em .emit .ensures) .same
 
 returns : tie.Need-returns Inv-loop μ-loop
-unfolding modelOf feed
+unfolding modelOf
 returns c =
     let em = c .before .before .before in
-    let l = em .before .before .before in
-    let t = emitted (l .loop .inv) (em .emit .ensures) in
-    let s = l .before .before .before .before .before .before .before in
-    let l2 = l .before in
-    let l1 = l2 .before in
-    stepped (no-room t (c .if1 .taken) (em .emit .ensures .full (omega (arith, c .if1 .taken)) ∙ l .loop .inv .same)) (ap (λ (o : List ℕ). feedFrom (partialOf (s .args .state .line) (s .args .state .len)) o (now (s .args .input)) (length (now (s .args .output)))) (clamped (s .args .state .answer) (s .args .state .from) (s .args .state .to) _ _ (long-answer (l1 .before)) (l1 .least .ensures) (l2 .least2 .ensures)))
+    let l = head em in
+    stepped (no-room (emitted (l .loop .inv) (em .emit .ensures)) (c .if1 .taken) (em .emit .ensures .full (omega (arith, c .if1 .taken)) ∙ l .loop .inv .same)) (same-call l)
 
 same-length-2 : tie.Need-same-length-2 Inv-loop μ-loop
-same-length-2 c =
-    let em = c .before .before .before .before in
-    let l = em .before .before .before in
-    let t = emitted (l .loop .inv) (em .emit .ensures) in
-    t .same
+same-length-2 c = let em = put-out (c .before .before .before .before .before) in emitted (head em .loop .inv) (em .emit .ensures) .same
 
 returns-2 : tie.Need-returns-2 Inv-loop μ-loop
-unfolding modelOf feed
+unfolding modelOf
 returns-2 c =
-    let em = c .before .before .before .before in
-    let l = em .before .before .before in
-    let t = emitted (l .loop .inv) (em .emit .ensures) in
-    let s = l .before .before .before .before .before .before .before in
-    let l2 = l .before in
-    let l1 = l2 .before in
-    stepped (no-input t (c .before .if1 .left) (c .if2 .taken)) (ap (λ (o : List ℕ). feedFrom (partialOf (s .args .state .line) (s .args .state .len)) o (now (s .args .input)) (length (now (s .args .output)))) (clamped (s .args .state .answer) (s .args .state .from) (s .args .state .to) _ _ (long-answer (l1 .before)) (l1 .least .ensures) (l2 .least2 .ensures)))
+    let h = c .before in
+    let t = h .before .before in
+    let f = t .before .before in
+    let em = put-out f in
+    stepped (no-input (exhausted (emitted (head em .loop .inv) (em .emit .ensures)) (f .before .if1 .left) (f .line-end .ensures) (h .hold .last .0) (h .hold .result) (h .hold .kept .0 ∙ line-long f) (h .hold .ensures)) (f .before .if1 .left) (t .if2 .taken)) (same-call (head em))
 
 pub step-spec : {M : Type 1} → statement M
 step-spec =
@@ -174,15 +151,17 @@ step-spec =
     emit-requires
     add-from
     add-produced
-    slice-aggregate-gather
-    gather-requires
-    slice-aggregate-answer-to
-    slice-aggregate-answer-to-2
-    answer-to-requires
+    line-end-requires
+    sub-bytes
+    part-bytes-start
+    part-bytes-end
+    slice-aggregate-hold
+    hold-requires
+    slice-aggregate-answer
+    answer-requires
+    add-consumed
     loop-less
     loop-again
-    loop-less-2
-    loop-again-2
     same-length
     returns
     same-length-2

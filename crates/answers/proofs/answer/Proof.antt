@@ -1,0 +1,76 @@
+-- `answers::answer` meets its contract: the form decides between refusal 9 and Read, which gets the symbols of the line.
+-- Assumes nothing.
+use mathlib.Core.Path.{sym}
+use Prim.Native.Nat.{_-_, _≤_}
+use native.Mathlib.Omega.{arith}
+use denote.Ref.{now}
+use lib.ListN.{length}
+use lib.Seq.{length-take-le}
+use Rattle.answers.proofs.Forms.{GoodLine, bad-line, good-line}
+use Rattle.answers.proofs.Writing.{reworded, overwrites}
+use Rattle.answers.proofs.Answers.{line-bad, line-read}
+use borrow.Author.Needs.{needs}
+use Rattle.answers.proofs.answer.Statement.{statement}
+use Rattle.answers.proofs.answer.Tie as tie
+
+abbrev parsed : tie.After-known-told → tie.After-parse
+parsed c = c .before .before .before .before
+
+good : (c : tie.After-known-told) → GoodLine (now (parsed c .before .before .before .args .line)) (c .before .profile .given .0 .0) (parsed c .parse .last .1 .0)
+good c = good-line (parsed c .parse .ensures) (c .before .profile .given .1)
+
+-- the line's symbols lie within the word
+within : (c : tie.After-known-told) → length (now (parsed c .before .before .before .args .line)) - 2 ≤ length (parsed c .parse .last .1 .0)
+within c = omega (arith, parsed c .parse .kept .1 .0, good c .high)
+
+slice-aggregate-parse : tie.Need-slice-aggregate-parse
+slice-aggregate-parse c = search needs
+
+parse-requires : tie.Need-parse-requires
+parse-requires c κs = search needs
+
+enum-known-profile : tie.Need-enum-known-profile
+enum-known-profile c = search needs
+
+enum-told : tie.Need-enum-told
+enum-told c = search needs
+
+refusal-requires : tie.Need-refusal-requires
+refusal-requires c κs = search needs
+
+returns : tie.Need-returns
+returns c =
+    let t = c .before .before in
+    let p = t .before .before .before in
+    overwrites (search needs) (reworded (sym (line-bad _ (bad-line (p .parse .ensures) (t .enum-told .given .1)))) (c .refusal .ensures))
+
+sub-n : tie.Need-sub-n
+sub-n c = omega (arith, good c .low)
+
+array-share-prefix-word : tie.Need-array-share-prefix-word
+array-share-prefix-word c = within c
+
+slice-aggregate-reply : tie.Need-slice-aggregate-reply
+slice-aggregate-reply c = sym (length-take-le _ _ (within (c .before)))
+
+reply-requires : tie.Need-reply-requires
+reply-requires c κs = (good (c .before .before) .small, search needs)
+
+returns-2 : tie.Need-returns-2
+returns-2 c = overwrites (search needs) (reworded (line-read (good (c .before .before .before))) (c .reply .ensures))
+
+pub answer-spec : {M : Type 1} → statement M
+answer-spec =
+    tie.close
+    (tie.spec
+    slice-aggregate-parse
+    parse-requires
+    enum-known-profile
+    enum-told
+    refusal-requires
+    returns
+    sub-n
+    array-share-prefix-word
+    slice-aggregate-reply
+    reply-requires
+    returns-2)

@@ -1,0 +1,29 @@
+-- What a function that writes into a line's buffer leaves there.
+-- Assumes nothing.
+use mathlib.Core.Path.{_≡_}
+use mathlib.Core.List.{List, [], _∷_, _++_}
+use Prim.Native.Nat.{ℕ, _+_, _≤_}
+use lib.ListN.{length, take, drop}
+use Rattle.code.specs.Operations.{Report, refusal, success}
+use Rattle.code.proofs.Merge.{Below}
+use Rattle.stream.specs.Line.{digit, decimal, letter, refusalLine, readingLine}
+
+-- bytes stand from index at on, up to end, and all else is as it was
+pub record Written (old new : List ℕ) (at end : ℕ) (bytes : List ℕ) : Type 0 where
+  pub text : new ≡ take at old ++ (bytes ++ drop end old)
+  pub ends : end ≡ at + length bytes
+  pub fits : end ≤ length old
+
+-- the fields of a reading before its words, each with a space: profile, the kind's letter, place, sent symbol
+unfoldable pub headingOf : ℕ → ℕ → ℕ → ℕ → List ℕ
+headingOf i c place y = digit i ∷ 32 ∷ c ∷ 32 ∷ decimal place (32 ∷ digit y ∷ 32 ∷ [])
+
+-- the output line from what decoding reports and leaves in its two outputs
+abbrev pub shownLine : ℕ → Report → List ℕ → List ℕ → List ℕ
+shownLine i (refusal n) a b = refusalLine n
+shownLine i (success k place y) a b = readingLine i (letter k) place y a b
+
+-- its numbers are of at most two digits, one digit, one digit a symbol
+abbrev pub Small : Report → List ℕ → List ℕ → Type 0
+Small (refusal n) a b = n ≤ 9
+Small (success k place y) a b = (place ≤ 99) × (y ≤ 9) × Below 10 a × Below 10 b

@@ -1,0 +1,29 @@
+// The answer to one line (01: The line program).
+mod form;
+mod reply;
+mod text;
+
+ghost use mathlib.Core.Path.{_≡_};
+ghost use Prim.Native.Nat.{_≤_};
+ghost use lib.ListN.{length};
+ghost use Rattle.stream.specs.Line.{lineAnswer};
+ghost use Rattle.stream.specs.Feed.{overwritten};
+use crate::form::Form;
+
+// 01: a line of at most 101 bytes; no answer is longer.
+pub type Line = [u8; 101];
+
+// Writes the answer to a line, byte 10 included, and returns its length. 01: 9 for a line that is not of the form; else
+// the order of Read.
+pub fn answer(line: &[u8], out: &mut Line) -> usize
+    ensures length { λ r. ⌜ r ≡ length (lineAnswer (now (line .entry))) ⌝ }
+    ensures fits { λ r. ⌜ r ≤ 101 ⌝ }
+    ensures bytes { λ _. ⌜ now (out .exit) ≡ overwritten (lineAnswer (now (line .entry))) (now (out .entry)) ⌝ }
+{
+    let mut word = [0u8; 99];
+    let Form::Good(profile) = form::parse(line, &mut word) else {
+        return text::refusal(out, 9);
+    };
+    let n = line.len() - 2;
+    reply::reply(profile, &word[..n], out)
+}

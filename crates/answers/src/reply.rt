@@ -1,0 +1,54 @@
+// What Read answers of a word, as a line.
+ghost use mathlib.Core.Path.{_≡_};
+ghost use Prim.Native.Nat.{_≤_};
+ghost use lib.ListN.{length};
+ghost use Rattle.code.specs.Parameters.{messageLength};
+ghost use Rattle.code.specs.Profiles as Profiles;
+ghost use Rattle.decoder.specs.Decode.{decodedReport};
+ghost use Rattle.stream.specs.Line.{answerLine, readAnswer};
+ghost use Rattle.answers.specs.Writing.{Written, shownLine, Small};
+use decoder::Decoded;
+
+// What decoding answered, as a line.
+fn show(decoded: Decoded, profile: usize, first: &[u8], second: &[u8], out: &mut [u8]) -> usize
+    requires { ⌜ (profile ≤ 9) × (length (now out) ≡ 101) × (length (now first) ≤ 45) × (length (now second) ≤ 45) ⌝ }
+    requires { ⌜ Small (decodedReport decoded) (now first) (now second) ⌝ }
+    ensures { λ r. ⌜ Written (now (out .entry)) (now (out .exit)) 0 r (shownLine profile (decodedReport decoded) (now (first .entry)) (now (second .entry))) ⌝ }
+{
+    match decoded {
+        Decoded::Clean => crate::text::reading(out, profile, b'C', 0, 0, first, second),
+        Decoded::Corrected(place, symbol) => {
+            crate::text::reading(out, profile, b'M', place, symbol, first, second)
+        }
+        Decoded::Unreadable => crate::text::refusal(out, 4),
+        Decoded::Refused(number) => crate::text::refusal(out, number),
+    }
+}
+
+// Read, into two words of the profile's length, and its answer as a line.
+fn respond(
+    profile: usize,
+    word: &[u8],
+    first: &mut [u8],
+    second: &mut [u8],
+    out: &mut [u8],
+) -> usize
+    requires { ⌜ (profile ≤ 9) × (length (now out) ≡ 101) × (messageLength (Profiles.profile profile) ≤ 45) ⌝ }
+    requires { ⌜ (length (now first) ≡ messageLength (Profiles.profile profile)) × (length (now second) ≡ messageLength (Profiles.profile profile)) ⌝ }
+    ensures { λ r. ⌜ Written (now (out .entry)) (now (out .exit)) 0 r (answerLine profile (readAnswer profile (now (word .entry)))) ⌝ }
+{
+    let decoded = decoder::decode(profile, word, first, second);
+    show(decoded, profile, first, second, out)
+}
+
+// The same, with the words, of k symbols each.
+pub(crate) fn reply(profile: usize, word: &[u8], out: &mut [u8]) -> usize
+    requires { ⌜ (profile ≤ 9) × (length (now out) ≡ 101) ⌝ }
+    ensures { λ r. ⌜ Written (now (out .entry)) (now (out .exit)) 0 r (answerLine profile (readAnswer profile (now (word .entry)))) ⌝ }
+{
+    let row = symbols::row_of(profile);
+    let k = row.message;
+    let mut first = [0u8; 45];
+    let mut second = [0u8; 45];
+    respond(profile, word, &mut first[..k], &mut second[..k], out)
+}

@@ -1,0 +1,126 @@
+-- The tests of a position, and the search for the first that passes them.
+-- Assumes nothing.
+use mathlib.Core.Path.{_≡_, refl, sym, ap, _∙_}
+use mathlib.Core.Logic.{⊎-elim}
+use mathlib.Core.Bool.{Bool, true, false}
+use mathlib.Core.List.{List}
+use Prim.Native.Nat.{ℕ, zero, suc, _+_, _-_, _*_, _%_, _≤_, _<_}
+use native.Mathlib.Nat.{zero-add}
+use native.Mathlib.Numerals.{add-one}
+use native.Mathlib.Omega.{arith}
+use lib.Dec.{eqb}
+use lib.ListN.{getD}
+use Rattle.modular.specs.Search.{least}
+use Rattle.modular.specs.Residue.{minus}
+use Rattle.modular.proofs.Search.{least-is, least-le, least-hit, le-or-lt}
+use Rattle.modular.proofs.Residue.{of-eq, _then_, reduce}
+use Rattle.code.specs.Parameters.{Parameters}
+use Rattle.code.proofs.Columns.{q-positive}
+use Rattle.decoding.specs.Syndromes.{nearSyndromes, index, moved, movedFirst, movedSecond}
+use Rattle.decoding.specs.Decoded.{Sums, lack, inRange, offByLack, nearAfter, fits, places, firstFit}
+use Rattle.decoding.proofs.Tests.{true-test, false-test}
+use Rattle.symbols.specs.declared.profiles.Row.{Row}
+use Rattle.decoder.specs.declared.totals.Totals.{Totals}
+use Rattle.symbols.specs.Row.{parameters, Valid}
+use Rattle.decoder.specs.Sides.{isFirst, sideOf}
+use Rattle.decoder.specs.Totals.{sumsOf, Totalled}
+use Rattle.decoder.proofs.Bytes.{minus-is}
+use Rattle.decoder.proofs.Moving.{moved-congruent}
+
+-- Parities by number.
+
+side-is : (parity : ℕ) → parity ≤ 1 → sideOf (isFirst parity) ≡ parity
+side-is zero h = refl
+side-is (suc zero) h = refl
+side-is (suc (suc k)) h = absurd (omega arith)
+
+pub index-is : (parity k : ℕ) → parity ≤ 1 → index (isFirst parity) k ≡ 2 * k + parity
+index-is zero k h = omega arith
+index-is (suc zero) k h = refl
+index-is (suc (suc j)) k h = absurd (omega arith)
+
+pub places-are : (p : Parameters) (parity : ℕ) → parity ≤ 1 → places p (isFirst parity) ≡ p .n + 1 - parity
+places-are p zero h = omega arith
+places-are p (suc zero) h = omega arith
+places-are p (suc (suc j)) h = absurd (omega arith)
+
+pub off-is : {t : Row} {s : Totals} → Totalled t s → (parity : ℕ) → parity ≤ 1 → {y : ℕ} → y ≡ (getD (s .asked) parity 0 + s .lack) % t .q
+    → eqb y (getD (s .arrived) parity 0) ≡ offByLack (parameters t) (sumsOf t s) (isFirst parity)
+unfolding offByLack
+off-is {t} {s} w parity h {y} e = rw (side-is parity h, ← w .lacks, e)
+
+module _ {t : Row} (v : Valid t) {s : Totals} (w : Totalled t s) (S : List ℕ) (k : ℕ) where
+  -- less a column
+  less : {f : ℕ} (a : ℕ) → f ≡ minus (t .q) 0 (s .lack) → moved (parameters t) f a S ≡ moved (parameters t) (t .q - s .lack) a S
+  less {f} a e =
+      let g : f ≡ (0 + (t .q - s .lack)) % t .q = e ∙ sym (minus-is (t .q) 0 (s .lack) (q-positive (parameters t) (v .sized)) (omega (arith, w .lack-below))) in
+      moved-congruent (parameters t) a S (of-eq g then reduce (t .q) (0 + (t .q - s .lack)) then of-eq (zero-add (t .q - s .lack)))
+
+  pub first-odd : (parity : ℕ) {f : ℕ} → parity ≡ 0 → f ≡ minus (t .q) 0 (s .lack)
+      → moved (parameters t) f (k + 1) S ≡ movedFirst (parameters t) (isFirst parity) k (lack (parameters t) (sumsOf t s)) S
+  unfolding movedFirst
+  first-odd parity z e = rw (z, ← w .lacks, add-one) (less (suc k) e)
+
+  pub first-even : (parity : ℕ) {f : ℕ} → (parity ≡ 0 → ⊥) → f ≡ s .lack
+      → moved (parameters t) f (k + 1) S ≡ movedFirst (parameters t) (isFirst parity) k (lack (parameters t) (sumsOf t s)) S
+  unfolding movedFirst
+  first-even zero z e = absurd (z refl)
+  first-even (suc parity) z e = rw (← w .lacks, add-one, e)
+
+  pub second-odd : (parity : ℕ) {f : ℕ} → parity ≡ 0 → f ≡ s .lack
+      → moved (parameters t) f k S ≡ movedSecond (parameters t) (isFirst parity) k (lack (parameters t) (sumsOf t s)) S
+  unfolding movedSecond
+  second-odd parity z e = rw (z, ← w .lacks, e)
+
+  pub second-even : (parity : ℕ) {f : ℕ} → (parity ≡ 0 → ⊥) → f ≡ minus (t .q) 0 (s .lack)
+      → moved (parameters t) f (k + 1) S ≡ movedSecond (parameters t) (isFirst parity) k (lack (parameters t) (sumsOf t s)) S
+  unfolding movedSecond
+  second-even zero z e = absurd (z refl)
+  second-even (suc parity) z e = rw (← w .lacks, add-one) (less (suc k) e)
+
+-- A position fits where it passes the three tests.
+module _ (p : Parameters) (S : Sums) (b : Bool) (k x : ℕ) where
+  pub fits-range : inRange p S x ≡ false → false ≡ fits p S b k x
+  unfolding fits
+  fits-range e = rw e
+
+  pub fits-check : inRange p S x ≡ true → offByLack p S b ≡ false → false ≡ fits p S b k x
+  unfolding fits
+  fits-check e f = rw (e, f)
+
+  pub fits-near : inRange p S x ≡ true → offByLack p S b ≡ true → {c : Bool} {F G : List ℕ} → c ≡ nearSyndromes p F G
+      → F ≡ movedFirst p b k (lack p S) (S .first) → G ≡ movedSecond p b k (lack p S) (S .second) → c ≡ fits p S b k x
+  unfolding fits nearAfter
+  fits-near e f {c} {F} {G} g h i = rw (e, f, ← h, ← i) g
+
+-- The search.
+
+least-none : (test : ℕ → Bool) (n : ℕ) → ((i : ℕ) → i < n → test i ≡ false) → least test n ≡ n
+least-none test n f =
+    ⊎-elim (λ (h : n ≤ least test n). omega (arith, least-le test n))
+    (λ (h : least test n < n). absurd (false-test (f (least test n) h) (least-hit test n h))) (le-or-lt n (least test n))
+
+module _ (p : Parameters) (S : Sums) (word : List ℕ) (parity : ℕ) (h : parity ≤ 1) where
+  -- the test of index k
+  abbrev testAt : ℕ → Bool
+  testAt k = fits p S (isFirst parity) k (getD word (2 * k + parity) 0)
+
+  same : (k : ℕ) → fits p S (isFirst parity) k (getD word (index (isFirst parity) k) 0) ≡ testAt k
+  same k = ap (λ (i : ℕ). fits p S (isFirst parity) k (getD word i 0)) (index-is parity k h)
+
+  pub first-found : (k : ℕ) → k < p .n + 1 - parity → ((j : ℕ) → j < k → testAt j ≡ false) → testAt k ≡ true
+      → (firstFit p S (isFirst parity) word ≡ k) × (k < places p (isFirst parity))
+  unfolding firstFit
+  first-found k l f e =
+      let m : k < places p (isFirst parity) = omega (arith, places-are p parity h) in (
+        least-is (λ k. fits p S (isFirst parity) k (getD word (index (isFirst parity) k) 0)) (places p (isFirst parity)) k m (true-test (same k ∙ e))
+            (λ j i. false-test (same j ∙ f j i)),
+        m,
+      )
+
+  pub none-found : (k : ℕ) → p .n + 1 - parity ≤ k → ((j : ℕ) → j < k → testAt j ≡ false)
+      → firstFit p S (isFirst parity) word ≡ places p (isFirst parity)
+  unfolding firstFit
+  none-found k l f =
+      least-none (λ k. fits p S (isFirst parity) k (getD word (index (isFirst parity) k) 0)) (places p (isFirst parity))
+      (λ j i. same j ∙ f j (omega (arith, places-are p parity h)))

@@ -1,0 +1,25 @@
+-- Symbols mod q
+pub mod Bytes
+pub mod Multiplying
+-- The body and its differences
+pub mod Copying
+-- Syndromes
+pub mod Sizes
+pub mod FourRows
+pub mod Moving
+pub mod Fitting
+-- The messages of the components
+pub mod Restoring
+pub mod Running
+pub mod Extracting
+pub mod Messaging
+-- The sums over a received word
+pub mod Levels
+pub mod Totalling
+pub mod Sent
+-- The decoder
+pub mod Answering
+pub mod Finding
+pub mod Admitting
+-- Claims
+pub mod Claims

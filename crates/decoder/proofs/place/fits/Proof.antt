@@ -1,0 +1,46 @@
+-- `decoder::place::fits` meets its contract: the three tests of the definition, in its order.
+-- Assumes nothing.
+use borrow.Author.Needs.{needs}
+use mathlib.Core.Path.{sym, _∙_}
+use borrow.Author.Tests.{not-true, not-false}
+use Rattle.decoder.proofs.Sent.{sent-none, sent-some}
+use Rattle.decoder.proofs.Fitting.{fits-range, fits-check, fits-near}
+use Rattle.decoder.proofs.place.fits.Statement.{statement}
+use Rattle.decoder.proofs.place.fits.Tie as tie
+
+balancing-symbol-requires : tie.Need-balancing-symbol-requires
+balancing-symbol-requires c κs = search needs
+
+returns : tie.Need-returns
+returns c = fits-range _ _ _ _ _ (sent-none _ _ _ (sym (c .before .before .balancing-symbol .ensures) ∙ c .if1 .taken))
+
+off-by-lack-requires : tie.Need-off-by-lack-requires
+off-by-lack-requires c κs = search needs
+
+returns-2 : tie.Need-returns-2
+returns-2 c = fits-check _ _ _ _ _ (sent-some _ _ _ (λ e. c .before .before .if1 .left (c .before .before .before .before .balancing-symbol .ensures ∙ e))) (sym (c .before .off-by-lack .ensures) ∙ not-true _ (c .if2 .taken))
+
+moved-first-requires : tie.Need-moved-first-requires
+moved-first-requires c κs = search needs
+
+moved-second-requires : tie.Need-moved-second-requires
+moved-second-requires c κs = search needs
+
+near-requires : tie.Need-near-requires
+near-requires c κs = search needs
+
+returns-3 : tie.Need-returns-3
+returns-3 c = fits-near _ _ _ _ _ (sent-some _ _ _ (λ e. c .before .before .before .before .before .if1 .left (c .before .before .before .before .before .before .before .balancing-symbol .ensures ∙ e))) (sym (c .before .before .before .before .off-by-lack .ensures) ∙ not-false _ (c .before .before .before .if2 .left)) (c .near .ensures) (c .before .before .moved-first .ensures .1) (c .before .moved-second .ensures .1)
+
+pub fits-spec : {M : Type 1} → statement M
+fits-spec =
+    tie.close
+    (tie.spec
+    balancing-symbol-requires
+    returns
+    off-by-lack-requires
+    returns-2
+    moved-first-requires
+    moved-second-requires
+    near-requires
+    returns-3)

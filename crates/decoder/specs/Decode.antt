@@ -1,0 +1,57 @@
+-- What decoding answers: 01's numbers and values for each case of the answer, and what is said of the answer and of both outputs.
+-- Assumes nothing.
+use mathlib.Core.Path.{_≡_}
+use mathlib.Core.Bool.{Bool, true, false}
+use mathlib.Core.List.{List}
+use Prim.Native.Nat.{ℕ, _≤_}
+use lib.Dec.{T}
+use Rattle.code.specs.Parameters.{Parameters}
+use Rattle.code.specs.Reading.{clean, corrected, unreadable}
+use Rattle.code.specs.Operations.{Answer, refused, answered, Report, refusal, success, report, decodeOutput}
+use Rattle.decoding.specs.Syndromes.{nearSyndromes}
+use Rattle.decoding.specs.Decoded.{Sums, readBy, decodedBalanced}
+use Rattle.decoder.specs.declared.reader.Decoded.{Decoded}
+use Rattle.decoder.specs.declared.reader.Decoded.the-variants.{Clean, Corrected, Unreadable, Refused}
+
+-- 01: kind, place and symbol, or the number of the refusal
+abbrev pub decodedReport : Decoded → Report
+decodedReport Clean = success clean 0 0
+decodedReport (Corrected i y) = success corrected i y
+decodedReport Unreadable = refusal 4
+decodedReport (Refused k) = refusal k
+
+-- a refusal's number is 1 to 3; 4 has a case of its own
+abbrev pub Numbered : Decoded → Type 0
+Numbered Clean = Unit {0}
+Numbered (Corrected i y) = Unit {0}
+Numbered Unreadable = Unit {0}
+Numbered (Refused k) = (1 ≤ k) × (k ≤ 3)
+
+-- r and the outputs, that held `first` and `second` and now hold `first′` and `second′`, are those of the answer a
+pub record Answers (a : Answer) (r : Decoded) (first first′ second second′ : List ℕ) : Type 0 where
+  pub answer : decodedReport r ≡ report a
+  pub numbered : Numbered r
+  pub first-out : first′ ≡ decodeOutput true a first
+  pub second-out : second′ ≡ decodeOutput false a second
+
+-- What the steps answer.
+
+-- the number of a refusal by 1 to 3; 0 where the word is read
+abbrev pub refusalNumber : Answer → ℕ
+refusalNumber (refused k) = k
+refusalNumber (answered d) = 0
+
+-- the parity whose check symbol alone disagrees, by whether each agrees; 2 for neither
+abbrev pub wrongParity : Bool → Bool → ℕ
+wrongParity true true = 2
+wrongParity true false = 1
+wrongParity false true = 0
+wrongParity false false = 2
+
+-- r is what a balanced body with the sums s is read as: its components are then near codewords
+abbrev pub Verdict : Parameters → Sums → Decoded → Type 0
+Verdict p s Clean = T (nearSyndromes p (s .first) (s .second)) × ((v : List ℕ) → decodedBalanced p s v ≡ readBy p clean 0 0 v (s .first) (s .second))
+Verdict p s (Corrected i y) =
+    T (nearSyndromes p (s .first) (s .second)) × ((v : List ℕ) → decodedBalanced p s v ≡ readBy p corrected i y v (s .first) (s .second))
+Verdict p s Unreadable = (v : List ℕ) → decodedBalanced p s v ≡ unreadable
+Verdict p s (Refused k) = ⊥

@@ -1,0 +1,9 @@
+pub mod Level
+pub mod Rows
+pub mod Sides
+pub mod Received
+pub mod Totals
+pub mod Place
+pub mod Written
+pub mod Decode
+pub mod Claims

@@ -1,0 +1,35 @@
+-- What trying positions answers, against the first index that a definition gives, and the symbol sent at one.
+-- Assumes nothing.
+use mathlib.Core.Path.{_≡_}
+use mathlib.Core.Bool.{Bool, true, false}
+use mathlib.Core.List.{List}
+use Prim.Native.Nat.{ℕ, _<_}
+use lib.ListN.{getD}
+use Rattle.modular.specs.Residue.{minus}
+use Rattle.code.specs.Parameters.{Parameters}
+use Rattle.decoding.specs.Decoded.{Sums, balancingSymbol, inRange, places, firstFit}
+use Rattle.symbols.specs.declared.profiles.Row.{Row}
+use Rattle.decoder.specs.declared.totals.Totals.{Totals}
+use Rattle.decoder.specs.declared.place.Place.{Place}
+use Rattle.decoder.specs.declared.place.Place.the-variants.{At, Nothing}
+use Rattle.decoder.specs.Level.{Multiples}
+
+-- the first index is `first`, of `count` that were tried
+abbrev pub Found : ℕ → ℕ → Place → Type 0
+Found first count (At k) = (first ≡ k) × (k < count)
+Found first count Nothing = first ≡ count
+
+-- k is the first index of the parity b that fits
+abbrev pub Located : Parameters → Sums → Bool → List ℕ → ℕ → Type 0
+Located p s b v k = (firstFit p s b v ≡ k) × (k < places p b)
+
+-- the multiples by which a corrected symbol moves the syndromes: of what the weight lacks, and of its negative
+pub record Moves (t : Row) (s : Totals) (up down : List ℕ) : Type 0 where
+  pub rising : Multiples (t .q) up
+  pub falling : Multiples (t .q) down
+  pub by-lack : getD up 1 0 ≡ s .lack
+  pub by-negative : getD down 1 0 ≡ minus (t .q) 0 (s .lack)
+
+-- the symbol that balances the body in place of x, and q where it is no level
+unfoldable pub symbolSent : Parameters → Sums → ℕ → ℕ
+symbolSent p s x = elim (inRange p s x) [ true ↦ balancingSymbol p s x | false ↦ p .q ]

@@ -1,0 +1,35 @@
+// The body w of a received word in an array of its own, and its differences: the symbols of the two components in turn.
+use crate::residue::sub;
+use symbols::Row;
+ghost use mathlib.Core.Path.{_≡_};
+ghost use Prim.Native.Nat.{_≤_};
+ghost use lib.ListN.{length, take};
+ghost use Rattle.code.specs.Balance.{difference};
+ghost use Rattle.decoder.specs.Received.{Body};
+
+// The first m symbols of a word copied into w.
+pub(crate) fn copy_body(word: &[u8], m: usize, w: &mut [u8; 97])
+    requires { ⌜ (m ≤ length (now word)) × (m ≤ 97) × (length (now w) ≡ 97) ⌝ }
+    ensures { λ _. ⌜ (length (now (w .exit)) ≡ 97) × (take m (now (w .exit)) ≡ take m (now (word .entry))) ⌝ }
+{
+    let mut i = 0;
+    while i < m {
+        w[i] = word[i];
+        i += 1;
+    }
+}
+
+// 01: w differenced mod q, into x.
+pub(crate) fn difference_body(row: Row, w: &[u8; 97], x: &mut [u8; 97])
+    requires { ⌜ Body row (now w) × (length (now x) ≡ 97) ⌝ }
+    ensures { λ _. ⌜ Body row (now (x .exit)) × (take (row .balanced) (now (x .exit)) ≡ difference (row .q) 0 (take (row .balanced) (now (w .entry)))) ⌝ }
+{
+    let q = row.q;
+    let m = row.balanced;
+    x[0] = w[0];
+    let mut i = 1;
+    while i < m {
+        x[i] = sub(q, w[i], w[i - 1]);
+        i += 1;
+    }
+}

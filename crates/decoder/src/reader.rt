@@ -1,0 +1,199 @@
+// Decoding of a received word, by its sums.
+use crate::body::copy_body;
+use crate::body::difference_body;
+use crate::message::write_pair;
+use crate::near::near;
+use crate::place::Place;
+use crate::place::balancing_symbol;
+use crate::place::moved_first;
+use crate::place::moved_second;
+use crate::place::try_places;
+use crate::refusals::refusal;
+use crate::residue::multiples;
+use crate::residue::sub;
+use crate::totals::Totals;
+use crate::totals::total;
+use symbols::Matrix;
+use symbols::Row;
+use symbols::columns;
+use symbols::row_of;
+ghost use mathlib.Core.Path.{_≡_};
+ghost use Prim.Native.Nat.{_≤_};
+ghost use lib.Dec.{eqb};
+ghost use lib.ListN.{length, getD};
+ghost use Rattle.code.specs.Operations.{answered, decodeAnswer};
+ghost use Rattle.decoding.specs.Decoded.{decodedBody, decodedUnbalanced, decoded};
+ghost use Rattle.symbols.specs.Row.{Valid, parameters};
+ghost use Rattle.symbols.specs.Columns.{Columns};
+ghost use Rattle.decoder.specs.Totals.{Word, sumsOf, Totalled};
+ghost use Rattle.decoder.specs.Sides.{isFirst};
+ghost use Rattle.decoder.specs.Place.{Located, Moves};
+ghost use Rattle.decoder.specs.Written.{Outputs};
+ghost use Rattle.decoder.specs.Decode.{Verdict, wrongParity, refusalNumber, Answers};
+
+// What a received word is read as; the outputs hold its messages where it is clean or corrected.
+pub enum Decoded {
+    Clean,
+    // The position, from 1, and the symbol sent there.
+    Corrected(usize, u8),
+    // 01: number 4.
+    Unreadable,
+    // 01: number 1 to 3.
+    Refused(u8),
+}
+
+// A balanced body: clean, or one check symbol is wrong.
+fn check(row: Row, s: Totals) -> Decoded
+    requires { ⌜ Valid row × Totalled row s ⌝ }
+    ensures { λ r. ⌜ Verdict (parameters row) (sumsOf row s) r ⌝ }
+{
+    let first = s.first;
+    let second = s.second;
+    let asked = s.asked;
+    let arrived = s.arrived;
+    if !near(row, first, second) {
+        return Decoded::Unreadable;
+    }
+    if asked[0] == arrived[0] {
+        if asked[1] != arrived[1] {
+            return Decoded::Corrected(row.balanced + 2, asked[1]);
+        }
+        return Decoded::Clean;
+    }
+    if asked[1] == arrived[1] {
+        return Decoded::Corrected(row.balanced + 1, asked[0]);
+    }
+    Decoded::Unreadable
+}
+
+// The parity whose check symbol alone disagrees: 0 for the odd positions, 1 for the even ones, 2 where none does or both do.
+fn wrong_parity(s: Totals) -> usize
+    ensures { λ r. ⌜ r ≡ wrongParity (eqb (getD (s .asked) 0 0) (getD (s .arrived) 0 0)) (eqb (getD (s .asked) 1 0) (getD (s .arrived) 1 0)) ⌝ }
+{
+    let ask = s.asked;
+    let got = s.arrived;
+    if ask[0] == got[0] {
+        if ask[1] == got[1] {
+            return 2;
+        }
+        return 1;
+    }
+    if ask[1] == got[1] {
+        return 0;
+    }
+    2
+}
+
+// The symbol at index k of the parity corrected, where that is the first that fits.
+fn correct(
+    row: Row,
+    columns: &[[u8; 3]; 48],
+    s: Totals,
+    up: &[u8; 16],
+    down: &[u8; 16],
+    word: &[u8],
+    parity: usize,
+    k: usize,
+    first: &mut [u8],
+    second: &mut [u8],
+) -> Decoded
+    requires { ⌜ Word row (now word) × Columns (row .q) (now columns) × Totalled row s × Moves row s (now up) (now down) × (parity ≤ 1) × Located (parameters row) (sumsOf row s) (isFirst parity) (now word) k × Outputs row (now first) (now second) ⌝ }
+    ensures { λ r. ⌜ Answers (answered (decodedBody (parameters row) (sumsOf row s) (isFirst parity) (now (word .entry)))) r (now (first .entry)) (now (first .exit)) (now (second .entry)) (now (second .exit)) ⌝ }
+{
+    let i = 2 * k + parity;
+    let y = balancing_symbol(row, s, word[i]);
+    let mut w = [0u8; 97];
+    copy_body(word, row.balanced, &mut w);
+    w[i] = y;
+    let mut x = [0u8; 97];
+    difference_body(row, &w, &mut x);
+    let f = moved_first(row, columns, s, up, down, parity, k);
+    let g = moved_second(row, columns, s, up, down, parity, k);
+    write_pair(row, f, g, &mut x, first, second);
+    Decoded::Corrected(i + 1, y)
+}
+
+// An unbalanced body: one of its symbols changed where exactly one check symbol disagrees.
+fn decode_unbalanced(
+    row: Row,
+    columns: &[[u8; 3]; 48],
+    s: Totals,
+    word: &[u8],
+    first: &mut [u8],
+    second: &mut [u8],
+) -> Decoded
+    requires { ⌜ Word row (now word) × Columns (row .q) (now columns) × Totalled row s × Outputs row (now first) (now second) ⌝ }
+    ensures { λ r. ⌜ Answers (answered (decodedUnbalanced (parameters row) (sumsOf row s) (now (word .entry)))) r (now (first .entry)) (now (first .exit)) (now (second .entry)) (now (second .exit)) ⌝ }
+{
+    let parity = wrong_parity(s);
+    if 1 < parity {
+        return Decoded::Unreadable;
+    }
+    let up = multiples(row.q, s.lack);
+    let down = multiples(row.q, sub(row.q, 0, s.lack));
+    let Place::At(k) = try_places(row, columns, s, &up, &down, word, parity) else {
+        return Decoded::Unreadable;
+    };
+    correct(row, columns, s, &up, &down, word, parity, k, first, second)
+}
+
+// A word of a row's length and levels, by the row and its columns.
+fn decode_by(
+    row: Row,
+    columns: &Matrix,
+    word: &[u8],
+    first: &mut [u8],
+    second: &mut [u8],
+) -> Decoded
+    requires { ⌜ Word row (now word) × Columns (row .q) (now columns) × Outputs row (now first) (now second) ⌝ }
+    ensures { λ r. ⌜ Answers (answered (decoded (parameters row) (now (word .entry)))) r (now (first .entry)) (now (first .exit)) (now (second .entry)) (now (second .exit)) ⌝ }
+{
+    let mut w = [0u8; 97];
+    copy_body(word, row.balanced, &mut w);
+    let mut x = [0u8; 97];
+    difference_body(row, &w, &mut x);
+    let s = total(row, columns, word, &w, &x);
+    if s.weight != row.middle {
+        return decode_unbalanced(row, columns, s, word, first, second);
+    }
+    let found = check(row, s);
+    if let Decoded::Unreadable = found {
+        return Decoded::Unreadable;
+    }
+    let f = s.first;
+    let g = s.second;
+    write_pair(row, f, g, &mut x, first, second);
+    found
+}
+
+// A word that numbers 1 to 3 let through. Each profile has a call of its own: its row and its columns are then constants.
+fn decode_word(profile: usize, word: &[u8], first: &mut [u8], second: &mut [u8]) -> Decoded
+    requires { ⌜ refusalNumber (decodeAnswer profile (now word) (length (now first)) (length (now second))) ≡ 0 ⌝ }
+    ensures { λ r. ⌜ Answers (decodeAnswer profile (now (word .entry)) (length (now (first .entry))) (length (now (second .entry)))) r (now (first .entry)) (now (first .exit)) (now (second .entry)) (now (second .exit)) ⌝ }
+{
+    if profile == 1 {
+        let matrix = columns(1);
+        return decode_by(row_of(1), &matrix, word, first, second);
+    }
+    if profile == 2 {
+        let matrix = columns(2);
+        return decode_by(row_of(2), &matrix, word, first, second);
+    }
+    if profile == 3 {
+        let matrix = columns(3);
+        return decode_by(row_of(3), &matrix, word, first, second);
+    }
+    let matrix = columns(4);
+    decode_by(row_of(4), &matrix, word, first, second)
+}
+
+// 01: Read. Refused 1: no such profile; 2: a length is wrong; 3: a symbol is not a level. A refusal and `Unreadable` change no output.
+pub fn decode(profile: usize, word: &[u8], first: &mut [u8], second: &mut [u8]) -> Decoded
+    ensures { λ r. ⌜ Answers (decodeAnswer profile (now (word .entry)) (length (now (first .entry))) (length (now (second .entry)))) r (now (first .entry)) (now (first .exit)) (now (second .entry)) (now (second .exit)) ⌝ }
+{
+    let number = refusal(profile, word, first.len(), second.len());
+    if number != 0 {
+        return Decoded::Refused(number);
+    }
+    decode_word(profile, word, first, second)
+}

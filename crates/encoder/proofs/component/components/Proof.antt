@@ -1,0 +1,71 @@
+-- `encoder::component::components` meets its contract: the check symbols make up for the row sums of each message, and only the component does so.
+-- Assumes nothing.
+use mathlib.Core.Path.{_≡_}
+use mathlib.Core.Bool.{true, false}
+use native.Mathlib.Nat.{min-eq-left}
+use denote.Ref.{now}
+use Rattle.code.specs.Parameters.{messageLength}
+use Rattle.code.proofs.Merge.{word-length}
+use Rattle.symbols.specs.Row.{parameters}
+use Rattle.symbols.specs.Syndromes.{part, rowSums}
+use Rattle.symbols.proofs.Parts.{part-length}
+use borrow.Author.Needs.{needs}
+use Rattle.encoder.proofs.Pairing.{part-sums-below, components-made}
+use Rattle.encoder.proofs.component.components.Statement.{statement}
+use Rattle.encoder.proofs.component.components.Tie as tie
+
+-- the sums are those of the two components
+module _ (c : tie.After-syndromes-of) where
+  abbrev start : tie.Start
+  start = c .before .before .before .before .before
+
+  first : c .syndromes-of .result .first ≡ rowSums (start .args .row .q) (now (start .args .columns)) (part true (start .args .row .n) (c .before .before .placed .result))
+  first = rw (min-eq-left (start .pre .0 .length)) at (c .syndromes-of .ensures .0)
+
+  second : c .syndromes-of .result .second ≡ rowSums (start .args .row .q) (now (start .args .columns)) (part false (start .args .row .n) (c .before .before .placed .result))
+  second = rw (min-eq-left (start .pre .0 .length)) at (c .syndromes-of .ensures .1)
+
+placed-requires : tie.Need-placed-requires
+placed-requires c κs =
+    let a = c .before .before in
+    let t = a .args .row in (
+      a .pre .0,
+      word-length (t .q) (messageLength (parameters t)) (now (a .args .first)) (a .pre .2),
+      word-length (t .q) (messageLength (parameters t)) (now (a .args .second)) (a .pre .3),
+    )
+
+syndromes-of-requires : tie.Need-syndromes-of-requires
+syndromes-of-requires c κs = search needs
+
+check-symbols-requires : tie.Need-check-symbols-requires
+check-symbols-requires c κs =
+    let s = c .before .before in
+    let a = start s in
+    λ j h. rw (first s) (part-sums-below (a .args .row) (a .pre .0) (a .pre .1) _ (part-length true _ _) j h)
+
+check-symbols-requires-2 : tie.Need-check-symbols-requires-2
+check-symbols-requires-2 c κs =
+    let s = c .before .before .before in
+    let a = start s in
+    λ j h. rw (second s) (part-sums-below (a .args .row) (a .pre .0) (a .pre .1) _ (part-length false _ _) j h)
+
+filled-requires : tie.Need-filled-requires
+filled-requires c κs = search needs
+
+returns : tie.Need-returns
+returns c =
+    let s = c .before .before .before .before .before in
+    let a = start s in
+    components-made (a .args .row) (a .pre .0) (a .pre .1) (now (a .args .first)) (now (a .args .second)) (a .pre .2) (a .pre .3) (s .before .before .placed .ensures)
+    (c .filled .ensures) (search needs) (first s) (second s) (c .before .before .check-symbols .ensures) (c .before .check-symbols2 .ensures)
+
+pub components-spec : {M : Type 1} → statement M
+components-spec =
+    tie.close
+    (tie.spec
+    placed-requires
+    syndromes-of-requires
+    check-symbols-requires
+    check-symbols-requires-2
+    filled-requires
+    returns)

@@ -1,0 +1,45 @@
+-- What the balancing steps ask of the word in their array, and what they say of it.
+-- Assumes nothing.
+use mathlib.Core.Path.{_≡_}
+use mathlib.Core.Bool.{true, false}
+use mathlib.Core.List.{List}
+use Prim.Native.Nat.{ℕ, suc, _+_, _%_, _≤_, _<_}
+use lib.Dec.{ltb}
+use lib.ListN.{length, getD, take}
+use Rattle.modular.specs.Sum.{weight}
+use Rattle.code.specs.Balance.{integrate, earliestS, earliestV}
+
+-- the first m of x's 97 symbols are below q, and q is small enough that sums of two symbols fit a byte
+pub record Symbols (q m : ℕ) (x : List ℕ) : Type 0 where
+  pub size : length x ≡ 97
+  pub some : 1 ≤ q
+  pub levels : q ≤ 15
+  pub room : m ≤ 97
+  pub below : (i : ℕ) → i < m → getD x i 0 < q
+
+-- the first m of x's 97 symbols are small enough that their sum fits 16 bits
+pub record Light (m : ℕ) (x : List ℕ) : Type 0 where
+  pub room : m ≤ 97
+  pub small : (i : ℕ) → i < m → getD x i 0 ≤ 15
+
+-- the sums of the first symbols of x, up to each of the first m
+pub record Summed (m : ℕ) (x sums : List ℕ) : Type 0 where
+  pub at : (i : ℕ) → i < m → getD sums i 0 ≡ weight (take (suc i) x)
+  pub small : (i : ℕ) → getD sums i 0 ≤ 1455
+
+-- d is the integral of a word
+pub record Integral (q : ℕ) (d : List ℕ) : Type 0 where
+  pub of : List ℕ
+  pub is : d ≡ integrate q 0 of
+
+-- s, v is the choice used for every word whose integral d is
+pub record Chosen (q : ℕ) (d : List ℕ) (s v : ℕ) : Type 0 where
+  pub first : (x : List ℕ) → d ≡ integrate q 0 x → (s ≡ earliestS q x) × (v ≡ earliestV q x)
+
+-- s, and 1 more from an index on
+abbrev pub stepAt : ℕ → ℕ → ℕ → ℕ
+stepAt from s i = elim (ltb i from) [ true ↦ s | false ↦ suc s ]
+
+-- w is d with that added mod q to each of 97 symbols
+pub record Raised (q : ℕ) (d : List ℕ) (s from : ℕ) (w : List ℕ) : Type 0 where
+  pub at : (i : ℕ) → i < 97 → getD w i 0 ≡ (getD d i 0 + stepAt from s i) % q

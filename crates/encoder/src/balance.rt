@@ -1,0 +1,245 @@
+// Balancing (01: How a word is made, 4 and 5): w of the first choice that balances x. A choice s, v adds s to every symbol of the integrated x,
+// and 1 more from position v on, so x is integrated once.
+use crate::residue::add;
+use crate::residue::wide;
+use symbols::Row;
+ghost use mathlib.Core.Path.{_≡_};
+ghost use Prim.Native.Nat.{ℕ, _+_, _/_, _%_, _≤_, _<_};
+ghost use lib.ListN.{getD, take};
+ghost use Rattle.modular.specs.Sum.{weight};
+ghost use Rattle.code.specs.Balance.{integrate, balanced};
+ghost use Rattle.code.proofs.Balance.{shifted};
+ghost use Rattle.symbols.specs.Row.{Valid};
+ghost use Rattle.encoder.specs.Symbols.{Symbols, Light, Summed, Integral, Chosen, Raised, stepAt};
+
+// The sums of the first symbols, up to each of the first m.
+fn summed(m: usize, x: &[u8; 97]) -> [u16; 97]
+    requires { ⌜ Light m (now x) ⌝ }
+    ensures { λ sums. ⌜ Summed m (now (x .entry)) sums ⌝ }
+{
+    let mut sums = [0u16; 97];
+    let mut sum: u16 = 0;
+    let mut i = 0;
+    while i < m {
+        sum += x[i] as u16;
+        sums[i] = sum;
+        i += 1;
+    }
+    sums
+}
+
+// Sums mod q, all of the array: to divide by q is to multiply by 65536 / q, rounded up, and to drop 16 bits, which is done many at a time.
+fn reduced(q: u8, sums: &[u16; 97]) -> [u8; 97]
+    requires { ⌜ (2 ≤ q) × (q ≤ 15) × ((i : ℕ) → getD (now sums) i 0 ≤ 1455) ⌝ }
+    ensures { λ d. ⌜ ((i : ℕ) → i < 97 → getD d i 0 ≡ getD (now (sums .entry)) i 0 % q) ⌝ }
+{
+    let levels = q as u16;
+    let inverse = (65536 / (q as u32) + 1) as u16;
+    let mut d = [0u8; 97];
+    let mut i = 0;
+    while i < 97 {
+        d[i] = remainder_by(levels, inverse, sums[i]);
+        i += 1;
+    }
+    d
+}
+
+// A sum mod q, by the inverse of q in 65536ths.
+fn remainder_by(q: u16, inverse: u16, sum: u16) -> u8
+    requires { ⌜ (2 ≤ q) × (q ≤ 15) × (inverse ≡ 65536 / q + 1) × (sum ≤ 1455) ⌝ }
+    ensures { λ r. ⌜ r ≡ sum % q ⌝ }
+{
+    let quotient = ((sum as u32) * (inverse as u32) / 65536) as u16;
+    (sum - quotient * q) as u8
+}
+
+// The running sums mod q of the first m symbols.
+fn integrated(q: u8, m: usize, x: &[u8; 97]) -> [u8; 97]
+    requires { ⌜ (2 ≤ q) × Symbols q m (now x) ⌝ }
+    ensures { λ d. ⌜ (take m d ≡ integrate q 0 (take m (now (x .entry)))) × Symbols q 97 d ⌝ }
+{
+    let sums = summed(m, x);
+    reduced(q, &sums)
+}
+
+// The weight of the first m symbols with `by` added mod q to each.
+fn weight_raised(q: u8, m: usize, d: &[u8; 97], by: u8) -> usize
+    requires { ⌜ Symbols q m (now d) × (by ≤ q) ⌝ }
+    ensures { λ r. ⌜ r ≡ weight (shifted q by (take m (now (d .entry)))) ⌝ }
+{
+    let mut sum: u16 = 0;
+    let mut i = 0;
+    while i < m {
+        sum += add(q, d[i], by) as u16;
+        i += 1;
+    }
+    sum as usize
+}
+
+// A choice: s is added to the first symbol, and 1 to the one at position v.
+pub(crate) struct Choice {
+    pub(crate) s: u8,
+    pub(crate) v: usize,
+}
+
+// 01: the choice used, the first whose w has weight middle, s before v. One exists, so the search ends at the label. From v to v + 1 the
+// symbol at v loses 1 mod q, and the weight with it: it gains q first where that symbol is 0. No word is weighed anew.
+fn earliest(row: Row, d: &[u8; 97]) -> Choice
+    requires { ⌜ Valid row × Symbols (row .q) (row .balanced) (now d) × Integral (row .q) (take (row .balanced) (now d)) ⌝ }
+    ensures { λ c. ⌜ Chosen (row .q) (take (row .balanced) (now (d .entry))) (c .s) (c .v) ⌝ }
+{
+    let q = row.q;
+    let m = row.balanced;
+    let middle = row.middle;
+    let mut s: u8 = 0;
+    let mut v: usize = 1;
+    'search: loop {
+        let mut gain = [0u8; 16];
+        gain[wide(q - 1 - s)] = q;
+        let mut weight = weight_raised(q, m, d, s + 1);
+        v = 1;
+        while v <= m {
+            if weight == middle {
+                break 'search;
+            }
+            weight = weight + wide(gain[wide(d[v - 1])]) - 1;
+            v += 1;
+        }
+        s += 1;
+    }
+    Choice { s, v }
+}
+
+// s, and 1 more from an index on.
+fn step(i: u8, from: u8, s: u8) -> u8
+    requires { ⌜ s < 255 ⌝ }
+    ensures { λ r. ⌜ r ≡ stepAt from s i ⌝ }
+{
+    if i < from { s } else { s + 1 }
+}
+
+// The indices of an array of 97, as bytes: so compared, many at a time are.
+const INDICES: [u8; 97] = [
+    0,
+    1,
+    2,
+    3,
+    4,
+    5,
+    6,
+    7,
+    8,
+    9,
+    10,
+    11,
+    12,
+    13,
+    14,
+    15,
+    16,
+    17,
+    18,
+    19,
+    20,
+    21,
+    22,
+    23,
+    24,
+    25,
+    26,
+    27,
+    28,
+    29,
+    30,
+    31,
+    32,
+    33,
+    34,
+    35,
+    36,
+    37,
+    38,
+    39,
+    40,
+    41,
+    42,
+    43,
+    44,
+    45,
+    46,
+    47,
+    48,
+    49,
+    50,
+    51,
+    52,
+    53,
+    54,
+    55,
+    56,
+    57,
+    58,
+    59,
+    60,
+    61,
+    62,
+    63,
+    64,
+    65,
+    66,
+    67,
+    68,
+    69,
+    70,
+    71,
+    72,
+    73,
+    74,
+    75,
+    76,
+    77,
+    78,
+    79,
+    80,
+    81,
+    82,
+    83,
+    84,
+    85,
+    86,
+    87,
+    88,
+    89,
+    90,
+    91,
+    92,
+    93,
+    94,
+    95,
+    96,
+];
+
+// s added mod q to every symbol of the array, and 1 more from an index on.
+fn raised(q: u8, d: &[u8; 97], s: u8, from: u8) -> [u8; 97]
+    requires { ⌜ Symbols q 97 (now d) × (s < q) ⌝ }
+    ensures { λ w. ⌜ Raised q (now (d .entry)) s from w ⌝ }
+{
+    let indices = INDICES;
+    let mut w = [0u8; 97];
+    let mut i = 0;
+    while i < 97 {
+        w[i] = add(q, d[i], step(indices[i], from, s));
+        i += 1;
+    }
+    w
+}
+
+// 01: w of the choice used.
+pub(crate) fn balanced(row: Row, x: &[u8; 97]) -> [u8; 97]
+    requires { ⌜ Valid row × Symbols (row .q) (row .balanced) (now x) ⌝ }
+    ensures { λ w. ⌜ take (row .balanced) w ≡ balanced (row .q) (take (row .balanced) (now (x .entry))) ⌝ }
+{
+    let d = integrated(row.q, row.balanced, x);
+    let choice = earliest(row, &d);
+    raised(row.q, &d, choice.s, (choice.v - 1) as u8)
+}

@@ -1,0 +1,59 @@
+-- `lines::pending::copy` meets its contract: after i turns the first i bytes are copied.
+-- Assumes nothing.
+use Prim.Native.Nat.{_-_, zero-le}
+use native.Mathlib.Omega.{arith}
+use denote.Ref.{now}
+use lib.ListN.{length}
+use lib.Seq.{paste-zero}
+use Rattle.lines.proofs.Copying.{Copied, copied-length, copied-more, copied-all}
+use Rattle.lines.proofs.pending.copy.Statement.{statement}
+use Rattle.lines.proofs.pending.copy.Tie as tie
+
+abbrev Inv-loop : tie.InvT-loop
+Inv-loop bytes to₀ at i₀ to i = Copied bytes to₀ at to i
+
+abbrev μ-loop : tie.MeasureT-loop
+μ-loop bytes to₀ at i₀ to i = length bytes - i
+
+loop-holds : tie.Need-loop-holds Inv-loop μ-loop
+loop-holds c = record { within = zero-le; text = paste-zero (now (c .args .to)) (c .args .at) (now (c .args .bytes)) }
+
+shared-slice-read-to : tie.Need-shared-slice-read-to Inv-loop μ-loop
+shared-slice-read-to c = omega arith
+
+add-to : tie.Need-add-to Inv-loop μ-loop
+add-to c = omega arith
+
+slice-write-to : tie.Need-slice-write-to Inv-loop μ-loop
+slice-write-to c = omega (arith, copied-length (c .before .before .before .pre) (c .before .before .loop .inv))
+
+add-i : tie.Need-add-i Inv-loop μ-loop
+add-i c = omega arith
+
+loop-less : tie.Need-loop-less Inv-loop μ-loop
+loop-less c = omega arith
+
+loop-again : tie.Need-loop-again Inv-loop μ-loop
+loop-again c = copied-more (c .before .before .before .pre) (c .before .before .loop .inv) (c .before .loop-test .taken)
+
+same-length : tie.Need-same-length Inv-loop μ-loop
+same-length c = copied-length (c .before .before .pre) (c .before .loop .inv)
+
+returns : tie.Need-returns Inv-loop μ-loop
+returns c = copied-all (c .before .before .pre) (c .before .loop .inv) (c .loop-test .left)
+
+pub copy-spec : {M : Type 1} → statement M
+copy-spec =
+    tie.close
+    (tie.spec
+    Inv-loop
+    μ-loop
+    loop-holds
+    shared-slice-read-to
+    add-to
+    slice-write-to
+    add-i
+    loop-less
+    loop-again
+    same-length
+    returns)
