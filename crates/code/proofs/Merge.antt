@@ -70,6 +70,16 @@ count-not t (suc n) =
     let e : count (shift t) n + count (opposite (shift t)) n ≡ n = count-not (shift t) n in
     cases (t 0) (λ h. rw (h, count) (omega arith)) (λ h. rw (h, count) (omega arith))
 
+-- one index more
+
+pub count-pass : (t : ℕ → Bool) (i : ℕ) → t i ≡ true → count t (suc i) ≡ suc (count t i)
+count-pass t zero h = rw (h, count)
+count-pass t (suc i) h = cases (t 0) (λ b. rw (b, count) (ap suc (count-pass (shift t) i h))) (λ b. rw (b, count) (count-pass (shift t) i h))
+
+pub count-fail : (t : ℕ → Bool) (i : ℕ) → t i ≡ false → count t (suc i) ≡ count t i
+count-fail t zero h = rw (h, count)
+count-fail t (suc i) h = cases (t 0) (λ b. rw (b, count) (ap suc (count-fail (shift t) i h))) (λ b. rw (b, count) (count-fail (shift t) i h))
+
 count-none : (t : ℕ → Bool) (n : ℕ) → ((i : ℕ) → i < n → T (t i) → ⊥) → count t n ≡ 0
 count-none t zero h = refl
 count-none t (suc n) h =

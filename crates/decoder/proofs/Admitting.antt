@@ -170,7 +170,7 @@ module _ (i : ℕ) (u first second : List ℕ) (z : refusalNumber (decodeAnswer 
   o : RowOf i t
   o = row-of-profile i t (known .profiled) e
 
-  pub word-known : Word t u
+  word-known : Word t u
   word-known =
       record {
         valid = o .valid;
@@ -178,14 +178,14 @@ module _ (i : ℕ) (u first second : List ℕ) (z : refusalNumber (decodeAnswer 
         below = subst (λ (p : Parameters). T (symbolsBelow (p .q) u)) (sym (o .same)) (known .below);
       }
 
-  pub outputs-known : Outputs t first second
+  outputs-known : Outputs t first second
   outputs-known =
       record {
         first-long = known .first-long ∙ sym (ap messageLength (o .same));
         second-long = known .second-long ∙ sym (ap messageLength (o .same));
       }
 
-  pub columns-known : {table : List (List ℕ)} → table ≡ columnsOf i → Columns (t .q) table
+  columns-known : {table : List (List ℕ)} → table ≡ columnsOf i → Columns (t .q) table
   columns-known f = rw f (subst (λ (p : Parameters). Columns (p .q) (columnsOf i)) (sym (o .same)) (columns-of-profile i (known .profiled)))
 
   is-decoded : reading (profile i) u ≡ decoded (parameters t) u
@@ -194,8 +194,21 @@ module _ (i : ℕ) (u first second : List ℕ) (z : refusalNumber (decodeAnswer 
       sym (decoded-reading (profile i) s prime u (word-of (profile i .q) (codewordLength (profile i)) u (known .word-long) (known .below)))
       ∙ ap (λ (p : Parameters). decoded p u) (sym (o .same))
 
-  pub decoded-answer : decodeAnswer i u (length first) (length second) ≡ answered (decoded (parameters t) u)
+  decoded-answer : decodeAnswer i u (length first) (length second) ≡ answered (decoded (parameters t) u)
   decoded-answer = known .read ∙ ap answered is-decoded
+
+-- The same, with the row and the columns asked for by a number k that is the profile's.
+module _ {i : ℕ} (u first second : List ℕ) (z : refusalNumber (decodeAnswer i u (length first) (length second)) ≡ 0) (k : ℕ) (same : i ≡ k) {t : Row}
+    (e : cells k t ≡ derivedRow k) where
+  row-by-number : cells i t ≡ derivedRow i
+  row-by-number = rw same e
+
+  pub ready-by-number : {table : List (List ℕ)} → table ≡ columnsOf k → Word t u × Columns (t .q) table × Outputs t first second
+  ready-by-number f =
+      (word-known i u first second z row-by-number, columns-known i u first second z row-by-number (rw same f), outputs-known i u first second z row-by-number)
+
+  pub answer-by-number : decodeAnswer i u (length first) (length second) ≡ answered (decoded (parameters t) u)
+  answer-by-number = decoded-answer i u first second z row-by-number
 
 -- the answer by the sums of a word
 module _ {t : Row} (v : Valid t) (u : List ℕ) (s : Totals) (g : sumsOf t s ≡ sums (parameters t) u) where

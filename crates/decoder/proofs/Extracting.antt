@@ -11,7 +11,7 @@ use lib.ListN.{length, getD, take, drop, set, drop-of-length-le, length-set}
 use lib.Seq.{drop-cons, set-at, length-take-le}
 use Rattle.code.specs.Parameters.{messageLength}
 use Rattle.code.specs.Component.{isCheck, checkAt, keep, message}
-use Rattle.code.proofs.Merge.{cases, count, count-not, length-keep}
+use Rattle.code.proofs.Merge.{cases, count, count-not, length-keep, count-pass, count-fail}
 use Rattle.code.proofs.Reduced.{check-count}
 use Rattle.symbols.specs.declared.profiles.Row.{Row}
 use Rattle.symbols.specs.Row.{parameters, Valid}
@@ -37,14 +37,6 @@ keep-fail t (x ∷ xs) (suc i) l h =
     cases (t 0) (λ b. rw (b, keep) (ap (λ (l : List ℕ). x ∷ l) e)) (λ b. rw (b, keep) e)
 
 -- Counting one index more.
-
-count-pass : (t : ℕ → Bool) (i : ℕ) → t i ≡ true → count t (suc i) ≡ suc (count t i)
-count-pass t zero h = rw (h, count)
-count-pass t (suc i) h = cases (t 0) (λ b. rw (b, count) (ap suc (count-pass (shift t) i h))) (λ b. rw (b, count) (count-pass (shift t) i h))
-
-count-fail : (t : ℕ → Bool) (i : ℕ) → t i ≡ false → count t (suc i) ≡ count t i
-count-fail t zero h = rw (h, count)
-count-fail t (suc i) h = cases (t 0) (λ b. rw (b, count) (ap suc (count-fail (shift t) i h))) (λ b. rw (b, count) (count-fail (shift t) i h))
 
 count-upto : (t : ℕ → Bool) (i n : ℕ) → i ≤ n → count t i ≤ count t n
 count-upto t zero n l = zero-le

@@ -21,7 +21,6 @@ use Rattle.symbols.specs.declared.profiles.Row.{Row}
 use Rattle.symbols.specs.Row.{parameters, Valid}
 use Rattle.symbols.specs.Syndromes.{part}
 use Rattle.decoder.specs.declared.totals.Totals.{Totals}
-use Rattle.decoder.specs.declared.place.Place.{Place}
 use Rattle.decoder.specs.Rows.{rowsOf}
 use Rattle.decoder.specs.Sides.{isFirst}
 use Rattle.decoder.specs.Received.{Body}

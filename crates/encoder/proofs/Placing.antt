@@ -14,7 +14,7 @@ use lib.Seq.{getD-drop, getD-set-same, getD-set-other, ext-getD}
 use Rattle.modular.proofs.Search.{le-or-lt}
 use Rattle.code.specs.Parameters.{Parameters, Sized, messageLength}
 use Rattle.code.specs.Component.{isCheck, checkAt, merge}
-use Rattle.code.proofs.Merge.{cases, opposite, count, count-not, length-merge}
+use Rattle.code.proofs.Merge.{cases, opposite, count, count-not, length-merge, count-pass, count-fail}
 use Rattle.code.proofs.Reduced.{check, check-count}
 use Rattle.symbols.specs.declared.profiles.Row.{Row}
 use Rattle.symbols.specs.Syndromes.{part}
@@ -45,14 +45,6 @@ merge-message t (suc n) e a (suc i) l h =
     (merge-message (shift t) n e (drop 1 a) i (le-of-suc-le-suc l) h ∙ getD-drop 1 a (count (opposite (shift t)) i) 0 ∙ rw one-add))
 
 -- Counting one index more.
-
-count-pass : (t : ℕ → Bool) (i : ℕ) → t i ≡ true → count t (suc i) ≡ suc (count t i)
-count-pass t zero h = rw (h, count)
-count-pass t (suc i) h = cases (t 0) (λ b. rw (b, count) (ap suc (count-pass (shift t) i h))) (λ b. rw (b, count) (count-pass (shift t) i h))
-
-count-fail : (t : ℕ → Bool) (i : ℕ) → t i ≡ false → count t (suc i) ≡ count t i
-count-fail t zero h = rw (h, count)
-count-fail t (suc i) h = cases (t 0) (λ b. rw (b, count) (ap suc (count-fail (shift t) i h))) (λ b. rw (b, count) (count-fail (shift t) i h))
 
 count-below : (t : ℕ → Bool) (i n : ℕ) → t i ≡ true → i < n → count t i < count t n
 count-below t i zero h l = absurd (not-suc-le-zero l)

@@ -55,19 +55,6 @@ step-is-low from s i h = sym (step-low from s i h)
 pub step-is-high : (from s i : ℕ) → from ≤ i → s + 1 ≡ stepAt from s i
 step-is-high from s i h = add-one s ∙ sym (step-high from s i h)
 
--- the numbers from a on
-abbrev pub rising : ℕ → ℕ → List ℕ
-rising a zero = []
-rising a (suc k) = a ∷ rising (suc a) k
-
-rising-from : (a k i : ℕ) → i < k → getD (rising a k) i 0 ≡ a + i
-rising-from a zero i h = absurd (not-suc-le-zero h)
-rising-from a (suc k) zero h = omega arith
-rising-from a (suc k) (suc i) h = omega (arith, rising-from (suc a) k i (le-of-suc-le-suc h))
-
-pub index-at : (i : ℕ) → i < 97 → getD (rising 0 97) i 0 ≡ i
-index-at i h = omega (arith, rising-from 0 97 i h)
-
 -- the first i are raised
 pub record Raising (q : ℕ) (d : List ℕ) (s from : ℕ) (w : List ℕ) (i : ℕ) : Type 0 where
   pub upto : i ≤ 97

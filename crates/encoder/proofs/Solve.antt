@@ -9,7 +9,7 @@ use native.Mathlib.Omega.{arith}
 use native.Mathlib.Decide.{ℕ-discrete}
 use lib.Dec.{T, T-not}
 use lib.Arith.{lt-one, lt-of-le-ne}
-use lib.ListN.{length, getD, take, set, replicate, length-set, List·getD-append}
+use lib.ListN.{length, getD, set, replicate, length-set, List·getD-append}
 use lib.Seq.{getD-set-other}
 use Rattle.modular.specs.Sum.{weight, dot}
 use Rattle.modular.specs.Digits.{digits}

@@ -118,117 +118,17 @@ fn step(i: u8, from: u8, s: u8) -> u8
     if i < from { s } else { s + 1 }
 }
 
-// The indices of an array of 97, as bytes: so compared, many at a time are.
-const INDICES: [u8; 97] = [
-    0,
-    1,
-    2,
-    3,
-    4,
-    5,
-    6,
-    7,
-    8,
-    9,
-    10,
-    11,
-    12,
-    13,
-    14,
-    15,
-    16,
-    17,
-    18,
-    19,
-    20,
-    21,
-    22,
-    23,
-    24,
-    25,
-    26,
-    27,
-    28,
-    29,
-    30,
-    31,
-    32,
-    33,
-    34,
-    35,
-    36,
-    37,
-    38,
-    39,
-    40,
-    41,
-    42,
-    43,
-    44,
-    45,
-    46,
-    47,
-    48,
-    49,
-    50,
-    51,
-    52,
-    53,
-    54,
-    55,
-    56,
-    57,
-    58,
-    59,
-    60,
-    61,
-    62,
-    63,
-    64,
-    65,
-    66,
-    67,
-    68,
-    69,
-    70,
-    71,
-    72,
-    73,
-    74,
-    75,
-    76,
-    77,
-    78,
-    79,
-    80,
-    81,
-    82,
-    83,
-    84,
-    85,
-    86,
-    87,
-    88,
-    89,
-    90,
-    91,
-    92,
-    93,
-    94,
-    95,
-    96,
-];
-
-// s added mod q to every symbol of the array, and 1 more from an index on.
+// s added mod q to every symbol of the array, and 1 more from an index on. The index is counted in bytes too: so compared, many at a time are.
 fn raised(q: u8, d: &[u8; 97], s: u8, from: u8) -> [u8; 97]
     requires { ⌜ Symbols q 97 (now d) × (s < q) ⌝ }
     ensures { λ w. ⌜ Raised q (now (d .entry)) s from w ⌝ }
 {
-    let indices = INDICES;
     let mut w = [0u8; 97];
+    let mut at: u8 = 0;
     let mut i = 0;
     while i < 97 {
-        w[i] = add(q, d[i], step(indices[i], from, s));
+        w[i] = add(q, d[i], step(at, from, s));
+        at += 1;
         i += 1;
     }
     w

@@ -3,16 +3,11 @@
 -- Assumes nothing.
 use mathlib.Core.Path.{_≡_, ap, _∙_}
 use mathlib.Core.Bool.{Bool, true, false}
-use mathlib.Core.List.{List, [], _∷_}
-use Prim.Native.Nat.{ℕ, zero, suc, _+_, _-_, _*_, _/_, _%_, _≤_, _<_}
-use native.Mathlib.Nat.{not-suc-le-zero, le-refl, mod-lt, mod-add-div', mul-le-mul, mul-le-mul-left, div-le-self}
+use Prim.Native.Nat.{ℕ, _+_, _-_, _*_, _/_, _%_, _≤_, _<_}
+use native.Mathlib.Nat.{le-refl, mod-lt, mod-add-div', mul-le-mul, mul-le-mul-left, div-le-self}
 use native.Mathlib.Omega.{arith}
 use lib.Arith.{digits-div}
-use lib.Dec.{T, eqb, eqb→eq}
-use lib.ListN.{getD}
 use borrow.Author.Tests.{ne-eqb}
-use Rattle.modular.specs.Search.{allBelow}
-use Rattle.modular.proofs.Search.{all-at}
 use Rattle.symbols.specs.Remainder.{residue}
 
 pub residue-is : {q : ℕ} (sum : ℕ) → 1 ≤ q → residue q sum ≡ sum % q

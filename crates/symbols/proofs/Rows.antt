@@ -8,7 +8,6 @@ use native.Mathlib.Numerals.{add-one}
 use native.Mathlib.Omega.{arith}
 use lib.ListN.{length, getD, take}
 use lib.Seq.{take-all}
-use Rattle.modular.specs.Digits.{digits}
 use Rattle.modular.specs.Sum.{weight, dot}
 use Rattle.modular.proofs.Sum.{dot-same, dot-one, dot-zero}
 use Rattle.code.specs.Component.{checkRow, syndrome}

@@ -1,39 +1,31 @@
 -- `encoder::balance::raised` meets its contract. The invariant: the symbols passed are raised. The measure is what is left.
 -- Assumes nothing.
 use mathlib.Core.Path.{_≡_, refl, ap, _∙_}
-use Prim.Native.Nat.{ℕ, _-_, _≤_}
+use Prim.Native.Nat.{ℕ, _+_, _-_, _≤_}
 use native.Mathlib.Omega.{arith}
 use borrow.Author.Needs.{needs}
 use Rattle.encoder.specs.Symbols.{stepAt}
-use Rattle.encoder.proofs.Raising.{Raising, rising, index-at, raising-none, raising-more, raising-all, step-upto}
-use lib.ListN.{getD}
-use mathlib.Core.List.{List}
+use Rattle.encoder.proofs.Raising.{Raising, raising-none, raising-more, raising-all, step-upto}
 use Rattle.encoder.proofs.balance.raised.Statement.{statement}
 use Rattle.encoder.proofs.balance.raised.Tie as tie
 
 abbrev Inv-loop : tie.InvT-loop
-Inv-loop q d s from indices w₀ i₀ w i = Raising q d s from w i × (indices ≡ rising 0 97)
+Inv-loop q d s from w₀ at₀ i₀ w at i = Raising q d s from w i × (at ≡ i)
 
 abbrev μ-loop : tie.MeasureT-loop
-μ-loop q d s from indices w₀ i₀ w i = 97 - i
+μ-loop q d s from w₀ at₀ i₀ w at i = 97 - i
 
 -- what is added at i
 step : (c : tie.After-step Inv-loop μ-loop) → c .step .result ≡ stepAt (c .before .before .before .before .args .from) (c .before .before .before .before .args .s) (c .before .before .before .loop .i)
 step c =
     let l = c .before .before .before in
-    let a = l .before .args in
-    c .step .ensures
-    ∙ ap (λ (t : List ℕ). stepAt (a .from) (a .s) (getD t (l .loop .i) 0)) (l .loop .inv .1)
-    ∙ ap (stepAt (a .from) (a .s)) (index-at (l .loop .i) (c .before .before .loop-test .taken))
+    c .step .ensures ∙ ap (stepAt (l .before .args .from) (l .before .args .s)) (l .loop .inv .1)
 
 loop-holds : tie.Need-loop-holds Inv-loop μ-loop
 loop-holds c = (raising-none _ _ _ _, refl)
 
 element-copy-out-add : tie.Need-element-copy-out-add Inv-loop μ-loop
 element-copy-out-add c = search needs
-
-array-read-step : tie.Need-array-read-step Inv-loop μ-loop
-array-read-step c = search needs
 
 step-requires : tie.Need-step-requires Inv-loop μ-loop
 step-requires c κs =
@@ -50,6 +42,9 @@ add-requires c κs =
 array-write-w : tie.Need-array-write-w Inv-loop μ-loop
 array-write-w c = search needs
 
+add-at : tie.Need-add-at Inv-loop μ-loop
+add-at c = search needs
+
 add-i : tie.Need-add-i Inv-loop μ-loop
 add-i c = search needs
 
@@ -59,7 +54,7 @@ loop-less c = search needs
 loop-again : tie.Need-loop-again Inv-loop μ-loop
 loop-again c =
     let i = c .before .before .before in
-    (raising-more (i .before .loop .inv .0) (i .loop-test .taken) (rw (step (c .before)) at (c .add .ensures .0)), i .before .loop .inv .1)
+    (raising-more (i .before .loop .inv .0) (i .loop-test .taken) (rw (step (c .before)) at (c .add .ensures .0)), ap (λ (x : ℕ). x + 1) (i .before .loop .inv .1))
 
 returns : tie.Need-returns Inv-loop μ-loop
 returns c = raising-all (c .before .loop .inv .0) (c .loop-test .left)
@@ -72,10 +67,10 @@ raised-spec =
     μ-loop
     loop-holds
     element-copy-out-add
-    array-read-step
     step-requires
     add-requires
     array-write-w
+    add-at
     add-i
     loop-less
     loop-again
