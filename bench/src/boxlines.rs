@@ -76,33 +76,11 @@ fn write_answer(line: &[u8], output: &mut impl Write) -> io::Result<()> {
 
 #[cfg(test)]
 mod tests {
-    use super::*;
+    use super::run;
+    use crate::stored::check_answers;
 
-    /// A reader that hands over few bytes at a time.
-    struct Pieces<'a>(&'a [u8], usize);
-
-    impl Read for Pieces<'_> {
-        fn read(&mut self, buffer: &mut [u8]) -> io::Result<usize> {
-            let length = self.1.min(buffer.len());
-            self.0.read(&mut buffer[..length])
-        }
-    }
-
-    /// The inputs stand in the crate of the program that the gate runs on them; their answers
-    /// follow each other in its `stdout`.
     #[test]
     fn every_stored_input_is_answered_however_it_is_cut() {
-        let folder = concat!(env!("CARGO_MANIFEST_DIR"), "/../crates/lines_cases");
-        let read = |name: &str| std::fs::read(format!("{folder}/{name}")).unwrap();
-        let endings = (2..=15).map(|number| format!("data/{number:02}"));
-        let inputs: Vec<_> =
-            [String::from("stdin")].into_iter().chain(endings).map(|name| read(&name)).collect();
-        for piece in [1, 7, 101, 4096] {
-            let mut output = Vec::new();
-            for input in &inputs {
-                run(Pieces(input, piece), &mut output).unwrap();
-            }
-            assert!(output == read("stdout"), "in pieces of {piece}");
-        }
+        check_answers(|input, output| run(input, output));
     }
 }

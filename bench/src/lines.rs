@@ -1,9 +1,10 @@
-//! A million mixed lines through boxlines and through the fast coder's program.
+//! A million mixed lines through boxlines, through the fast coder's program and through the plain
+//! one.
 
 use std::env;
 use std::fs::{self, File};
 use std::io;
-use std::path::Path;
+use std::path::{Path, PathBuf};
 use std::process::Command;
 use std::time::Duration;
 
@@ -12,8 +13,8 @@ use coder::random_words::changed;
 use coder::rng::Rng;
 use coder::text::digits;
 
-use crate::boxlines;
 use crate::race::time;
+use crate::{boxlines, plain};
 
 const LINES: usize = 1_000_000;
 
@@ -22,6 +23,36 @@ const DIFFERENT: usize = 20_000;
 
 const TURNS: usize = 3;
 
+/// A program in the race, and its best time so far.
+struct Runner {
+    name: &'static str,
+    command: Command,
+    output: PathBuf,
+    best: Duration,
+}
+
+impl Runner {
+    fn new(name: &'static str, command: Command, folder: &Path) -> Runner {
+        Runner { name, command, output: folder.join(name), best: Duration::MAX }
+    }
+
+    /// Times the program from its start to its end.
+    fn take_turn(&mut self, input: &Path) -> io::Result<()> {
+        self.command.stdin(File::open(input)?).stdout(File::create(&self.output)?);
+        let mut status = None;
+        let taken = time(|| status = Some(self.command.status()));
+        if !status.transpose()?.is_some_and(|status| status.success()) {
+            return Err(io::Error::other(format!("{} ended with an error", self.name)));
+        }
+        self.best = self.best.min(taken);
+        Ok(())
+    }
+
+    fn lines_a_second(&self) -> f64 {
+        LINES as f64 / self.best.as_secs_f64()
+    }
+}
+
 pub fn race_programs() -> io::Result<()> {
     let Some(program) = fogzurt::boxlines() else {
         println!("boxlines: NOT RUN, there is no target/bin/boxlines");
@@ -29,37 +60,36 @@ pub fn race_programs() -> io::Result<()> {
     };
     let folder = Path::new(env!("CARGO_MANIFEST_DIR")).join("target").join("lines");
     fs::create_dir_all(&folder)?;
-    let [input, fast_out, boxlines_out] =
-        ["input", "fast", "boxlines"].map(|name| folder.join(name));
+    let input = folder.join("input");
     fs::write(&input, mixed_lines())?;
     let this = env::current_exe()?;
-    let [mut fast, mut proved] = [Duration::MAX; 2];
+    let itself = |argument: &str| {
+        let mut command = Command::new(&this);
+        command.arg(argument);
+        command
+    };
+    let mut others = [
+        Runner::new("fast", itself(boxlines::ARGUMENT), &folder),
+        Runner::new("plain", itself(plain::ARGUMENT), &folder),
+    ];
+    let mut proved = Runner::new("boxlines", Command::new(program), &folder);
     for _ in 0..TURNS {
-        let itself = &mut Command::new(&this);
-        fast = fast.min(time_program(itself.arg(boxlines::ARGUMENT), &input, &fast_out)?);
-        proved = proved.min(time_program(&mut Command::new(&program), &input, &boxlines_out)?);
+        for runner in others.iter_mut().chain([&mut proved]) {
+            runner.take_turn(&input)?;
+        }
     }
-    if fs::read(fast_out)? != fs::read(boxlines_out)? {
-        return Err(io::Error::other(
-            "boxlines and the fast coder's program print different lines",
-        ));
+    let printed = fs::read(&proved.output)?;
+    for other in &others {
+        if fs::read(&other.output)? != printed {
+            let message = format!("boxlines and the {} program print different lines", other.name);
+            return Err(io::Error::other(message));
+        }
+        let [a, b] = [other, &proved].map(Runner::lines_a_second);
+        print!("boxlines, {LINES} mixed lines, file to file: ");
+        print!("{} {a:.0} lines a second, ", other.name);
+        println!("boxlines {b:.0}, ratio {:.2}", b / a);
     }
-    let [a, b] = [fast, proved].map(|time| LINES as f64 / time.as_secs_f64());
-    let ratio = fast.as_secs_f64() / proved.as_secs_f64();
-    print!("boxlines, {LINES} mixed lines, file to file: fast {a:.0} lines a second, ");
-    println!("boxlines {b:.0}, ratio {ratio:.2}");
     Ok(())
-}
-
-/// How long a program takes from its start to its end.
-fn time_program(command: &mut Command, input: &Path, output: &Path) -> io::Result<Duration> {
-    command.stdin(File::open(input)?).stdout(File::create(output)?);
-    let mut status = None;
-    let taken = time(|| status = Some(command.status()));
-    match status.transpose()? {
-        Some(status) if status.success() => Ok(taken),
-        _ => Err(io::Error::other("a program ended with an error")),
-    }
 }
 
 /// Lines of all profiles by turns: a quarter each clean, with one, two and three symbols changed,

@@ -1,11 +1,15 @@
-//! How fast the static library and boxlines are, beside a coder written for speed (`fast`), in one
-//! run. A ratio is the fast coder's time over the library's: above 1.0 the library is faster.
+//! How fast the static library and boxlines are, in one run, beside a coder written for speed
+//! (`fast`) and, for boxlines, a plain program (`plain`). A ratio is the other's time over theirs:
+//! above 1.0 they are faster.
 
 mod boxlines;
 mod coding;
 mod lines;
+mod plain;
 mod race;
 mod sheets;
+#[cfg(test)]
+mod stored;
 
 use std::io;
 use std::process::ExitCode;
@@ -27,7 +31,11 @@ fn main() -> ExitCode {
     let done = match arguments.iter().map(String::as_str).collect::<Vec<_>>()[..] {
         [] => benchmark(),
         [boxlines::ARGUMENT] => boxlines::run(io::stdin().lock(), io::stdout().lock()),
-        _ => Err(io::Error::other(format!("usage: bench [{}]", boxlines::ARGUMENT))),
+        [plain::ARGUMENT] => plain::run(io::stdin().lock(), io::stdout().lock()),
+        _ => {
+            let arguments = [boxlines::ARGUMENT, plain::ARGUMENT].join(" | ");
+            Err(io::Error::other(format!("usage: bench [{arguments}]")))
+        }
     };
     match done {
         Ok(()) => ExitCode::SUCCESS,
