@@ -1,8 +1,11 @@
 -- `encoder::component::components` meets its contract: the check symbols make up for the row sums of each message, and only the component does so.
 -- Assumes nothing.
-use mathlib.Core.Path.{_≡_}
+use mathlib.Core.Path.{_≡_, sym, subst}
 use mathlib.Core.Bool.{true, false}
+use mathlib.Core.List.{List}
+use Prim.Native.Nat.{ℕ, _<_}
 use native.Mathlib.Nat.{min-eq-left}
+use lib.ListN.{getD}
 use denote.Ref.{now}
 use Rattle.code.specs.Parameters.{messageLength}
 use Rattle.code.proofs.Merge.{word-length}
@@ -37,17 +40,22 @@ placed-requires c κs =
 syndromes-of-requires : tie.Need-syndromes-of-requires
 syndromes-of-requires c κs = search needs
 
+-- the sums of either component are below q
+first-below : (c : tie.After-syndromes-of) (j : ℕ) → j < 4 → getD (c .syndromes-of .result .first) j 0 < start c .args .row .q
+first-below c j h =
+    let a = start c in
+    subst (λ (sums : List ℕ). getD sums j 0 < a .args .row .q) (sym (first c)) (part-sums-below (a .args .row) (a .pre .0) (a .pre .1) _ (part-length true _ _) j h)
+
+second-below : (c : tie.After-syndromes-of) (j : ℕ) → j < 4 → getD (c .syndromes-of .result .second) j 0 < start c .args .row .q
+second-below c j h =
+    let a = start c in
+    subst (λ (sums : List ℕ). getD sums j 0 < a .args .row .q) (sym (second c)) (part-sums-below (a .args .row) (a .pre .0) (a .pre .1) _ (part-length false _ _) j h)
+
 check-symbols-requires : tie.Need-check-symbols-requires
-check-symbols-requires c κs =
-    let s = c .before .before in
-    let a = start s in
-    λ j h. rw (first s) (part-sums-below (a .args .row) (a .pre .0) (a .pre .1) _ (part-length true _ _) j h)
+check-symbols-requires c κs = search (first-below (c .before .before), second-below (c .before .before))
 
 check-symbols-requires-2 : tie.Need-check-symbols-requires-2
-check-symbols-requires-2 c κs =
-    let s = c .before .before .before in
-    let a = start s in
-    λ j h. rw (second s) (part-sums-below (a .args .row) (a .pre .0) (a .pre .1) _ (part-length false _ _) j h)
+check-symbols-requires-2 c κs = search (first-below (c .before .before .before), second-below (c .before .before .before))
 
 filled-requires : tie.Need-filled-requires
 filled-requires c κs = search needs
