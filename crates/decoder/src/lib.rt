@@ -1,4 +1,4 @@
-// Decoding (01: Read): the pair of messages that a received word carries, with at most one symbol corrected. Every step is this crate's own.
+// Decoding (01: Read): the pair of messages that a received word carries, with at most one symbol corrected. Its steps are this crate's own and those of crate `symbols`.
 mod body;
 mod message;
 mod near;

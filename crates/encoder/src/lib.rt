@@ -1,4 +1,4 @@
-// Encoding (01: Write) of a pair of messages into the word that goes on the line. Every step is this crate's own.
+// Encoding (01: Write) of a pair of messages into the word that goes on the line. Its steps are this crate's own and those of crate `symbols`.
 mod balance;
 mod component;
 mod residue;
