@@ -70,7 +70,3 @@ pub dot-same : (f g : ℕ → ℕ) (c : List ℕ) → ((i : ℕ) → i < length 
 dot-same f g [] e = refl
 dot-same f g (x ∷ xs) e =
     ap₂ (λ (a b : ℕ). a * x + b) (e 0 (suc-le-suc zero-le)) (dot-same (λ i. f (suc i)) (λ i. g (suc i)) xs (λ i h. e (suc i) (suc-le-suc h)))
-
-pub dot-congruent : {q : ℕ} (f g : ℕ → ℕ) (c : List ℕ) → ((i : ℕ) → Congruent q (f i) (g i)) → Congruent q (dot f c) (dot g c)
-dot-congruent f g [] e = same 0
-dot-congruent f g (x ∷ xs) e = add (mul (e 0) (same x)) (dot-congruent (λ i. f (suc i)) (λ i. g (suc i)) xs (λ i. e (suc i)))
