@@ -12,8 +12,8 @@ use Rattle.modular.specs.Search.{allBelow}
 use Rattle.modular.proofs.Search.{all-at, le-or-lt}
 use Rattle.code.specs.Parameters.{messageLength}
 use Rattle.code.specs.Profiles.{row, profiles, profile, derivedRow}
-use Rattle.symbols.specs.declared.profiles.Row.{Row}
-use Rattle.symbols.specs.Row.{cells}
+use Rattle.profiles.specs.declared.row.Row.{Row}
+use Rattle.profiles.specs.Row.{cells}
 use Rattle.code.specs.Reading.{read, unreadable}
 use Rattle.code.specs.Operations.{Answer, refused, answered, decodeAnswer, Report, report, decodeOutput}
 use Rattle.stream.specs.Line.{isShort, hasForm, profileOf, symbolsOf, refusalLine, answerLine, readAnswer, lineAnswer}

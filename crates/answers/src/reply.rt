@@ -46,7 +46,7 @@ pub(crate) fn reply(profile: usize, word: &[u8], out: &mut [u8]) -> usize
     requires { ⌜ (profile ≤ 9) × (length (now out) ≡ 101) ⌝ }
     ensures { λ r. ⌜ Written (now (out .entry)) (now (out .exit)) 0 r (answerLine profile (readAnswer profile (now (word .entry)))) ⌝ }
 {
-    let row = symbols::row_of(profile);
+    let row = profiles::row_of(profile);
     let k = row.message;
     let mut first = [0u8; 45];
     let mut second = [0u8; 45];

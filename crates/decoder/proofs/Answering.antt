@@ -1,6 +1,6 @@
 -- The answer of the decoder, case by case.
 -- Assumes nothing.
-use mathlib.Core.Path.{_≡_, refl}
+use mathlib.Core.Path.{_≡_, refl, sym, ap}
 use mathlib.Core.Bool.{Bool, true, false}
 use mathlib.Core.List.{List}
 use Prim.Native.Nat.{ℕ, _+_, _≤_, _<_}
@@ -9,18 +9,21 @@ use lib.Dec.{T}
 use lib.ListN.{getD, set}
 use borrow.Author.Tests.{lt-ltb, le-ltb}
 use Rattle.modular.proofs.Search.{least-hit}
-use Rattle.code.specs.Parameters.{Parameters}
+use Rattle.code.specs.Parameters.{Parameters, balancedLength}
 use Rattle.code.specs.Codeword.{received}
 use Rattle.code.specs.Reading.{Kind, corrected, Reading, unreadable}
-use Rattle.code.specs.Operations.{Answer, refused, answered, success}
+use Rattle.code.specs.Operations.{Answer, refused, answered, success, decodeAnswer}
 use Rattle.decoding.specs.Syndromes.{nearSyndromes, index, movedFirst, movedSecond}
 use Rattle.decoding.specs.Decoded.{Sums, checkIndex, lack, balancingSymbol, inRange, offByLack, nearAfter, fits, places, firstFit, readBy, readFit, decodedBody, decodedCheck, agrees, decodedBalanced, decodedUnbalanced}
 use Rattle.decoding.proofs.Tests.{true-test, three-parts}
+use Rattle.syndromes.specs.declared.checks.Verdict as verdicts
+use Rattle.syndromes.specs.declared.checks.Verdict.the-variants as told
+use Rattle.syndromes.specs.Verdict.{verdictOf}
 use Rattle.decoder.specs.declared.reader.Decoded.{Decoded}
 use Rattle.decoder.specs.declared.reader.Decoded.the-variants.{Clean, Corrected, Unreadable, Refused}
 use Rattle.decoder.specs.Sides.{isFirst}
 use Rattle.decoder.specs.Written.{Written}
-use Rattle.decoder.specs.Decode.{decodedReport, Numbered, Answers, Verdict, wrongParity}
+use Rattle.decoder.specs.Decode.{decodedReport, Numbered, Answers, Judged, wrongParity}
 
 -- What is answered.
 
@@ -33,6 +36,10 @@ answers-unreadable first second e = record { answer = rw e; numbered = tt; first
 pub answers-as : {a a′ : Answer} {r : Decoded} {first first′ second second′ : List ℕ} → a ≡ a′ → Answers a′ r first first′ second second′
     → Answers a r first first′ second second′
 answers-as e h = rw e h
+
+-- the profile by a number that is known to be its
+pub as-number : {i k : ℕ} → i ≡ k → (u : List ℕ) (a b : ℕ) → decodeAnswer i u a b ≡ decodeAnswer k u a b
+as-number e u a b = ap (λ (j : ℕ). decodeAnswer j u a b) e
 
 numbered-read : (r : Decoded) {k : Kind} {i y : ℕ} → decodedReport r ≡ success k i y → Numbered r
 numbered-read Clean e = tt
@@ -50,46 +57,45 @@ answers-read p u {r = r} e w f = record { answer = rw e f; numbered = numbered-r
 pub written-of : {p : Parameters} {c c′ d d′ S S′ first second : List ℕ} → c ≡ c′ → d ≡ d′ → Written p c d S S′ first second → Written p c′ d′ S S′ first second
 written-of e f w = rw (← e, ← f) w
 
+-- what a verdict is answered as, where the body has m symbols
+abbrev pub verdictAnswer : ℕ → Sums → verdicts.Verdict → Decoded
+verdictAnswer m s told.Clean = Clean
+verdictAnswer m s told.Alpha = Corrected (m + 1) (s .asked true)
+verdictAnswer m s told.Beta = Corrected (m + 2) (s .asked false)
+verdictAnswer m s told.Unreadable = Unreadable
+
 module _ (p : Parameters) (s : Sums) where
   -- A balanced body.
-  pub verdict-far : nearSyndromes p (s .first) (s .second) ≡ false → Verdict p s Unreadable
-  unfolding decodedBalanced
-  verdict-far e = λ v. rw (e, decodedBalanced)
+  judged-by : (near a b : Bool) → nearSyndromes p (s .first) (s .second) ≡ near → agrees s true ≡ a → agrees s false ≡ b
+      → Judged p s (verdictAnswer (balancedLength p) s (verdictOf near a b))
+  unfolding decodedBalanced decodedCheck
+  judged-by false a b n e f = λ v. rw (n, decodedBalanced)
+  judged-by true true true n e f = (true-test n, λ v. rw (n, decodedBalanced, e, f))
+  judged-by true true false n e f = let g : balancedLength p + 2 ≡ checkIndex p false + 1 = omega arith in (true-test n, λ v. rw (n, decodedBalanced, e, f, g))
+  judged-by true false true n e f = (true-test n, λ v. rw (n, decodedBalanced, e, f))
+  judged-by true false false n e f = λ v. rw (n, decodedBalanced, e, f)
 
-  module _ (n : nearSyndromes p (s .first) (s .second) ≡ true) where
-    pub verdict-clean : agrees s true ≡ true → agrees s false ≡ true → Verdict p s Clean
-    unfolding decodedBalanced
-    verdict-clean e f = (true-test n, λ v. rw (n, decodedBalanced, e, f))
+  pub judged-as : {m : ℕ} → m ≡ balancedLength p → {near : Bool} → near ≡ nearSyndromes p (s .first) (s .second)
+      → (v : verdicts.Verdict) → v ≡ verdictOf near (agrees s true) (agrees s false) → Judged p s (verdictAnswer m s v)
+  judged-as l n v e = rw (l, e) (judged-by _ (agrees s true) (agrees s false) (sym n) refl refl)
 
-    pub verdict-beta : agrees s true ≡ true → agrees s false ≡ false → {i : ℕ} → i ≡ checkIndex p false + 1 → Verdict p s (Corrected i (s .asked false))
-    unfolding decodedBalanced decodedCheck
-    verdict-beta e f g = (true-test n, λ v. rw (n, decodedBalanced, e, f, g))
+  pub judged-near : (r : Decoded) → Judged p s r → (r ≡ Unreadable → ⊥) → T (nearSyndromes p (s .first) (s .second))
+  judged-near Clean d n = d .0
+  judged-near (Corrected i y) d n = d .0
+  judged-near Unreadable d n = absurd (n refl)
+  judged-near (Refused k) d n = absurd d
 
-    pub verdict-alpha : agrees s true ≡ false → agrees s false ≡ true → {i : ℕ} → i ≡ checkIndex p true + 1 → Verdict p s (Corrected i (s .asked true))
-    unfolding decodedBalanced decodedCheck
-    verdict-alpha e f g = (true-test n, λ v. rw (n, decodedBalanced, e, f, g))
-
-    pub verdict-neither : agrees s true ≡ false → agrees s false ≡ false → Verdict p s Unreadable
-    unfolding decodedBalanced
-    verdict-neither e f = λ v. rw (n, decodedBalanced, e, f)
-
-  pub verdict-near : (r : Decoded) → Verdict p s r → (r ≡ Unreadable → ⊥) → T (nearSyndromes p (s .first) (s .second))
-  verdict-near Clean d n = d .0
-  verdict-near (Corrected i y) d n = d .0
-  verdict-near Unreadable d n = absurd (n refl)
-  verdict-near (Refused k) d n = absurd d
-
-  pub verdict-none : {r : Decoded} → r ≡ Unreadable → Verdict p s r → (v first second : List ℕ)
+  pub judged-none : {r : Decoded} → r ≡ Unreadable → Judged p s r → (v first second : List ℕ)
       → Answers (answered (decodedBalanced p s v)) Unreadable first first second second
-  verdict-none {r} e d v first second = let f : Verdict p s Unreadable = rw e at d in answers-unreadable first second (f v)
+  judged-none {r} e d v first second = let f : Judged p s Unreadable = rw e at d in answers-unreadable first second (f v)
 
-  pub verdict-read : (r : Decoded) → Verdict p s r → (r ≡ Unreadable → ⊥) → (v : List ℕ) {first first′ second second′ : List ℕ}
+  pub judged-read : (r : Decoded) → Judged p s r → (r ≡ Unreadable → ⊥) → (v : List ℕ) {first first′ second second′ : List ℕ}
       → Written p (received p true v) (received p false v) (s .first) (s .second) first′ second′
       → Answers (answered (decodedBalanced p s v)) r first first′ second second′
-  verdict-read Clean d n v w = answers-read p v (d .1 v) w refl
-  verdict-read (Corrected i y) d n v w = answers-read p v (d .1 v) w refl
-  verdict-read Unreadable d n v w = absurd (n refl)
-  verdict-read (Refused k) d n v w = absurd d
+  judged-read Clean d n v w = answers-read p v (d .1 v) w refl
+  judged-read (Corrected i y) d n v w = answers-read p v (d .1 v) w refl
+  judged-read Unreadable d n v w = absurd (n refl)
+  judged-read (Refused k) d n v w = absurd d
 
   module _ (v : List ℕ) where
     -- An unbalanced body.

@@ -13,8 +13,8 @@ use Rattle.modular.proofs.Residue.{of-eq, _then_, small, minus-below, minus-add
 use Rattle.code.specs.Balance.{difference}
 use Rattle.code.proofs.Weights.{length-difference}
 use Rattle.code.proofs.Columns.{q-positive}
-use Rattle.symbols.specs.declared.profiles.Row.{Row}
-use Rattle.symbols.specs.Row.{parameters}
+use Rattle.profiles.specs.declared.row.Row.{Row}
+use Rattle.profiles.specs.Row.{parameters}
 use Rattle.decoder.specs.Received.{Body}
 
 -- the first k symbols of the list d stand in the array

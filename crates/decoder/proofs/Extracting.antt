@@ -13,8 +13,8 @@ use Rattle.code.specs.Parameters.{messageLength}
 use Rattle.code.specs.Component.{isCheck, checkAt, keep, message}
 use Rattle.code.proofs.Merge.{cases, count, count-not, length-keep, count-pass, count-fail}
 use Rattle.code.proofs.Reduced.{check-count}
-use Rattle.symbols.specs.declared.profiles.Row.{Row}
-use Rattle.symbols.specs.Row.{parameters, Valid}
+use Rattle.profiles.specs.declared.row.Row.{Row}
+use Rattle.profiles.specs.Row.{parameters, Valid}
 use Rattle.decoder.specs.Written.{run}
 
 abbrev shift : (ℕ → Bool) → ℕ → Bool

@@ -17,9 +17,9 @@ use Rattle.code.proofs.Symbols.{symbol-below, symbols-set}
 use Rattle.decoding.specs.Syndromes.{nearSyndromes, movedFirst, movedSecond}
 use Rattle.decoding.specs.Decoded.{lack, inRange, readBy, decodedBody}
 use Rattle.decoding.proofs.Changed.{index-within}
-use Rattle.symbols.specs.declared.profiles.Row.{Row}
-use Rattle.symbols.specs.Row.{parameters, Valid}
-use Rattle.symbols.specs.Syndromes.{part}
+use Rattle.profiles.specs.declared.row.Row.{Row}
+use Rattle.profiles.specs.Row.{parameters, Valid}
+use Rattle.symbols.specs.Syndromes.{rows, part}
 use Rattle.decoder.specs.declared.totals.Totals.{Totals}
 use Rattle.decoder.specs.Rows.{rowsOf}
 use Rattle.decoder.specs.Sides.{isFirst}
@@ -52,6 +52,17 @@ parts-of {t} v u w x e f b =
     let g : take (t .balanced) x ≡ difference (t .q) 0 (take (t .balanced) u) = f ∙ ap (difference (t .q) 0) e in
     ap (λ (z : List ℕ). alternate b (drop 1 z)) (rw (v .balanced) at g)
 
+-- the array with the symbol at index i corrected to y
+module _ {t : Row} {word : List ℕ} (w : Word t word) (i y : ℕ) (h : i < t .balanced) (l : y < t .q) (array : List ℕ)
+    (e : take (t .balanced) array ≡ take (t .balanced) word) where
+  pub corrected-copy : take (t .balanced) (set array i y) ≡ take (t .balanced) (set word i y)
+  corrected-copy =
+      take-set-lt (t .balanced) array i y h ∙ ap (λ (z : List ℕ). set z i y) e ∙ sym (take-set-lt (t .balanced) word i y h)
+
+  pub corrected-levels : length array ≡ 97 → Body t (set array i y)
+  corrected-levels n =
+      body-of (w .valid) (set word i y) (set array i y) (symbols-set (t .q) word i y l (w .below)) (length-set array i y ∙ n) corrected-copy
+
 module _ {t : Row} {word : List ℕ} (w : Word t word) (s : Totals) {parity : ℕ} (h : parity ≤ 1) {k : ℕ}
     (found : Located (parameters t) (sumsOf t s) (isFirst parity) word k) where
   pub place-index : 2 * k + parity < t .balanced
@@ -63,26 +74,12 @@ module _ {t : Row} {word : List ℕ} (w : Word t word) (s : Totals) {parity : �
   place-range : T (inRange (parameters t) (sumsOf t s) (getD word (2 * k + parity) 0))
   place-range = rw (← index-is parity k h) (found-range (parameters t) (sumsOf t s) word (isFirst parity) (found .0) (found .1))
 
-  -- the array with the symbol corrected
-  module _ {y : ℕ} (c : y ≡ symbolSent (parameters t) (sumsOf t s) (getD word (2 * k + parity) 0)) where
-    level : y < t .q
-    level = rw c (sent-is (parameters t) (sumsOf t s) (getD word (2 * k + parity) 0) place-range .1)
-
-    pub place-copy : (array : List ℕ) → take (t .balanced) array ≡ take (t .balanced) word
-        → take (t .balanced) (set array (2 * k + parity) y) ≡ take (t .balanced) (set word (2 * k + parity) y)
-    place-copy array g =
-        take-set-lt (t .balanced) array (2 * k + parity) y place-index
-        ∙ ap (λ (z : List ℕ). set z (2 * k + parity) y) g
-        ∙ sym (take-set-lt (t .balanced) word (2 * k + parity) y place-index)
-
-    pub place-body : (array : List ℕ) → length array ≡ 97 → take (t .balanced) array ≡ take (t .balanced) word → Body t (set array (2 * k + parity) y)
-    place-body array n g =
-        body-of (w .valid) (set word (2 * k + parity) y) (set array (2 * k + parity) y) (symbols-set (t .q) word (2 * k + parity) y level (w .below))
-        (length-set array (2 * k + parity) y ∙ n) (place-copy array g)
+  pub place-level : {y : ℕ} → y ≡ symbolSent (parameters t) (sumsOf t s) (getD word (2 * k + parity) 0) → y < t .q
+  place-level c = rw c (sent-is (parameters t) (sumsOf t s) (getD word (2 * k + parity) 0) place-range .1)
 
   module _ (F G : List ℕ)
-      (a : rowsOf t F ≡ movedFirst (parameters t) (isFirst parity) k (lack (parameters t) (sumsOf t s)) (rowsOf t (s .first)))
-      (b : rowsOf t G ≡ movedSecond (parameters t) (isFirst parity) k (lack (parameters t) (sumsOf t s)) (rowsOf t (s .second))) where
+      (a : rowsOf t F ≡ movedFirst (parameters t) (isFirst parity) k (lack (parameters t) (sumsOf t s)) (rowsOf t (rows (s .first))))
+      (b : rowsOf t G ≡ movedSecond (parameters t) (isFirst parity) k (lack (parameters t) (sumsOf t s)) (rowsOf t (rows (s .second)))) where
     pub place-near : T (nearSyndromes (parameters t) (rowsOf t F) (rowsOf t G))
     place-near = rw (a, b) (found-near (parameters t) (sumsOf t s) word (isFirst parity) (found .0) (found .1))
 

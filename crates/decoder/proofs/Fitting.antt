@@ -19,20 +19,15 @@ use Rattle.code.proofs.Columns.{q-positive}
 use Rattle.decoding.specs.Syndromes.{nearSyndromes, index, moved, movedFirst, movedSecond}
 use Rattle.decoding.specs.Decoded.{Sums, lack, inRange, offByLack, nearAfter, fits, places, firstFit}
 use Rattle.decoding.proofs.Tests.{true-test, false-test}
-use Rattle.symbols.specs.declared.profiles.Row.{Row}
+use Rattle.profiles.specs.declared.row.Row.{Row}
 use Rattle.decoder.specs.declared.totals.Totals.{Totals}
-use Rattle.symbols.specs.Row.{parameters, Valid}
-use Rattle.decoder.specs.Sides.{isFirst, sideOf}
+use Rattle.profiles.specs.Row.{parameters, Valid}
+use Rattle.decoder.specs.Sides.{isFirst}
 use Rattle.decoder.specs.Totals.{sumsOf, Totalled}
 use Rattle.decoder.proofs.Bytes.{minus-is}
 use Rattle.decoder.proofs.Moving.{moved-congruent}
 
 -- Parities by number.
-
-side-is : (parity : ℕ) → parity ≤ 1 → sideOf (isFirst parity) ≡ parity
-side-is zero h = refl
-side-is (suc zero) h = refl
-side-is (suc (suc k)) h = absurd (omega arith)
 
 pub index-is : (parity k : ℕ) → parity ≤ 1 → index (isFirst parity) k ≡ 2 * k + parity
 index-is zero k h = omega arith
@@ -44,10 +39,17 @@ places-are p zero h = omega arith
 places-are p (suc zero) h = omega arith
 places-are p (suc (suc j)) h = absurd (omega arith)
 
-pub off-is : {t : Row} {s : Totals} → Totalled t s → (parity : ℕ) → parity ≤ 1 → {y : ℕ} → y ≡ (getD (s .asked) parity 0 + s .lack) % t .q
-    → eqb y (getD (s .arrived) parity 0) ≡ offByLack (parameters t) (sumsOf t s) (isFirst parity)
-unfolding offByLack
-off-is {t} {s} w parity h {y} e = rw (side-is parity h, ← w .lacks, e)
+module _ {t : Row} {s : Totals} (w : Totalled t s) where
+  pub off-odd : (parity : ℕ) → parity ≡ 0 → {y : ℕ} → y ≡ (s .asked .alpha + s .lack) % t .q
+      → eqb y (s .arrived .alpha) ≡ offByLack (parameters t) (sumsOf t s) (isFirst parity)
+  unfolding offByLack
+  off-odd parity z e = rw (z, ← w .lacks, e)
+
+  pub off-even : (parity : ℕ) → (parity ≡ 0 → ⊥) → {y : ℕ} → y ≡ (s .asked .beta + s .lack) % t .q
+      → eqb y (s .arrived .beta) ≡ offByLack (parameters t) (sumsOf t s) (isFirst parity)
+  unfolding offByLack
+  off-even zero z e = absurd (z refl)
+  off-even (suc parity) z e = rw (← w .lacks, e)
 
 module _ {t : Row} (v : Valid t) {s : Totals} (w : Totalled t s) (S : List ℕ) (k : ℕ) where
   -- less a column

@@ -1,33 +1,39 @@
 -- The four rows that the code keeps of a syndrome against the r rows of the definitions: the digit rows that r does not have are 0.
 -- Assumes nothing.
-use mathlib.Core.Path.{_≡_, refl, sym, ap, _∙_}
-use mathlib.Core.Logic.{_≢_, _⊎_, inl, inr, ⊎-elim}
+use mathlib.Core.Path.{_≡_, refl, sym, ap, ap₂, _∙_}
+use mathlib.Core.Logic.{_⊎_, inl, inr, ⊎-elim}
 use mathlib.Core.Bool.{Bool, true, false, _&&_, _||_}
 use mathlib.Core.List.{List}
 use Prim.Native.Nat.{ℕ, zero, suc, _+_, _-_, _*_, _≤_, _<_}
 use native.Mathlib.Nat.{eq-or-lt-of-le}
 use native.Mathlib.Omega.{arith}
-use lib.Dec.{T, eqb, leb, eqb→eq, leb→le, le→leb}
-use lib.ListN.{getD}
+use lib.Dec.{T, eqb, leb, eqb→eq}
+use lib.ListN.{length, getD}
 use borrow.Author.Tests.{eq-eqb, ne-eqb}
-use Rattle.modular.proofs.Search.{eq-test, fails, same-test, all-at, all-of, le-or-lt}
-use Rattle.code.specs.Parameters.{Parameters}
-use Rattle.code.proofs.Columns.{r-large, last-below}
+use Rattle.modular.proofs.Search.{eq-test, same-test, all-at, all-of, le-or-lt}
+use Rattle.code.proofs.Columns.{q-positive, r-large, last-below}
 use Rattle.decoding.specs.Syndromes.{tabulate, value, zeroSyndrome, columnPosition, columnSyndrome, nearSyndrome, nearSyndromes}
 use Rattle.decoding.proofs.Value.{tabulate-at}
-use Rattle.decoding.proofs.Near.{named, named-test}
-use Rattle.symbols.specs.declared.profiles.Row.{Row}
-use Rattle.symbols.specs.Row.{parameters, Valid}
-use Rattle.decoder.specs.Rows.{rowIndex, rowsOf}
-use Rattle.symbols.specs.Syndromes.{FourRows}
+use Rattle.profiles.specs.declared.row.Row.{Row}
+use Rattle.profiles.specs.Row.{parameters, Valid}
+use Rattle.symbols.specs.declared.syndromes.Syndrome.{Syndrome}
+use Rattle.symbols.specs.Columns.{Columns}
+use Rattle.symbols.specs.Syndromes.{rows, rowSums}
+use Rattle.symbols.proofs.Rows.{sums-below, sums-unused}
+use Rattle.syndromes.specs.FourRows.{fourRows, zeroRows}
+use Rattle.syndromes.proofs.Rows.{zero-by, position-is}
+use Rattle.decoder.specs.Rows.{FourRows, rowIndex, rowsOf}
 
--- what holds of 0 to 3 holds below 4
-each-row : (P : ℕ → Type 0) → P 0 → P 1 → P 2 → P 3 → (j : ℕ) → j < 4 → P j
-each-row P a b c d zero h = a
-each-row P a b c d (suc zero) h = b
-each-row P a b c d (suc (suc zero)) h = c
-each-row P a b c d (suc (suc (suc zero))) h = d
-each-row P a b c d (suc (suc (suc (suc j)))) h = absurd (omega arith)
+-- the row sums of a component
+pub four-rows : (t : Row) → Valid t → {columns : List (List ℕ)} → Columns (t .q) columns → (c : List ℕ) → length c ≤ t .n
+    → FourRows t (rowSums (t .q) columns c)
+four-rows t v right c l =
+    let some : 1 ≤ t .q = q-positive (parameters t) (v .sized) in
+    let room : length c ≤ 48 = omega (arith, v .length) in
+    record {
+      below = sums-below some right c room;
+      unused = sums-unused some right c room (t .r - 1) (omega (arith, v .sized .columns));
+    }
 
 module _ (t : Row) (v : Valid t) where
   index-digit : (j : ℕ) → j < t .r - 1 → rowIndex (t .r) j ≡ j
@@ -75,17 +81,9 @@ module _ (t : Row) (v : Valid t) where
             ⊎-elim (λ (g : 3 ≤ i). let e : i ≡ 3 = omega arith in rw e (sym (rows-last s) ∙ at (t .r - 1) (last-below (parameters t) (v .sized))))
             (λ (g : i < 3). w .unused i k g) (le-or-lt 3 i)
 
-    -- one of the four is not 0
-    pub zero-not : FourRows t s → (j : ℕ) → j < 4 → getD s j 0 ≢ 0 → false ≡ zeroSyndrome (parameters t) (rowsOf t s)
-    zero-not w j l n = sym (fails (λ h. n (zero-from w h j l)))
-
-    -- the last decides where the digit rows are 0
-    pub zero-last : FourRows t s → getD s 0 0 ≡ 0 → getD s 1 0 ≡ 0 → getD s 2 0 ≡ 0 → eqb (getD s 3 0) 0 ≡ zeroSyndrome (parameters t) (rowsOf t s)
-    zero-last w e₀ e₁ e₂ = same-test _ _ (λ h. zero-to (each-row _ e₀ e₁ e₂ (eqb→eq _ 0 h))) (λ h. eq-test (zero-from w h 3 (omega arith)))
-
-    pub position-is : FourRows t s → (getD s 2 0 * t .q + getD s 1 0) * t .q + getD s 0 0 ≡ columnPosition (parameters t) (rowsOf t s)
+    digits-are : FourRows t s → (getD s 2 0 * t .q + getD s 1 0) * t .q + getD s 0 0 ≡ columnPosition (parameters t) (rowsOf t s)
     unfolding columnPosition rowsOf
-    position-is w = go (t .r) (r-large (parameters t) (v .sized)) (v .checks) (w .unused)
+    digits-are w = go (t .r) (r-large (parameters t) (v .sized)) (v .checks) (w .unused)
       where
         go : (r : ℕ) → 2 ≤ r → r ≤ 4 → ((j : ℕ) → r - 1 ≤ j → j < 3 → getD s j 0 ≡ 0)
             → (getD s 2 0 * t .q + getD s 1 0) * t .q + getD s 0 0 ≡ value (t .q) (r - 1) (tabulate (λ j. getD s (rowIndex r j) 0) r)
@@ -96,46 +94,33 @@ module _ (t : Row) (v : Valid t) where
         go (suc (suc (suc (suc zero)))) a b u = omega arith
         go (suc (suc (suc (suc (suc r))))) a b u = absurd (omega arith)
 
-    pub column-none : getD s 3 0 ≢ 1 → false ≡ columnSyndrome (parameters t) (rowsOf t s)
-    column-none n = sym (fails (λ h. n (sym (rows-last s) ∙ named (parameters t) (rowsOf t s) h .last)))
+  -- The tests of four rows are those of the r rows.
+  module _ (s : Syndrome) (w : FourRows t (rows s)) where
+    pub zero-same : zeroRows (rows s) ≡ zeroSyndrome (parameters t) (rowsOf t (rows s))
+    unfolding zeroRows
+    zero-same =
+        same-test _ _ (λ h. zero-to (rows s) (λ j l. eqb→eq _ 0 (all-at (λ j. eqb (getD (rows s) j 0) 0) 4 h j l)))
+        (λ h. all-of (λ j. eqb (getD (rows s) j 0) 0) 4 (λ j l. eq-test (zero-from (rows s) w h j l)))
 
-    module _ {at : ℕ} (e : at ≡ columnPosition (parameters t) (rowsOf t s)) where
-      pub column-zero : at ≡ 0 → false ≡ columnSyndrome (parameters t) (rowsOf t s)
-      column-zero z = sym (fails (λ h. absurd (omega (arith, named (parameters t) (rowsOf t s) h .some))))
+    pub position-same : value (t .q) 3 (rows s) ≡ columnPosition (parameters t) (rowsOf t (rows s))
+    position-same = sym (position-is (t .q) (s .low) (s .middle) (s .high) (s .ones)) ∙ digits-are (rows s) w
 
-      pub column-within : getD s 3 0 ≡ 1 → at ≢ 0 → leb at (t .n) ≡ columnSyndrome (parameters t) (rowsOf t s)
-      column-within o z =
-          same-test _ _
-          (λ h. named-test (parameters t) (rowsOf t s)
-          (record { last = rows-last s ∙ o; some = omega arith; within = let k : at ≤ t .n = leb→le at (t .n) h in omega arith }))
-          (λ h. le→leb at (t .n) (omega (arith, named (parameters t) (rowsOf t s) h .within)))
+    zero-four : zeroSyndrome (fourRows (t .q) (t .n)) (rows s) ≡ zeroSyndrome (parameters t) (rowsOf t (rows s))
+    zero-four = zero-by (t .q) (t .n) (rows s) (sym zero-same) refl
 
--- two near syndromes, by the tests of each
-module _ (p : Parameters) (S S′ : List ℕ) where
-  pub near-both : zeroSyndrome p S ≡ true → zeroSyndrome p S′ ≡ true → true ≡ nearSyndromes p S S′
-  unfolding nearSyndromes nearSyndrome
-  near-both a b = rw (a, b)
+    position-four : columnPosition (fourRows (t .q) (t .n)) (rows s) ≡ columnPosition (parameters t) (rowsOf t (rows s))
+    unfolding columnPosition
+    position-four = position-same
 
-  pub near-second : zeroSyndrome p S ≡ true → zeroSyndrome p S′ ≡ false → columnSyndrome p S′ ≡ nearSyndromes p S S′
-  unfolding nearSyndromes nearSyndrome
-  near-second a b = rw (a, b) (or-false (columnSyndrome p S′))
-    where
-      or-false : (b : Bool) → b ≡ (b || false)
-      or-false true = refl
-      or-false false = refl
+    column-four : columnSyndrome (fourRows (t .q) (t .n)) (rows s) ≡ columnSyndrome (parameters t) (rowsOf t (rows s))
+    unfolding columnSyndrome
+    column-four = ap₂ (λ (l i : ℕ). eqb l 1 && leb 1 i && leb i (t .n)) (sym (rows-last (rows s))) position-four
 
-  pub near-first : zeroSyndrome p S ≡ false → zeroSyndrome p S′ ≡ true → columnSyndrome p S ≡ nearSyndromes p S S′
-  unfolding nearSyndromes nearSyndrome
-  near-first a b = rw (a, b) (and-true (columnSyndrome p S))
-    where
-      and-true : (b : Bool) → b ≡ (b && true)
-      and-true true = refl
-      and-true false = refl
+    near-four : nearSyndrome (fourRows (t .q) (t .n)) (rows s) ≡ nearSyndrome (parameters t) (rowsOf t (rows s))
+    unfolding nearSyndrome
+    near-four = ap₂ _||_ zero-four column-four
 
-  pub near-neither : zeroSyndrome p S ≡ false → zeroSyndrome p S′ ≡ false → false ≡ nearSyndromes p S S′
-  unfolding nearSyndromes nearSyndrome
-  near-neither a b = rw (a, b) (and-false (columnSyndrome p S))
-    where
-      and-false : (b : Bool) → false ≡ (b && false)
-      and-false true = refl
-      and-false false = refl
+  pub near-same : (s s′ : Syndrome) → FourRows t (rows s) → FourRows t (rows s′)
+      → nearSyndromes (fourRows (t .q) (t .n)) (rows s) (rows s′) ≡ nearSyndromes (parameters t) (rowsOf t (rows s)) (rowsOf t (rows s′))
+  unfolding nearSyndromes
+  near-same s s′ w w′ = ap₂ _||_ (ap₂ _&&_ (zero-four s w) (near-four s′ w′)) (ap₂ _&&_ (near-four s w) (zero-four s′ w′))

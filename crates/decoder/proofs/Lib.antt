@@ -4,7 +4,6 @@ pub mod Multiplying
 -- The body and its differences
 pub mod Copying
 -- Syndromes
-pub mod Sizes
 pub mod FourRows
 pub mod Moving
 pub mod Fitting

@@ -10,8 +10,8 @@ use lib.ListN.{length, getD, take, drop, length-drop}
 use lib.Seq.{length-take-le, take-all}
 use Rattle.code.specs.Component.{isCheck, message}
 use Rattle.code.proofs.Weights.{length-alternate, double, double-is}
-use Rattle.symbols.specs.declared.profiles.Row.{Row}
-use Rattle.symbols.specs.Row.{Valid}
+use Rattle.profiles.specs.declared.row.Row.{Row}
+use Rattle.profiles.specs.Row.{Valid}
 use Rattle.symbols.specs.Syndromes.{part}
 use Rattle.symbols.proofs.Parts.{part-first, part-second, part-length}
 use Rattle.symbols.proofs.Powers.{Ahead, ahead-first, ahead-power, check-two, check-power, check-neither}

@@ -5,7 +5,7 @@ use mathlib.Core.Logic.{_≢_, _⊎_, inl, inr, ⊎-elim}
 use mathlib.Core.Bool.{Bool, true, false}
 use mathlib.Core.List.{List, [], _∷_}
 use Prim.Native.Nat.{ℕ, zero, suc, _+_, _-_, _*_, _%_, _≤_, _<_, zero-le, suc-le-suc}
-use native.Mathlib.Nat.{mod-lt, mod-eq-of-lt, mul-zero, mul-one, add-zero, zero-mod, le-trans}
+use native.Mathlib.Nat.{mod-lt, mod-eq-of-lt, mul-zero, add-zero, zero-mod, le-trans}
 use native.Mathlib.Omega.{arith}
 use lib.ListN.{getD}
 use borrow.Author.Tests.{lt-ltb, le-ltb}
@@ -18,11 +18,10 @@ use Rattle.code.specs.Component.{checkRow}
 use Rattle.code.proofs.Columns.{q-positive, last-row, digit-row}
 use Rattle.decoding.specs.Syndromes.{tabulate, columnEntry, moved}
 use Rattle.decoding.proofs.Value.{tabulate-at}
-use Rattle.symbols.specs.declared.profiles.Row.{Row}
-use Rattle.symbols.specs.Row.{parameters, Valid}
+use Rattle.profiles.specs.declared.row.Row.{Row}
+use Rattle.profiles.specs.Row.{parameters, Valid}
 use Rattle.symbols.specs.Columns.{Columns}
-use Rattle.decoder.specs.Rows.{rowIndex, rowsOf}
-use Rattle.symbols.specs.Syndromes.{FourRows}
+use Rattle.decoder.specs.Rows.{FourRows, rowIndex, rowsOf, movedRows}
 use Rattle.symbols.proofs.DigitRows.{digit-below}
 use Rattle.symbols.proofs.Digits.{digits-same, digits-high}
 use Rattle.decoder.proofs.FourRows.{row-cases, rows-digit, rows-last}
@@ -87,7 +86,7 @@ module _ (t : Row) (v : Valid t) where
       digit-is j = ap (λ (l : List ℕ). getD l j 0) (k .at i (omega (arith, v .length)))
 
       moved-some : ((j : ℕ) → j < 3 → getD d j 0 ≡ (getD s j 0 + f * getD (getD columns i []) j 0) % t .q)
-          → getD d 3 0 ≡ (getD s 3 0 + f) % t .q
+          → getD d 3 0 ≡ (getD s 3 0 + f * 1) % t .q
           → FourRows t d × (rowsOf t d ≡ moved (parameters t) f (suc i) (rowsOf t s))
       unfolding moved digit
       moved-some e l = (record { below = below; unused = unused }, rows-are d rows digits-are last-is)
@@ -114,23 +113,23 @@ module _ (t : Row) (v : Valid t) where
               e j (omega (arith, v .checks)) ∙ rw (← rows-digit t v s j m, c)
 
           last-is : getD d 3 0 ≡ rows (t .r - 1)
-          last-is = l ∙ rw (rows-last t v s, entry-some (parameters t) (t .r - 1) i h, last-row (t .q) (t .r) i, mul-one)
+          last-is = l ∙ rw (rows-last t v s, entry-some (parameters t) (t .r - 1) i h, last-row (t .q) (t .r) i)
 
     module _ {columns : List (List ℕ)} (k : Columns (t .q) columns) (a : ℕ) (z : a ≢ 0) (l : a ≤ t .n) where
       -- the four rows so moved
-      pub moved-column : {low middle high ones : ℕ} → low ≡ (getD s 0 0 + f * getD (getD columns (a - 1) []) 0 0) % t .q
-          → middle ≡ (getD s 1 0 + f * getD (getD columns (a - 1) []) 1 0) % t .q
-          → high ≡ (getD s 2 0 + f * getD (getD columns (a - 1) []) 2 0) % t .q
-          → ones ≡ (getD s 3 0 + f) % t .q
-          → FourRows t (low ∷ middle ∷ high ∷ ones ∷ []) × (rowsOf t (low ∷ middle ∷ high ∷ ones ∷ []) ≡ moved (parameters t) f a (rowsOf t s))
-      moved-column {low} {middle} {high} {ones} e₀ e₁ e₂ e₃ =
+      pub moved-column : {d : List ℕ} → d ≡ movedRows (t .q) f (getD columns (a - 1) []) s
+          → FourRows t d × (rowsOf t d ≡ moved (parameters t) f a (rowsOf t s))
+      moved-column {d} g =
           let e : suc (a - 1) ≡ a = omega arith in
-          let m = moved-some k (a - 1) (omega arith) (low ∷ middle ∷ high ∷ ones ∷ []) digit-rows e₃ in
+          let m = moved-some k (a - 1) (omega arith) d digit-rows (ap (λ (x : List ℕ). getD x 3 0) g) in
           (m .0, m .1 ∙ ap (λ (x : ℕ). moved (parameters t) f x (rowsOf t s)) e)
         where
-          digit-rows : (j : ℕ) → j < 3
-              → getD (low ∷ middle ∷ high ∷ ones ∷ []) j 0 ≡ (getD s j 0 + f * getD (getD columns (a - 1) []) j 0) % t .q
-          digit-rows zero h = e₀
-          digit-rows (suc zero) h = e₁
-          digit-rows (suc (suc zero)) h = e₂
+          digit-rows : (j : ℕ) → j < 3 → getD d j 0 ≡ (getD s j 0 + f * getD (getD columns (a - 1) []) j 0) % t .q
+          digit-rows zero h = ap (λ (x : List ℕ). getD x 0 0) g
+          digit-rows (suc zero) h = ap (λ (x : List ℕ). getD x 1 0) g
+          digit-rows (suc (suc zero)) h = ap (λ (x : List ℕ). getD x 2 0) g
           digit-rows (suc (suc (suc j))) h = absurd (omega arith)
+
+-- four rows, one by one
+pub four-equal : {a b c d a′ b′ c′ d′ : ℕ} → a ≡ a′ → b ≡ b′ → c ≡ c′ → d ≡ d′ → a ∷ b ∷ c ∷ d ∷ [] ≡ a′ ∷ b′ ∷ c′ ∷ d′ ∷ []
+four-equal e f g h = cc

@@ -22,8 +22,8 @@ use Rattle.code.proofs.Columns.{last-row, digit-row}
 use Rattle.decoding.specs.Syndromes.{syndromes, zeroSyndrome, columnPosition, columnSyndrome, nearSyndrome, restoredBy}
 use Rattle.decoding.proofs.Near.{named}
 use Rattle.decoding.proofs.Tests.{false-test}
-use Rattle.symbols.specs.declared.profiles.Row.{Row}
-use Rattle.symbols.specs.Row.{parameters, Valid}
+use Rattle.profiles.specs.declared.row.Row.{Row}
+use Rattle.profiles.specs.Row.{parameters, Valid}
 use Rattle.symbols.specs.Syndromes.{part}
 use Rattle.symbols.proofs.Digits.{digits-same}
 use Rattle.symbols.proofs.Parts.{part-first, part-second}

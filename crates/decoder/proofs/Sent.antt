@@ -11,8 +11,8 @@ use Rattle.modular.proofs.Search.{and-right, passes}
 use Rattle.code.specs.Parameters.{Parameters}
 use Rattle.decoding.specs.Decoded.{Sums, target, balancingSymbol, inRange}
 use Rattle.decoding.proofs.Tests.{true-test}
-use Rattle.symbols.specs.declared.profiles.Row.{Row}
-use Rattle.symbols.specs.Row.{parameters, Valid}
+use Rattle.profiles.specs.declared.row.Row.{Row}
+use Rattle.profiles.specs.Row.{parameters, Valid}
 use Rattle.decoder.specs.declared.totals.Totals.{Totals}
 use Rattle.decoder.specs.Totals.{sumsOf}
 use Rattle.decoder.specs.Level.{level}

@@ -2,8 +2,8 @@
 -- Assumes nothing.
 use mathlib.Core.Path.{_≡_, sym, ap, ap₂, _∙_, fun-ext}
 use mathlib.Core.Bool.{Bool, true, false}
-use mathlib.Core.List.{List, [], _∷_}
-use Prim.Native.Nat.{ℕ, zero, suc, _+_, _-_, _*_, _%_, _≤_, _<_, min}
+use mathlib.Core.List.{List}
+use Prim.Native.Nat.{ℕ, _+_, _-_, _*_, _%_, _≤_, _<_, min}
 use native.Mathlib.Nat.{mul-le-mul, mod-lt, min-eq-left}
 use native.Mathlib.Omega.{arith}
 use lib.ListN.{length, getD, take}
@@ -14,20 +14,21 @@ use Rattle.code.proofs.Columns.{q-positive}
 use Rattle.code.proofs.Lawful.{length-body}
 use Rattle.decoding.specs.Syndromes.{syndromes}
 use Rattle.decoding.specs.Decoded.{sums, checkSymbol, checkIndex, target, lack}
-use Rattle.symbols.specs.declared.profiles.Row.{Row}
-use Rattle.symbols.specs.Row.{parameters, Valid}
+use Rattle.profiles.specs.declared.row.Row.{Row}
+use Rattle.profiles.specs.Row.{parameters, Valid}
 use Rattle.symbols.specs.Remainder.{residue}
 use Rattle.symbols.specs.Columns.{Columns}
-use Rattle.symbols.specs.Syndromes.{FourRows, part, rowSums}
+use Rattle.symbols.specs.Syndromes.{rows, part, rowSums}
 use Rattle.symbols.proofs.Reduce.{residue-is}
 use Rattle.symbols.proofs.Words.{weight-alternate}
 use Rattle.symbols.proofs.Parts.{part-length}
-use Rattle.symbols.proofs.Rows.{sums-are, four-rows}
+use Rattle.symbols.proofs.Rows.{sums-are}
+use Rattle.syndromes.specs.declared.checks.Checks.{Checks}
 use Rattle.decoder.specs.declared.totals.Totals.{Totals}
-use Rattle.decoder.specs.Rows.{rowsOf}
-use Rattle.decoder.specs.Sides.{sideOf}
-use Rattle.decoder.specs.Totals.{Apart, sumsOf, Totalled}
+use Rattle.decoder.specs.Rows.{FourRows, rowsOf}
+use Rattle.decoder.specs.Totals.{Apart, checkOf, sumsOf, Totalled}
 use Rattle.decoder.proofs.Levels.{symbols-take, weight-small}
+use Rattle.decoder.proofs.FourRows.{four-rows}
 use Rattle.decoder.proofs.Restoring.{four-are}
 
 check-below : (q : ℕ) → 1 ≤ q → (b : Bool) (w : List ℕ) → checkSymbol q b w < q
@@ -104,41 +105,36 @@ module _ {t : Row} {word w x : List ℕ} (a : Apart t word w x) where
 
   -- the sums, as the code has them
   module _ (s : Totals) (e : s .weight ≡ weight (body (parameters t) word))
-      (g : (b : Bool) → getD (s .asked) (sideOf b) 0 ≡ checkSymbol (t .q) b (body (parameters t) word)) where
-    pub totals-are : getD (s .arrived) 0 0 ≡ getD word (t .balanced) 0 → getD (s .arrived) 1 0 ≡ getD word (t .balanced + 1) 0
-        → rowsOf t (s .first) ≡ syndromes (parameters t) (received (parameters t) true word)
-        → rowsOf t (s .second) ≡ syndromes (parameters t) (received (parameters t) false word)
+      (g : (b : Bool) → checkOf (s .asked) b ≡ checkSymbol (t .q) b (body (parameters t) word)) where
+    pub totals-are : s .arrived .alpha ≡ getD word (t .balanced) 0 → s .arrived .beta ≡ getD word (t .balanced + 1) 0
+        → rowsOf t (rows (s .first)) ≡ syndromes (parameters t) (received (parameters t) true word)
+        → rowsOf t (rows (s .second)) ≡ syndromes (parameters t) (received (parameters t) false word)
         → sumsOf t s ≡ sums (parameters t) word
     totals-are f i h k = rw (e, asked-is, arrived-is, h, k)
       where
-        arrived : (b : Bool) → getD (s .arrived) (sideOf b) 0 ≡ getD word (checkIndex (parameters t) b) 0
+        arrived : (b : Bool) → checkOf (s .arrived) b ≡ getD word (checkIndex (parameters t) b) 0
         arrived true = f ∙ ap (λ (m : ℕ). getD word m 0) (a .is .valid .balanced)
         arrived false = i ∙ ap (λ (m : ℕ). getD word (m + 1) 0) (a .is .valid .balanced)
 
-        asked-is : _≡_ {A = Bool → ℕ} (λ b. getD (s .asked) (sideOf b) 0) (λ b. checkSymbol (t .q) b (body (parameters t) word))
+        asked-is : _≡_ {A = Bool → ℕ} (checkOf (s .asked)) (λ b. checkSymbol (t .q) b (body (parameters t) word))
         asked-is = fun-ext g
 
-        arrived-is : _≡_ {A = Bool → ℕ} (λ b. getD (s .arrived) (sideOf b) 0) (λ b. getD word (checkIndex (parameters t) b) 0)
+        arrived-is : _≡_ {A = Bool → ℕ} (checkOf (s .arrived)) (λ b. getD word (checkIndex (parameters t) b) 0)
         arrived-is = fun-ext arrived
 
-    pub totalled : s .lack ≡ (t .middle + (t .q - 1) * s .weight) % t .q → FourRows t (s .first) → FourRows t (s .second) → Totalled t s
+    pub totalled : s .lack ≡ (t .middle + (t .q - 1) * s .weight) % t .q → FourRows t (rows (s .first)) → FourRows t (rows (s .second)) → Totalled t s
     unfolding lack
     totalled l f h =
         record {
           light = omega (arith, e, body-light);
           lacks = l ∙ ap (λ (m : ℕ). (m + (t .q - 1) * s .weight) % t .q) (middle-is (a .is .valid));
           lack-below = rw l (mod-lt (t .middle + (t .q - 1) * s .weight) q₁);
-          asked-below = asked-below;
+          asked-below = λ b. rw (g b) (check-below (t .q) q₁ b (body (parameters t) word));
           first-rows = f;
           second-rows = h;
         }
-      where
-        asked-below : (i : ℕ) → i < 2 → getD (s .asked) i 0 < t .q
-        asked-below zero h = rw (g true) (check-below (t .q) q₁ true (body (parameters t) word))
-        asked-below (suc zero) h = rw (g false) (check-below (t .q) q₁ false (body (parameters t) word))
-        asked-below (suc (suc i)) h = absurd (omega arith)
 
 -- both check symbols, from each
-pub each-side : (P : Bool → ℕ → Type 0) {a b : ℕ} → P true a → P false b → (c : Bool) → P c (getD (a ∷ b ∷ []) (sideOf c) 0)
-each-side P x y true = x
-each-side P x y false = y
+pub each-check : (P : Bool → ℕ → Type 0) (s : Checks) → P true (s .alpha) → P false (s .beta) → (b : Bool) → P b (checkOf s b)
+each-check P s x y true = x
+each-check P s x y false = y

@@ -8,7 +8,7 @@ use lib.ListN.{getD}
 use Rattle.modular.specs.Residue.{minus}
 use Rattle.code.specs.Parameters.{Parameters}
 use Rattle.decoding.specs.Decoded.{Sums, balancingSymbol, inRange, places, firstFit}
-use Rattle.symbols.specs.declared.profiles.Row.{Row}
+use Rattle.profiles.specs.declared.row.Row.{Row}
 use Rattle.decoder.specs.declared.totals.Totals.{Totals}
 use Rattle.decoder.specs.declared.place.Place.{Place}
 use Rattle.decoder.specs.declared.place.Place.the-variants.{At, Nothing}

@@ -7,7 +7,3 @@ use Prim.Native.Nat.{ℕ, zero, suc}
 abbrev pub isFirst : ℕ → Bool
 isFirst zero = true
 isFirst (suc k) = false
-
-abbrev pub sideOf : Bool → ℕ
-sideOf true = 0
-sideOf false = 1

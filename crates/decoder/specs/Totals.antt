@@ -1,21 +1,22 @@
 -- What the decoder sums over a received word, as the definitions of crate decoding have it.
 -- Assumes nothing.
 use mathlib.Core.Path.{_≡_}
-use mathlib.Core.Bool.{Bool}
+use mathlib.Core.Bool.{Bool, true, false}
 use mathlib.Core.List.{List}
 use Prim.Native.Nat.{ℕ, _≤_, _<_}
 use lib.Dec.{T}
-use lib.ListN.{length, getD, take}
+use lib.ListN.{length, take}
 use Rattle.code.specs.Parameters.{codewordLength}
 use Rattle.code.specs.Component.{symbolsBelow}
 use Rattle.code.specs.Codeword.{received}
-use Rattle.decoding.specs.Decoded.{Sums, lack}
-use Rattle.symbols.specs.declared.profiles.Row.{Row}
+use Rattle.decoding.specs.Decoded.{Sums, sums, lack}
+use Rattle.profiles.specs.declared.row.Row.{Row}
 use Rattle.decoder.specs.declared.totals.Totals.{Totals}
-use Rattle.symbols.specs.Row.{parameters, Valid}
-use Rattle.symbols.specs.Syndromes.{FourRows, part}
-use Rattle.decoder.specs.Rows.{rowsOf}
-use Rattle.decoder.specs.Sides.{sideOf}
+use Rattle.profiles.specs.Row.{parameters, Valid}
+use Rattle.symbols.specs.Syndromes.{rows, part}
+use Rattle.syndromes.specs.declared.checks.Checks.{Checks}
+use Rattle.decoder.specs.Rows.{FourRows, rowsOf}
+use Rattle.decoder.specs.Received.{Body}
 
 -- a word that numbers 1 to 3 let through
 pub record Word (t : Row) (word : List ℕ) : Type 0 where
@@ -29,14 +30,19 @@ pub record Apart (t : Row) (word w x : List ℕ) : Type 0 where
   pub copy : take (t .balanced) w ≡ take (t .balanced) word
   pub parts : (b : Bool) → part b (t .n) x ≡ received (parameters t) b word
 
+-- the check symbol of a parity
+abbrev pub checkOf : Checks → Bool → ℕ
+checkOf s true = s .alpha
+checkOf s false = s .beta
+
 abbrev pub sumsOf : Row → Totals → Sums
 sumsOf t s =
     record {
       weighs = s .weight;
-      asked = λ b. getD (s .asked) (sideOf b) 0;
-      arrived = λ b. getD (s .arrived) (sideOf b) 0;
-      first = rowsOf t (s .first);
-      second = rowsOf t (s .second);
+      asked = checkOf (s .asked);
+      arrived = checkOf (s .arrived);
+      first = rowsOf t (rows (s .first));
+      second = rowsOf t (rows (s .second));
     }
 
 -- the rest follows from the sums, and each is small
@@ -44,6 +50,17 @@ pub record Totalled (t : Row) (s : Totals) : Type 0 where
   pub light : s .weight ≤ 1358
   pub lacks : s .lack ≡ lack (parameters t) (sumsOf t s)
   pub lack-below : s .lack < t .q
-  pub asked-below : (i : ℕ) → i < 2 → getD (s .asked) i 0 < t .q
-  pub first-rows : FourRows t (s .first)
-  pub second-rows : FourRows t (s .second)
+  pub asked-below : (b : Bool) → checkOf (s .asked) b < t .q
+  pub first-rows : FourRows t (rows (s .first))
+  pub second-rows : FourRows t (rows (s .second))
+
+-- x holds the components of the word u
+pub record Components (t : Row) (u x : List ℕ) : Type 0 where
+  pub levels : Body t x
+  pub parts : (b : Bool) → part b (t .n) x ≡ received (parameters t) b u
+
+-- s are the sums over the word, and x holds its components
+pub record Summed (t : Row) (word x : List ℕ) (s : Totals) : Type 0 where
+  pub totalled : Totalled t s
+  pub are : sumsOf t s ≡ sums (parameters t) word
+  pub held : Components t word x

@@ -8,8 +8,8 @@ use lib.ListN.{length, getD, set}
 use Rattle.code.specs.Parameters.{Parameters, messageLength}
 use Rattle.code.specs.Component.{message}
 use Rattle.decoding.specs.Syndromes.{restoredBy}
-use Rattle.symbols.specs.declared.profiles.Row.{Row}
-use Rattle.symbols.specs.Row.{parameters}
+use Rattle.profiles.specs.declared.row.Row.{Row}
+use Rattle.profiles.specs.Row.{parameters}
 use Rattle.symbols.specs.Syndromes.{part}
 use Rattle.decoder.specs.Received.{Body}
 

@@ -1,11 +1,10 @@
-// Decoding (01: Read): the pair of messages that a received word carries, with at most one symbol corrected. Its steps are this crate's own and those of crate `symbols`.
+// Decoding (01: Read): the pair of messages that a received word carries, with at most one symbol corrected. Its steps are this crate's own and those of crates `symbols` and `syndromes`.
 mod body;
+mod column;
 mod message;
-mod near;
 mod place;
 mod plain;
 mod reader;
-mod refusals;
 mod residue;
 mod totals;
 

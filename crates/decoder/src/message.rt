@@ -1,31 +1,32 @@
 // The messages that the components of a word hold.
-use crate::near::is_zero;
-use crate::near::position;
 use crate::residue::sub;
 use crate::residue::wide;
-use symbols::Row;
+use profiles::Row;
+use symbols::Syndrome;
+use syndromes::is_zero;
+use syndromes::position;
 ghost use mathlib.Core.Path.{_≡_};
 ghost use mathlib.Core.Bool.{true, false};
 ghost use Prim.Native.Nat.{_+_, _-_, _*_, _≤_, _<_};
 ghost use lib.Dec.{T};
 ghost use lib.ListN.{length};
 ghost use Rattle.decoding.specs.Syndromes.{nearSyndrome, nearSyndromes};
-ghost use Rattle.symbols.specs.Row.{parameters};
-ghost use Rattle.symbols.specs.Syndromes.{FourRows, part};
-ghost use Rattle.decoder.specs.Rows.{rowsOf};
+ghost use Rattle.profiles.specs.Row.{parameters};
+ghost use Rattle.symbols.specs.Syndromes.{rows, part};
+ghost use Rattle.decoder.specs.Rows.{FourRows, rowsOf};
 ghost use Rattle.decoder.specs.Sides.{isFirst};
 ghost use Rattle.decoder.specs.Received.{Body};
 ghost use Rattle.decoder.specs.Written.{Restored, Outputs, Messages, Written, run};
 
 // One component restored by its syndrome: as it is, or with 1 taken from the symbol that the syndrome names.
-fn restore(row: Row, s: [u8; 4], side: usize, x: &mut [u8; 97])
-    requires { ⌜ Body row (now x) × FourRows row s × T (nearSyndrome (parameters row) (rowsOf row s)) × (side ≤ 1) ⌝ }
-    ensures { λ _. ⌜ Restored row (rowsOf row s) (isFirst side) (now (x .entry)) (now (x .exit)) ⌝ }
+fn restore(row: Row, s: Syndrome, side: usize, x: &mut [u8; 97])
+    requires { ⌜ Body row (now x) × FourRows row (rows s) × T (nearSyndrome (parameters row) (rowsOf row (rows s))) × (side ≤ 1) ⌝ }
+    ensures { λ _. ⌜ Restored row (rowsOf row (rows s)) (isFirst side) (now (x .entry)) (now (x .exit)) ⌝ }
 {
-    if is_zero(row, s) {
+    if is_zero(s) {
         return;
     }
-    let i = 2 * position(row, s) - 1 + side;
+    let i = 2 * position(row.q, s) - 1 + side;
     x[i] = sub(row.q, x[i], 1);
 }
 
@@ -66,14 +67,14 @@ fn extract(row: Row, x: &[u8; 97], first: &mut [u8], second: &mut [u8])
 // Both messages of the components in x, which have the syndromes s and t.
 pub(crate) fn write_pair(
     row: Row,
-    s: [u8; 4],
-    t: [u8; 4],
+    s: Syndrome,
+    t: Syndrome,
     x: &mut [u8; 97],
     first: &mut [u8],
     second: &mut [u8],
 )
-    requires { ⌜ Body row (now x) × FourRows row s × FourRows row t × T (nearSyndromes (parameters row) (rowsOf row s) (rowsOf row t)) × Outputs row (now first) (now second) ⌝ }
-    ensures { λ _. ⌜ Written (parameters row) (part true (row .n) (now (x .entry))) (part false (row .n) (now (x .entry))) (rowsOf row s) (rowsOf row t) (now (first .exit)) (now (second .exit)) ⌝ }
+    requires { ⌜ Body row (now x) × FourRows row (rows s) × FourRows row (rows t) × T (nearSyndromes (parameters row) (rowsOf row (rows s)) (rowsOf row (rows t))) × Outputs row (now first) (now second) ⌝ }
+    ensures { λ _. ⌜ Written (parameters row) (part true (row .n) (now (x .entry))) (part false (row .n) (now (x .entry))) (rowsOf row (rows s)) (rowsOf row (rows t)) (now (first .exit)) (now (second .exit)) ⌝ }
 {
     restore(row, s, 0, x);
     restore(row, t, 1, x);

@@ -1,18 +1,19 @@
 // Which position of an unbalanced word changed: each of the parity that the check symbols name is tried, in rising order.
-use crate::near::moved;
-use crate::near::near;
+use crate::column::moved;
 use crate::residue::add;
 use crate::residue::wide;
 use crate::totals::Totals;
-use symbols::Row;
+use profiles::Row;
+use symbols::Syndrome;
+use syndromes::near;
 ghost use mathlib.Core.Path.{_≡_};
 ghost use Prim.Native.Nat.{_+_, _*_, _≤_, _<_};
 ghost use Rattle.decoding.specs.Syndromes.{movedFirst, movedSecond};
 ghost use Rattle.decoding.specs.Decoded.{lack, offByLack, fits, places, firstFit};
-ghost use Rattle.symbols.specs.Row.{Valid, parameters};
+ghost use Rattle.profiles.specs.Row.{Valid, parameters};
 ghost use Rattle.symbols.specs.Columns.{Columns};
-ghost use Rattle.symbols.specs.Syndromes.{FourRows};
-ghost use Rattle.decoder.specs.Rows.{rowsOf};
+ghost use Rattle.symbols.specs.Syndromes.{rows};
+ghost use Rattle.decoder.specs.Rows.{FourRows, rowsOf};
 ghost use Rattle.decoder.specs.Sides.{isFirst};
 ghost use Rattle.decoder.specs.Totals.{Word, sumsOf, Totalled};
 ghost use Rattle.decoder.specs.Place.{Found, Moves, symbolSent};
@@ -36,9 +37,10 @@ fn off_by_lack(row: Row, s: Totals, parity: usize) -> bool
     requires { ⌜ Valid row × Totalled row s × (parity ≤ 1) ⌝ }
     ensures { λ b. ⌜ b ≡ offByLack (parameters row) (sumsOf row s) (isFirst parity) ⌝ }
 {
-    let asked = s.asked;
-    let arrived = s.arrived;
-    add(row.q, asked[parity], s.lack) == arrived[parity]
+    if parity == 0 {
+        return add(row.q, s.asked.alpha, s.lack) == s.arrived.alpha;
+    }
+    add(row.q, s.asked.beta, s.lack) == s.arrived.beta
 }
 
 // The first component's syndrome with the symbol at index k of the parity corrected: less column k + 1, or more.
@@ -50,9 +52,9 @@ pub(crate) fn moved_first(
     down: &[u8; 16],
     parity: usize,
     k: usize,
-) -> [u8; 4]
+) -> Syndrome
     requires { ⌜ Valid row × Columns (row .q) (now columns) × Totalled row s × Moves row s (now up) (now down) × (k ≤ 48) ⌝ }
-    ensures { λ t. ⌜ FourRows row t × (rowsOf row t ≡ movedFirst (parameters row) (isFirst parity) k (lack (parameters row) (sumsOf row s)) (rowsOf row (s .first))) ⌝ }
+    ensures { λ t. ⌜ FourRows row (rows t) × (rowsOf row (rows t) ≡ movedFirst (parameters row) (isFirst parity) k (lack (parameters row) (sumsOf row s)) (rowsOf row (rows (s .first)))) ⌝ }
 {
     let first = s.first;
     if parity == 0 {
@@ -70,9 +72,9 @@ pub(crate) fn moved_second(
     down: &[u8; 16],
     parity: usize,
     k: usize,
-) -> [u8; 4]
+) -> Syndrome
     requires { ⌜ Valid row × Columns (row .q) (now columns) × Totalled row s × Moves row s (now up) (now down) × (k ≤ 48) ⌝ }
-    ensures { λ t. ⌜ FourRows row t × (rowsOf row t ≡ movedSecond (parameters row) (isFirst parity) k (lack (parameters row) (sumsOf row s)) (rowsOf row (s .second))) ⌝ }
+    ensures { λ t. ⌜ FourRows row (rows t) × (rowsOf row (rows t) ≡ movedSecond (parameters row) (isFirst parity) k (lack (parameters row) (sumsOf row s)) (rowsOf row (rows (s .second)))) ⌝ }
 {
     let second = s.second;
     if parity == 0 {
@@ -103,7 +105,7 @@ fn fits(
     }
     let first = moved_first(row, columns, s, up, down, parity, k);
     let second = moved_second(row, columns, s, up, down, parity, k);
-    near(row, first, second)
+    near(row.q, row.n, first, second)
 }
 
 // The first index of the parity that fits.

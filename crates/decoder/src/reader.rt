@@ -1,35 +1,36 @@
 // Decoding of a received word, by its sums.
-use crate::body::copy_body;
-use crate::body::difference_body;
+use crate::body::corrected_body;
 use crate::message::write_pair;
-use crate::near::near;
 use crate::place::Place;
 use crate::place::balancing_symbol;
 use crate::place::moved_first;
 use crate::place::moved_second;
 use crate::place::try_places;
-use crate::refusals::refusal;
 use crate::residue::multiples;
 use crate::residue::sub;
 use crate::totals::Totals;
-use crate::totals::total;
-use symbols::Matrix;
-use symbols::Row;
+use crate::totals::sums_of;
+use profiles::Row;
+use profiles::decode_refusal;
+use profiles::row_of;
 use symbols::columns;
-use symbols::row_of;
+use syndromes::Verdict;
+use syndromes::verdict;
 ghost use mathlib.Core.Path.{_≡_};
 ghost use Prim.Native.Nat.{_≤_};
 ghost use lib.Dec.{eqb};
-ghost use lib.ListN.{length, getD};
+ghost use lib.ListN.{length};
 ghost use Rattle.code.specs.Operations.{answered, decodeAnswer};
-ghost use Rattle.decoding.specs.Decoded.{decodedBody, decodedUnbalanced, decoded};
-ghost use Rattle.symbols.specs.Row.{Valid, parameters};
+ghost use Rattle.decoding.specs.Decoded.{decodedBody, decodedUnbalanced};
+ghost use Rattle.profiles.specs.Row.{Valid, parameters};
+ghost use Rattle.profiles.specs.Refusal.{refusalNumber};
 ghost use Rattle.symbols.specs.Columns.{Columns};
+ghost use Rattle.decoder.specs.Received.{Body};
 ghost use Rattle.decoder.specs.Totals.{Word, sumsOf, Totalled};
 ghost use Rattle.decoder.specs.Sides.{isFirst};
 ghost use Rattle.decoder.specs.Place.{Located, Moves};
 ghost use Rattle.decoder.specs.Written.{Outputs};
-ghost use Rattle.decoder.specs.Decode.{Verdict, wrongParity, refusalNumber, Answers};
+ghost use Rattle.decoder.specs.Decode.{Judged, wrongParity, Answers, BalancedAnswers};
 
 // What a received word is read as; the outputs hold its messages where it is clean or corrected.
 pub enum Decoded {
@@ -45,40 +46,32 @@ pub enum Decoded {
 // A balanced body: clean, or one check symbol is wrong.
 fn check(row: Row, s: Totals) -> Decoded
     requires { ⌜ Valid row × Totalled row s ⌝ }
-    ensures { λ r. ⌜ Verdict (parameters row) (sumsOf row s) r ⌝ }
+    ensures { λ r. ⌜ Judged (parameters row) (sumsOf row s) r ⌝ }
 {
     let first = s.first;
     let second = s.second;
     let asked = s.asked;
     let arrived = s.arrived;
-    if !near(row, first, second) {
-        return Decoded::Unreadable;
+    let told = verdict(row.q, row.n, first, second, asked, arrived);
+    match told {
+        Verdict::Clean => Decoded::Clean,
+        Verdict::Alpha => Decoded::Corrected(row.balanced + 1, asked.alpha),
+        Verdict::Beta => Decoded::Corrected(row.balanced + 2, asked.beta),
+        Verdict::Unreadable => Decoded::Unreadable,
     }
-    if asked[0] == arrived[0] {
-        if asked[1] != arrived[1] {
-            return Decoded::Corrected(row.balanced + 2, asked[1]);
-        }
-        return Decoded::Clean;
-    }
-    if asked[1] == arrived[1] {
-        return Decoded::Corrected(row.balanced + 1, asked[0]);
-    }
-    Decoded::Unreadable
 }
 
 // The parity whose check symbol alone disagrees: 0 for the odd positions, 1 for the even ones, 2 where none does or both do.
 fn wrong_parity(s: Totals) -> usize
-    ensures { λ r. ⌜ r ≡ wrongParity (eqb (getD (s .asked) 0 0) (getD (s .arrived) 0 0)) (eqb (getD (s .asked) 1 0) (getD (s .arrived) 1 0)) ⌝ }
+    ensures { λ r. ⌜ r ≡ wrongParity (eqb (s .asked .alpha) (s .arrived .alpha)) (eqb (s .asked .beta) (s .arrived .beta)) ⌝ }
 {
-    let ask = s.asked;
-    let got = s.arrived;
-    if ask[0] == got[0] {
-        if ask[1] == got[1] {
+    if s.asked.alpha == s.arrived.alpha {
+        if s.asked.beta == s.arrived.beta {
             return 2;
         }
         return 1;
     }
-    if ask[1] == got[1] {
+    if s.asked.beta == s.arrived.beta {
         return 0;
     }
     2
@@ -102,11 +95,8 @@ fn correct(
 {
     let i = 2 * k + parity;
     let y = balancing_symbol(row, s, word[i]);
-    let mut w = [0u8; 97];
-    copy_body(word, row.balanced, &mut w);
-    w[i] = y;
     let mut x = [0u8; 97];
-    difference_body(row, &w, &mut x);
+    corrected_body(row, word, i, y, &mut x);
     let f = moved_first(row, columns, s, up, down, parity, k);
     let g = moved_second(row, columns, s, up, down, parity, k);
     write_pair(row, f, g, &mut x, first, second);
@@ -137,61 +127,64 @@ fn decode_unbalanced(
     correct(row, columns, s, &up, &down, word, parity, k, first, second)
 }
 
-// A word of a row's length and levels, by the row and its columns.
-fn decode_by(
+// What follows the balance test of a balanced word, whose components are in x.
+fn decode_balanced(
     row: Row,
-    columns: &Matrix,
-    word: &[u8],
+    s: Totals,
+    x: &mut [u8; 97],
     first: &mut [u8],
     second: &mut [u8],
 ) -> Decoded
-    requires { ⌜ Word row (now word) × Columns (row .q) (now columns) × Outputs row (now first) (now second) ⌝ }
-    ensures { λ r. ⌜ Answers (answered (decoded (parameters row) (now (word .entry)))) r (now (first .entry)) (now (first .exit)) (now (second .entry)) (now (second .exit)) ⌝ }
+    requires { ⌜ Body row (now x) × Totalled row s × Outputs row (now first) (now second) ⌝ }
+    ensures { λ r. ⌜ BalancedAnswers row s (now (x .entry)) r (now (first .entry)) (now (first .exit)) (now (second .entry)) (now (second .exit)) ⌝ }
 {
-    let mut w = [0u8; 97];
-    copy_body(word, row.balanced, &mut w);
-    let mut x = [0u8; 97];
-    difference_body(row, &w, &mut x);
-    let s = total(row, columns, word, &w, &x);
-    if s.weight != row.middle {
-        return decode_unbalanced(row, columns, s, word, first, second);
-    }
     let found = check(row, s);
     if let Decoded::Unreadable = found {
         return Decoded::Unreadable;
     }
     let f = s.first;
     let g = s.second;
-    write_pair(row, f, g, &mut x, first, second);
+    write_pair(row, f, g, x, first, second);
     found
 }
 
-// A word that numbers 1 to 3 let through. Each profile has a call of its own: its row and its columns are then constants.
+// A word that numbers 1 to 3 let through, by its sums.
+fn decode_by(profile: usize, word: &[u8], first: &mut [u8], second: &mut [u8]) -> Decoded
+    requires { ⌜ refusalNumber (decodeAnswer profile (now word) (length (now first)) (length (now second))) ≡ 0 ⌝ }
+    ensures { λ r. ⌜ Answers (decodeAnswer profile (now (word .entry)) (length (now (first .entry))) (length (now (second .entry)))) r (now (first .entry)) (now (first .exit)) (now (second .entry)) (now (second .exit)) ⌝ }
+{
+    let row = row_of(profile);
+    let matrix = columns(profile);
+    let mut x = [0u8; 97];
+    let s = sums_of(row, &matrix, word, &mut x);
+    if s.weight != row.middle {
+        return decode_unbalanced(row, &matrix, s, word, first, second);
+    }
+    decode_balanced(row, s, &mut x, first, second)
+}
+
+// The same. Each profile has a call of its own: its row and its columns are then constants.
 fn decode_word(profile: usize, word: &[u8], first: &mut [u8], second: &mut [u8]) -> Decoded
     requires { ⌜ refusalNumber (decodeAnswer profile (now word) (length (now first)) (length (now second))) ≡ 0 ⌝ }
     ensures { λ r. ⌜ Answers (decodeAnswer profile (now (word .entry)) (length (now (first .entry))) (length (now (second .entry)))) r (now (first .entry)) (now (first .exit)) (now (second .entry)) (now (second .exit)) ⌝ }
 {
     if profile == 1 {
-        let matrix = columns(1);
-        return decode_by(row_of(1), &matrix, word, first, second);
+        return decode_by(1, word, first, second);
     }
     if profile == 2 {
-        let matrix = columns(2);
-        return decode_by(row_of(2), &matrix, word, first, second);
+        return decode_by(2, word, first, second);
     }
     if profile == 3 {
-        let matrix = columns(3);
-        return decode_by(row_of(3), &matrix, word, first, second);
+        return decode_by(3, word, first, second);
     }
-    let matrix = columns(4);
-    decode_by(row_of(4), &matrix, word, first, second)
+    decode_by(4, word, first, second)
 }
 
 // 01: Read. Refused 1: no such profile; 2: a length is wrong; 3: a symbol is not a level. A refusal and `Unreadable` change no output.
 pub fn decode(profile: usize, word: &[u8], first: &mut [u8], second: &mut [u8]) -> Decoded
     ensures { λ r. ⌜ Answers (decodeAnswer profile (now (word .entry)) (length (now (first .entry))) (length (now (second .entry)))) r (now (first .entry)) (now (first .exit)) (now (second .entry)) (now (second .exit)) ⌝ }
 {
-    let number = refusal(profile, word, first.len(), second.len());
+    let number = decode_refusal(profile, word, first.len(), second.len());
     if number != 0 {
         return Decoded::Refused(number);
     }

@@ -1,15 +1,20 @@
 // What is summed over a received word, once: its weight, its check symbols and the syndromes of its components.
+use crate::body::copy_body;
+use crate::body::difference_body;
 use crate::residue::difference;
 use crate::residue::wide;
-use symbols::Row;
+use profiles::Row;
+use symbols::Syndrome;
 use symbols::remainder;
 use symbols::syndromes_of;
 use symbols::weigh;
+use syndromes::Checks;
 ghost use mathlib.Core.Path.{_≡_};
-ghost use Rattle.symbols.specs.Row.{parameters};
+ghost use Rattle.profiles.specs.Row.{parameters};
 ghost use Rattle.symbols.specs.Columns.{Columns};
 ghost use Rattle.decoding.specs.Decoded.{sums};
-ghost use Rattle.decoder.specs.Totals.{Apart, sumsOf, Totalled};
+ghost use lib.ListN.{length};
+ghost use Rattle.decoder.specs.Totals.{Word, Apart, sumsOf, Totalled, Summed};
 
 pub(crate) struct Totals {
     // The weight of the body.
@@ -17,21 +22,15 @@ pub(crate) struct Totals {
     // What the weight lacks of the balancing value, mod q.
     pub(crate) lack: u8,
     // The check symbols α and β: as the body asks for, and as received.
-    pub(crate) asked: [u8; 2],
-    pub(crate) arrived: [u8; 2],
+    pub(crate) asked: Checks,
+    pub(crate) arrived: Checks,
     // The syndromes of the components.
-    pub(crate) first: [u8; 4],
-    pub(crate) second: [u8; 4],
+    pub(crate) first: Syndrome,
+    pub(crate) second: Syndrome,
 }
 
 // The sums over a word, from its body w and the differences x of that.
-pub(crate) fn total(
-    row: Row,
-    columns: &[[u8; 3]; 48],
-    word: &[u8],
-    w: &[u8; 97],
-    x: &[u8; 97],
-) -> Totals
+fn total(row: Row, columns: &[[u8; 3]; 48], word: &[u8], w: &[u8; 97], x: &[u8; 97]) -> Totals
     requires { ⌜ Apart row (now word) (now w) (now x) × Columns (row .q) (now columns) ⌝ }
     ensures { λ s. ⌜ Totalled row s × (sumsOf row s ≡ sums (parameters row) (now (word .entry))) ⌝ }
 {
@@ -39,11 +38,14 @@ pub(crate) fn total(
     let m = row.balanced;
     let halves = weigh(w, m);
     let weight = halves.odd + halves.even;
-    let asked = [
-        remainder(q, halves.odd + wide(row.delta)),
-        remainder(q, halves.even),
-    ];
-    let arrived = [word[m], word[m + 1]];
+    let asked = Checks {
+        alpha: remainder(q, halves.odd + wide(row.delta)),
+        beta: remainder(q, halves.even),
+    };
+    let arrived = Checks {
+        alpha: word[m],
+        beta: word[m + 1],
+    };
     let syndromes = syndromes_of(q, row.n, columns, x);
     let first = syndromes.first;
     let second = syndromes.second;
@@ -55,4 +57,15 @@ pub(crate) fn total(
         first,
         second,
     }
+}
+
+// The sums over a word, whose components are put into x.
+pub(crate) fn sums_of(row: Row, columns: &[[u8; 3]; 48], word: &[u8], x: &mut [u8; 97]) -> Totals
+    requires { ⌜ Word row (now word) × Columns (row .q) (now columns) × (length (now x) ≡ 97) ⌝ }
+    ensures { λ s. ⌜ Summed row (now (word .entry)) (now (x .exit)) s ⌝ }
+{
+    let mut w = [0u8; 97];
+    copy_body(word, row.balanced, &mut w);
+    difference_body(row, &w, x);
+    total(row, columns, word, &w, x)
 }

@@ -1,10 +1,5 @@
 -- Symbols mod q
 pub mod Bytes
--- The components in one array, and their check symbols
-pub mod Interleaving
-pub mod Placing
-pub mod Setting
-pub mod Solve
 -- Balancing
 pub mod Integrating
 pub mod Raising

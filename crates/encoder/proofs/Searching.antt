@@ -16,8 +16,8 @@ use Rattle.code.specs.Parameters.{balancingValue}
 use Rattle.code.specs.Balance.{integrate, chosen, earliestS, earliestV, balanced}
 use Rattle.code.specs.Claims.{Balanced}
 use Rattle.code.proofs.Balance.{shifted, shiftedFrom, chosen-shifted, length-integrate, weight-step, balance-exists}
-use Rattle.symbols.specs.declared.profiles.Row.{Row}
-use Rattle.symbols.specs.Row.{Valid}
+use Rattle.profiles.specs.declared.row.Row.{Row}
+use Rattle.profiles.specs.Row.{Valid}
 use Rattle.encoder.specs.Symbols.{Integral, Chosen}
 
 -- the weight of the choice s, i + 1; past the last position nothing is added but s

@@ -13,8 +13,8 @@ use Rattle.modular.specs.Sum.{weight}
 use Rattle.code.specs.Parameters.{delta}
 use Rattle.code.specs.Codeword.{alternate, alpha, beta, withChecks}
 use Rattle.code.proofs.Columns.{q-positive}
-use Rattle.symbols.specs.declared.profiles.Row.{Row}
-use Rattle.symbols.specs.Row.{parameters, Valid}
+use Rattle.profiles.specs.declared.row.Row.{Row}
+use Rattle.profiles.specs.Row.{parameters, Valid}
 use Rattle.symbols.specs.Remainder.{residue}
 use Rattle.symbols.proofs.Reduce.{residue-is}
 use Rattle.symbols.proofs.Words.{weight-alternate}

@@ -1,15 +1,14 @@
 // Balancing (01: How a word is made, 4 and 5): w of the first choice that balances x. A choice s, v adds s to every symbol of the integrated x,
 // and 1 more from position v on, so x is integrated once.
 use crate::residue::add;
-use crate::residue::wide;
-use symbols::Row;
+use profiles::Row;
 ghost use mathlib.Core.Path.{_≡_};
 ghost use Prim.Native.Nat.{ℕ, _+_, _/_, _%_, _≤_, _<_};
 ghost use lib.ListN.{getD, take};
 ghost use Rattle.modular.specs.Sum.{weight};
 ghost use Rattle.code.specs.Balance.{integrate, balanced};
 ghost use Rattle.code.proofs.Balance.{shifted};
-ghost use Rattle.symbols.specs.Row.{Valid};
+ghost use Rattle.profiles.specs.Row.{Valid};
 ghost use Rattle.encoder.specs.Symbols.{Symbols, Light, Summed, Integral, Chosen, Raised, stepAt};
 
 // The sums of the first symbols, up to each of the first m.
@@ -88,21 +87,19 @@ fn earliest(row: Row, d: &[u8; 97]) -> Choice
     requires { ⌜ Valid row × Symbols (row .q) (row .balanced) (now d) × Integral (row .q) (take (row .balanced) (now d)) ⌝ }
     ensures { λ c. ⌜ Chosen (row .q) (take (row .balanced) (now (d .entry))) (c .s) (c .v) ⌝ }
 {
-    let q = row.q;
     let m = row.balanced;
-    let middle = row.middle;
     let mut s: u8 = 0;
     let mut v: usize = 1;
     'search: loop {
         let mut gain = [0u8; 16];
-        gain[wide(q - 1 - s)] = q;
-        let mut weight = weight_raised(q, m, d, s + 1);
+        gain[(row.q - 1 - s) as usize] = row.q;
+        let mut weight = weight_raised(row.q, m, d, s + 1);
         v = 1;
         while v <= m {
-            if weight == middle {
+            if weight == row.middle {
                 break 'search;
             }
-            weight = weight + wide(gain[wide(d[v - 1])]) - 1;
+            weight = weight + gain[d[v - 1] as usize] as usize - 1;
             v += 1;
         }
         s += 1;

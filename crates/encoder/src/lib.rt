@@ -1,13 +1,11 @@
-// Encoding (01: Write) of a pair of messages into the word that goes on the line. Its steps are this crate's own and those of crate `symbols`.
+// Encoding (01: Write) of a pair of messages into the word that goes on the line. The components of the pair are those of crate `components`.
 mod balance;
-mod component;
 mod residue;
 mod word;
 mod writer;
 
-use symbols::row_of;
+use profiles::encode_refusal;
 use word::put;
-use writer::refusal;
 use writer::written;
 ghost use mathlib.Core.Path.{_≡_};
 ghost use lib.ListN.{length};
@@ -25,7 +23,7 @@ pub fn encode(profile: usize, first: &[u8], second: &[u8], out: &mut [u8]) -> En
     ensures { λ r. ⌜ encodedNumber r ≡ encodeRefusal profile (now (first .entry)) (now (second .entry)) (length (now (out .entry))) ⌝ }
     ensures { λ r. ⌜ now (out .exit) ≡ encodeOutput profile (now (first .entry)) (now (second .entry)) (now (out .entry)) ⌝ }
 {
-    let number = refusal(profile, first, second, out.len());
+    let number = encode_refusal(profile, first, second, out.len());
     if number != 0 {
         return Encoded::Refused(number);
     }

@@ -1,7 +1,6 @@
 // Arithmetic mod q on symbols, by a comparison and a difference: no division.
 ghost use mathlib.Core.Path.{_≡_};
 ghost use Prim.Native.Nat.{_+_, _%_, _≤_, _<_};
-ghost use Rattle.modular.specs.Residue.{minus};
 
 // A symbol as a number that indices and weights are made of.
 pub(crate) fn wide(x: u8) -> usize
@@ -17,12 +16,4 @@ pub(crate) fn add(q: u8, a: u8, x: u8) -> u8
 {
     let gap = q - x;
     if a < gap { a + x } else { a - gap }
-}
-
-// a - x mod q.
-pub(crate) fn sub(q: u8, a: u8, x: u8) -> u8
-    requires { ⌜ (a < q) × (x < q) ⌝ }
-    ensures { λ r. ⌜ (r ≡ minus q a x) × (r < q) ⌝ }
-{
-    if a < x { q - (x - a) } else { a - x }
 }

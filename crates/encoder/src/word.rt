@@ -1,13 +1,13 @@
 // The word that goes on the line (01: How a word is made, 6): w, alpha and beta.
 use crate::residue::wide;
-use symbols::Row;
+use profiles::Row;
 use symbols::remainder;
 use symbols::weigh;
 ghost use mathlib.Core.Path.{_≡_};
 ghost use Prim.Native.Nat.{_≤_};
 ghost use lib.ListN.{length, take};
 ghost use Rattle.code.specs.Codeword.{alpha, beta, withChecks};
-ghost use Rattle.symbols.specs.Row.{Valid};
+ghost use Rattle.profiles.specs.Row.{Valid};
 ghost use Rattle.encoder.specs.Symbols.{Symbols};
 
 // 01: the line word, in the first `len` symbols.

@@ -24,7 +24,7 @@ use Rattle.soundness.specs.declared.Checked.{Checked}
 use Rattle.soundness.specs.declared.Checked.the-variants.{Sound}
 use Rattle.soundness.specs.Checked.{reached, checked}
 use Rattle.soundness.proofs.Checked.{the-type}
-use Rattle.soundness.proofs.Conditions.{holds}
+use Rattle.cells.proofs.Conditions.{holds}
 use Rattle.queue.specs.Refusal.{refusalOf}
 
 -- a sound queue with the cell and the number of records that the check gave

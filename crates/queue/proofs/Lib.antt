@@ -1,4 +1,3 @@
-pub mod Bytes
 pub mod Conditions
 pub mod Checking
 pub mod Refusing

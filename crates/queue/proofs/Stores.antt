@@ -1,58 +1,28 @@
--- What the writes to a queue's cells make of its bytes, and where they lie.
+-- What an enqueue writes into its cell, and where the operations write and read.
 -- Assumes nothing.
 use mathlib.Core.Path.{_≡_, refl, sym, ap, ap₂, _∙_}
 use mathlib.Core.Logic.{_≢_}
 use mathlib.Core.List.{List, [], _∷_, _++_, append-assoc}
-use Prim.Native.Nat.{ℕ, zero, suc, _+_, _-_, _*_, _≤_, _<_}
+use Prim.Native.Nat.{ℕ, zero, suc, _+_, _-_, _*_, _≤_}
 use native.Mathlib.Nat.{not-suc-le-zero, le-of-suc-le-suc, sub-zero}
-use native.Mathlib.Numerals.{add-one}
 use native.Mathlib.Omega.{arith}
 use lib.Dec.{T, eqb, eqb→eq}
-use lib.ListN.{length, getD, take, drop, set, take-append-drop, length-drop}
-use lib.Seq.{length-take-le, drop-cons}
+use lib.ListN.{length, getD, take, drop, set, take-append-drop}
+use lib.Seq.{length-take-le}
 use borrow.Rule.Slice.PartMut.{putMid}
 use Rattle.modular.proofs.Search.{and-left, and-right}
 use Rattle.sheet.specs.Lists.{allZero, zeros, count}
-use Rattle.sheet.specs.Layout.{bodySize, capacity, next, firstFree, body, setNext, setFirstFree, setBody}
+use Rattle.sheet.specs.Layout.{capacity, next, firstFree, body, setNext, setFirstFree, setBody}
 use Rattle.sheet.specs.Chains.{used, lastUsed}
 use Rattle.sheet.specs.Sound.{recordOf, Queue}
-use Rattle.sheet.specs.Operations.{linked, cellOf}
+use Rattle.sheet.specs.Operations.{cellOf}
 use Rattle.sheet.proofs.Counts.{in-here, in-later}
 use Rattle.sheet.proofs.Places.{body-set-next, body-set-free}
 use Rattle.sheet.proofs.Lists.{Lists, lists-of, used-in, free-in}
 use Rattle.sheet.proofs.Answers.{Entering}
 use Rattle.sheet.proofs.Laws.{parts, lists-before, lists-first, first-parts}
 use Rattle.sheet.proofs.Enqueue as enq
-use Rattle.soundness.proofs.Bytes.{part}
-
--- one more link
-pub link-on : (s : List ℕ) (i n : ℕ) → i < n → linked s i (n - i) ≡ linked (set s (i * 104) (i + 1)) (i + 1) (n - (i + 1))
-link-on s i n h =
-    let e : n - i ≡ suc (n - (i + 1)) = omega arith in
-    let f : suc i ≡ i + 1 = omega arith in
-    ap (linked s i) e ∙ ap (λ (j : ℕ). linked (set s (i * 104) j) j (n - (i + 1))) f
-
-pub link-over : (s : List ℕ) (i n : ℕ) → n ≤ i → linked s i (n - i) ≡ s
-link-over s i n h = let e : n - i ≡ 0 = omega arith in ap (linked s i) e
-
--- a cell with byte 0 as zero
-pub cell-shown : (s : List ℕ) (i : ℕ) → (i + 1) * 104 ≤ length s → set (take 104 (drop (i * 104) s)) 0 0 ≡ 0 ∷ body s i
-cell-shown s i h =
-    let k : i * 104 < length s = omega arith in
-    ap (λ (l : List ℕ). set (take 104 l) 0 0) (drop-cons s (i * 104) 0 k)
-    ∙ ap (λ (n : ℕ). 0 ∷ take 103 (drop n s)) (sym (add-one (i * 104)))
-
-pub length-body : (s : List ℕ) (i : ℕ) → (i + 1) * 104 ≤ length s → length (body s i) ≡ 103
-length-body s i h = length-take-le 103 (drop (i * 104 + 1) s) (omega (arith, length-drop (i * 104 + 1) s))
-
--- a body cleared
-pub clear-put : (s z : List ℕ) (i : ℕ) → (i + 1) * 104 ≤ length s → z ≡ zeros (length (take (i * 104 + 1 + 103 - (i * 104 + 1)) (drop (i * 104 + 1) s)))
-    → putMid (i * 104 + 1) (i * 104 + 1 + 103 - (i * 104 + 1)) s z ≡ setBody s i (zeros bodySize)
-clear-put s z i h e =
-    let a : ℕ = i * 104 + 1 in
-    let k : a + 103 - a ≡ 103 = omega arith in
-    let f : z ≡ zeros bodySize = e ∙ ap (λ (l : List ℕ). zeros (length l)) (part s a 103) ∙ ap zeros (length-body s i h) in
-    ap₂ (λ (n : ℕ) (l : List ℕ). putMid a n s l) k f
+use Rattle.cells.proofs.Cells.{length-body}
 
 -- a record put into a body of zeros
 drop-zeros : (k m : ℕ) (l : List ℕ) → k ≤ m → drop k (zeros m ++ l) ≡ zeros (m - k) ++ l

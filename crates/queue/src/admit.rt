@@ -1,8 +1,8 @@
 // What the operations refuse, in 01's order.
 use crate::Answer;
+use profiles::row_of;
+use profiles::symbols_below;
 use soundness::Checked;
-use symbols::row_of;
-use symbols::symbols_below;
 ghost use mathlib.Core.Path.{_≡_};
 ghost use mathlib.Core.Bool.{true};
 ghost use Rattle.sheet.specs.Operations.{enqueueRefusal};
@@ -24,12 +24,10 @@ pub(crate) fn refuse(checked: Checked) -> Answer
 pub(crate) fn admit(boxno: usize, profile: usize, word: &[u8]) -> Answer
     ensures { λ r. ⌜ numberOf r ≡ enqueueRefusal true boxno profile (now (word .entry)) ⌝ }
 {
-    let is_box = (1 <= boxno) & (boxno <= 40);
-    if !is_box {
+    if !((1 <= boxno) & (boxno <= 40)) {
         return Answer::BoxNumber;
     }
-    let is_profile = (1 <= profile) & (profile <= 4);
-    if !is_profile {
+    if !((1 <= profile) & (profile <= 4)) {
         return Answer::NoProfile;
     }
     let row = row_of(profile);

@@ -2,7 +2,6 @@
 // What each operation answers and leaves is defined in crate `sheet`, and so is the list rule that these definitions meet.
 mod admit;
 mod cell;
-mod scan;
 
 use soundness::Checked;
 use soundness::check;
@@ -53,12 +52,9 @@ pub fn format(queue: &mut [u8]) -> Answer
     ensures { λ r. ⌜ numberOf r ≡ formatAnswer (now (queue .entry)) ⌝ }
     ensures { λ _. ⌜ now (queue .exit) ≡ formatQueue (now (queue .entry)) ⌝ }
 {
-    if !soundness::is_length(queue.len()) {
+    if !cells::lay_out(queue) {
         return Answer::QueueLength;
     }
-    scan::clear(queue);
-    cell::link(queue);
-    queue[1] = 1;
     Answer::Done
 }
 
@@ -96,12 +92,11 @@ pub fn peek(queue: &[u8], number: usize, out: &mut [u8]) -> Answer
     if out.len() != 104 {
         return Answer::Length;
     }
-    let found = (1 <= number) & (number <= records);
-    if !found {
-        return Answer::NoRecord;
+    if (1 <= number) & (number <= records) {
+        cells::show(queue, cell, out);
+        return Answer::Done;
     }
-    cell::show(queue, cell, out);
-    Answer::Done
+    Answer::NoRecord
 }
 
 // Takes the first record off the queue (01: take off) and shows it.
@@ -114,6 +109,6 @@ pub fn dequeue(queue: &mut [u8], out: &mut [u8]) -> Answer
     let Answer::Done = shown else {
         return shown;
     };
-    cell::release(queue);
+    cells::release(queue);
     Answer::Done
 }

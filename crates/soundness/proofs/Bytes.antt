@@ -1,9 +1,9 @@
 -- Parts of a queue's bytes, as they are lent.
 -- Assumes nothing.
-use mathlib.Core.Path.{_≡_, refl, sym, ap, ap₂, _∙_}
+use mathlib.Core.Path.{_≡_, refl, sym, ap₂, _∙_}
 use mathlib.Core.Bool.{_&&_}
 use mathlib.Core.List.{List, [], _∷_}
-use Prim.Native.Nat.{ℕ, zero, suc, _+_, _-_, zero-le, suc-le-suc}
+use Prim.Native.Nat.{ℕ, zero, suc, _-_, zero-le, suc-le-suc}
 use native.Mathlib.Omega.{arith}
 use lib.Dec.{ltb, eqb, eqb·suc-zero}
 use lib.ListN.{length, take, drop, length-drop}
@@ -22,11 +22,7 @@ pub zero-below : (s : List ℕ) → symbolsBelow 1 s ≡ allZero s
 zero-below [] = refl
 zero-below (x ∷ s) = ap₂ _&&_ (below-one x) (zero-below s)
 
--- a part of n bytes from a on, as a range lends it
-pub part : (s : List ℕ) (a n : ℕ) → take (a + n - a) (drop a s) ≡ take n (drop a s)
-part s a n = let e : a + n - a ≡ n = omega arith in ap (λ (k : ℕ). take k (drop a s)) e
-
--- and one from a up to the end
+-- a part from a up to the end, as a range lends it
 pub part-rest : (s : List ℕ) (a : ℕ) → take (length s - a) (drop a s) ≡ drop a s
 part-rest s a = take-all (length s - a) (drop a s) (omega (arith, length-drop a s))
 

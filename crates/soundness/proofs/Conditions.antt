@@ -1,19 +1,15 @@
 -- Tests made one after the other: the first that fails decides, and otherwise the last.
 -- Assumes nothing.
-use mathlib.Core.Path.{_≡_, refl, sym, subst}
+use mathlib.Core.Path.{_≡_, refl}
 use mathlib.Core.Bool.{Bool, true, false, _&&_}
 use Prim.Native.Nat.{ℕ}
 use native.Mathlib.Omega.{arith}
-use lib.Dec.{T}
 
 pub off : (a b : Bool) → a ≡ false → false ≡ (a && b)
 off a b e = rw e
 
 pub on : (a b d : Bool) → a ≡ true → d ≡ b → d ≡ (a && b)
 on a b d e f = rw e f
-
-pub holds : (a : Bool) → a ≡ true → T a
-holds a e = subst T (sym e) tt
 
 pub and-true : (b : Bool) → (b && true) ≡ b
 and-true true = refl

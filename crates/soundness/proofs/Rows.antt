@@ -6,8 +6,8 @@ use Prim.Native.Nat.{ℕ}
 use lib.ListN.{getD}
 use Rattle.code.specs.Profiles.{derivedRow}
 use Rattle.sheet.specs.Sound.{levels, wordLength}
-use Rattle.symbols.specs.declared.profiles.Row.{Row}
-use Rattle.symbols.specs.Row.{cells}
+use Rattle.profiles.specs.declared.row.Row.{Row}
+use Rattle.profiles.specs.Row.{cells}
 
 module _ (p : ℕ) (t : Row) (row : cells p t ≡ derivedRow p) where
   pub levels-is : t .q ≡ levels p

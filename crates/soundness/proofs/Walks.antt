@@ -16,10 +16,11 @@ use Rattle.sheet.specs.Lists.{all, lastOf}
 use Rattle.sheet.specs.Layout.{capacity, next, body}
 use Rattle.sheet.specs.Chains.{chain, ends}
 use Rattle.sheet.specs.Sound.{isBody, isCell, isList}
+use Rattle.cells.proofs.Conditions.{holds}
 use Rattle.soundness.specs.declared.lists.Walked.{Walked}
 use Rattle.soundness.specs.Tally.{tallied, AtMost}
 use Rattle.soundness.specs.Walked.{goOn, Walks}
-use Rattle.soundness.proofs.Conditions.{and-true, swapped, holds, no-truth}
+use Rattle.soundness.proofs.Conditions.{and-true, swapped, no-truth}
 
 -- A list stops at 0, and goes on from every other cell.
 chain-stop : (s : List ℕ) (n i : ℕ) → i ≡ 0 → chain s n i ≡ []

@@ -1,7 +1,7 @@
 // Whether a cell is as a used or a free one has to be.
-use crate::measure::capacity;
-use symbols::row_of;
-use symbols::symbols_below;
+use cells::capacity;
+use profiles::row_of;
+use profiles::symbols_below;
 ghost use mathlib.Core.Path.{_≡_};
 ghost use lib.Dec.{T};
 ghost use lib.ListN.{length};
@@ -53,10 +53,10 @@ pub(crate) fn is_cell(queue: &[u8], used: bool, cell: usize) -> bool
         return false;
     }
     let a = cell * 104 + 1;
-    let e = a + 103;
+    let body = &queue[a..a + 103];
     if used {
-        is_record(&queue[a..e])
+        is_record(body)
     } else {
-        symbols_below(&queue[a..e], 1)
+        symbols_below(body, 1)
     }
 }

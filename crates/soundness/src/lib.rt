@@ -1,10 +1,8 @@
 // Whether bytes are a sound queue (01: The sheet), and which cell its used list leads to. Every operation on a queue begins with this.
 mod cell;
 mod lists;
-mod measure;
 
-pub use measure::capacity;
-pub use measure::is_length;
+use cells::is_length;
 ghost use mathlib.Core.Path.{_≡_};
 ghost use Rattle.soundness.specs.Checked.{checked};
 

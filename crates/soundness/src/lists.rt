@@ -1,8 +1,7 @@
 // The two lists of a queue (01: chains), each walked once. A table counts how often each cell is met, so the test is linear in the bytes.
 use crate::cell::is_cell;
-use crate::measure::capacity;
-use crate::measure::wide;
-use symbols::symbols_below;
+use cells::capacity;
+use profiles::symbols_below;
 ghost use mathlib.Core.Path.{_≡_};
 ghost use Prim.Native.Nat.{suc, _≤_};
 ghost use lib.Dec.{T, eqb};
@@ -55,7 +54,7 @@ fn walk(queue: &[u8], used: bool, first: usize, number: usize, seen: &mut [u16; 
         met += 1;
         reached = go_on(cell, reached, met, number);
         let at = cell * 104;
-        cell = wide(queue[at]);
+        cell = queue[at] as usize;
         left -= 1;
     }
     Walked {
@@ -85,11 +84,11 @@ pub(crate) fn walk_both(queue: &[u8], number: usize) -> Walked
     ensures { λ r. ⌜ Checks (now (queue .entry)) number r ⌝ }
 {
     let mut seen = [0u16; 256];
-    let used = walk(queue, true, wide(queue[0]), number, &mut seen);
+    let used = walk(queue, true, queue[0] as usize, number, &mut seen);
     if !used.good {
         return used;
     }
-    let free = walk(queue, false, wide(queue[1]), 0, &mut seen);
+    let free = walk(queue, false, queue[1] as usize, 0, &mut seen);
     let spare = symbols_below(&queue[2..104], 1);
     let once = each_once(&seen, capacity(queue));
     Walked {

@@ -33,6 +33,11 @@ columns-of-profile i h =
           ∙ ap (digits (profile i .q) 3) e;
     }
 
+-- the same, asked for by a number i that is known to be the profile's
+pub columns-of-number : {n : ℕ} (i : ℕ) → n ≡ i → T (isProfile n) → {q : ℕ} → q ≡ profile n .q → {columns : List (List ℕ)} → columns ≡ columnsOf i
+    → Columns q columns
+columns-of-number {n} i same h {q} l e = rw (l, e, ← same) (columns-of-profile n h)
+
 past : (i : ℕ) → isProfile (suc (suc (suc (suc (suc i))))) ≡ false
 past i = fails (λ h. omega (arith, leb→le (suc (suc (suc (suc (suc i))))) 4 (and-right (leb 1 (suc (suc (suc (suc (suc i)))))) (leb (suc (suc (suc (suc (suc i))))) 4) h)))
 

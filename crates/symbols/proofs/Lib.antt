@@ -1,12 +1,9 @@
--- The table of profiles and the columns
-pub mod Table
+-- The columns
 pub mod Digits
 pub mod DigitRows
-pub mod Numbers
 -- Sums mod q
 pub mod Reduce
--- Words: their levels and their weight
-pub mod Highest
+-- Words and their weight
 pub mod Words
 pub mod Capped
 pub mod Weighing

@@ -11,13 +11,10 @@ use lib.Seq.{take-all}
 use Rattle.modular.specs.Sum.{weight, dot}
 use Rattle.modular.proofs.Sum.{dot-same, dot-one, dot-zero}
 use Rattle.code.specs.Component.{checkRow, syndrome}
-use Rattle.code.proofs.Columns.{q-positive}
-use Rattle.symbols.specs.declared.profiles.Row.{Row}
 use Rattle.symbols.specs.declared.syndromes.Sums.{Sums}
-use Rattle.symbols.specs.Row.{parameters, Valid}
 use Rattle.symbols.specs.Remainder.{residue}
 use Rattle.symbols.specs.Columns.{Columns}
-use Rattle.symbols.specs.Syndromes.{digit, rowSums, Light, Added, FourRows}
+use Rattle.symbols.specs.Syndromes.{digit, rowSums, Light, Added}
 use Rattle.symbols.proofs.Digits.{digits-high}
 use Rattle.symbols.proofs.Reduce.{residue-is}
 use Rattle.symbols.proofs.Words.{dot-take, weight-take}
@@ -110,14 +107,3 @@ module _ {q : ℕ} {columns : List (List ℕ)} (some : 1 ≤ q) (right : Columns
           sym (column-digit right i j (omega arith) l)
           ∙ ap (λ (d : List ℕ). getD d j 0) (right .at i (omega arith))
           ∙ digits-high q k 3 (suc i) j some (omega arith) h
-
--- in a row of the table: the four rows, those that r does not have 0
-pub four-rows : (t : Row) → Valid t → {columns : List (List ℕ)} → Columns (t .q) columns → (c : List ℕ) → length c ≤ t .n
-    → FourRows t (rowSums (t .q) columns c)
-four-rows t v right c l =
-    let some : 1 ≤ t .q = q-positive (parameters t) (v .sized) in
-    let room : length c ≤ 48 = omega (arith, v .length) in
-    record {
-      below = sums-below some right c room;
-      unused = sums-unused some right c room (t .r - 1) (omega (arith, v .sized .columns));
-    }

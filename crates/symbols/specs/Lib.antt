@@ -1,4 +1,3 @@
-pub mod Row
 pub mod Remainder
 pub mod Columns
 pub mod Syndromes

@@ -4,13 +4,17 @@
 use mathlib.Core.Path.{_≡_}
 use mathlib.Core.Bool.{Bool}
 use mathlib.Core.List.{List, [], _∷_}
-use Prim.Native.Nat.{ℕ, _+_, _-_, _*_, _≤_, _<_}
+use Prim.Native.Nat.{ℕ, _+_, _*_, _≤_}
 use lib.ListN.{getD, take, drop}
 use Rattle.modular.specs.Sum.{weight, dot}
 use Rattle.code.specs.Codeword.{alternate}
-use Rattle.symbols.specs.declared.profiles.Row.{Row}
 use Rattle.symbols.specs.declared.syndromes.Sums.{Sums}
+use Rattle.symbols.specs.declared.syndromes.Syndrome.{Syndrome}
 use Rattle.symbols.specs.Remainder.{residue}
+
+-- the rows in their order
+abbrev pub rows : Syndrome → List ℕ
+rows s = s .low ∷ s .middle ∷ s .high ∷ s .ones ∷ []
 
 -- n symbols of the first component (true) or of the second in x: 0, then their symbols in turn
 abbrev pub part : Bool → ℕ → List ℕ → List ℕ
@@ -46,8 +50,3 @@ pub record Added (s : Sums) (column : List ℕ) (x : ℕ) (r : Sums) : Type 0 wh
   pub middle-more : r .middle ≤ s .middle + 65025
   pub high-more : r .high ≤ s .high + 65025
   pub ones-more : r .ones ≤ s .ones + 65025
-
--- each of the four is below q, and the digit rows that r does not have are 0
-pub record FourRows (t : Row) (s : List ℕ) : Type 0 where
-  pub below : (j : ℕ) → j < 4 → getD s j 0 < t .q
-  pub unused : (j : ℕ) → t .r - 1 ≤ j → j < 3 → getD s j 0 ≡ 0

@@ -7,12 +7,19 @@ ghost use mathlib.Core.Bool.{true, false};
 ghost use mathlib.Core.List.{[], _∷_};
 ghost use Prim.Native.Nat.{min, _≤_};
 ghost use Rattle.symbols.specs.Remainder.{residue};
-ghost use Rattle.symbols.specs.Syndromes.{Light, Added, part, rowSums};
+ghost use Rattle.symbols.specs.Syndromes.{rows, Light, Added, part, rowSums};
 
-// Four row sums each: three digit rows, and the row of ones.
+// The row sums of one component: three digit rows, and the row of ones.
+pub struct Syndrome {
+    pub low: u8,
+    pub middle: u8,
+    pub high: u8,
+    pub ones: u8,
+}
+
 pub struct Syndromes {
-    pub first: [u8; 4],
-    pub second: [u8; 4],
+    pub first: Syndrome,
+    pub second: Syndrome,
 }
 
 // Row sums not yet reduced mod q.
@@ -45,21 +52,21 @@ fn added(s: Sums, column: [u8; 3], x: u8) -> Sums
 }
 
 // The sums mod q.
-fn reduced(q: u8, s: Sums) -> [u8; 4]
-    ensures { λ r. ⌜ r ≡ residue q (s .low) ∷ residue q (s .middle) ∷ residue q (s .high) ∷ residue q (s .ones) ∷ [] ⌝ }
+fn reduced(q: u8, s: Sums) -> Syndrome
+    ensures { λ r. ⌜ rows r ≡ residue q (s .low) ∷ residue q (s .middle) ∷ residue q (s .high) ∷ residue q (s .ones) ∷ [] ⌝ }
 {
-    [
-        remainder(q, s.low as usize),
-        remainder(q, s.middle as usize),
-        remainder(q, s.high as usize),
-        remainder(q, s.ones as usize),
-    ]
+    Syndrome {
+        low: remainder(q, s.low as usize),
+        middle: remainder(q, s.middle as usize),
+        high: remainder(q, s.high as usize),
+        ones: remainder(q, s.ones as usize),
+    }
 }
 
 // The syndromes of the components in x: x[0] is neither's, and then their symbols follow in turn, n of
 // each, or all 48.
 pub fn syndromes_of(q: u8, n: usize, columns: &Matrix, x: &Body) -> Syndromes
-    ensures { λ s. ⌜ (s .first ≡ rowSums q (now (columns .entry)) (part true (min n 48) (now (x .entry)))) × (s .second ≡ rowSums q (now (columns .entry)) (part false (min n 48) (now (x .entry)))) ⌝ }
+    ensures { λ s. ⌜ (rows (s .first) ≡ rowSums q (now (columns .entry)) (part true (min n 48) (now (x .entry)))) × (rows (s .second) ≡ rowSums q (now (columns .entry)) (part false (min n 48) (now (x .entry)))) ⌝ }
 {
     let mut end = n;
     if 48 < end {

@@ -7,7 +7,8 @@ use lib.ListN.{length}
 use denote.Ref.{now}
 use Rattle.code.specs.Profiles.{profile}
 use Rattle.code.specs.Operations.{encodeRefusal}
-use Rattle.encoder.proofs.Refusing.{Accepted, accepted, accepted-small, output-kept, output-done}
+use Rattle.profiles.proofs.Refusing.{Accepted, accepted, accepted-small}
+use Rattle.encoder.proofs.Refusing.{output-kept, output-done}
 use borrow.Author.Needs.{needs}
 use Rattle.encoder.proofs.encode.Statement.{statement}
 use Rattle.encoder.proofs.encode.Tie as tie
@@ -18,16 +19,16 @@ module _ (c : tie.Else1) where
   start = c .before .before .before .before .before
 
   none : 0 ≡ encodeRefusal (start .args .profile) (now (start .args .first)) (now (start .args .second)) (length (now (start .args .out)))
-  none = sym (c .if1 .left) ∙ c .before .refusal .ensures
+  none = sym (c .if1 .left) ∙ c .before .encode-refusal .ensures
 
   accept : Accepted (start .args .profile) (now (start .args .first)) (now (start .args .second)) (length (now (start .args .out)))
   accept = accepted _ _ _ _ none
 
-refusal-requires : tie.Need-refusal-requires
-refusal-requires c κs = search needs
+encode-refusal-requires : tie.Need-encode-refusal-requires
+encode-refusal-requires c κs = search needs
 
 returns : tie.Need-returns
-returns c = (c .before .refusal .ensures, output-kept _ _ _ _ (c .before .refusal .ensures) (c .if1 .taken))
+returns c = (c .before .encode-refusal .ensures, output-kept _ _ _ _ (c .before .encode-refusal .ensures) (c .if1 .taken))
 
 written-requires : tie.Need-written-requires
 written-requires c κs = (accept c .in-table, accept c .first, accept c .second)
@@ -49,4 +50,4 @@ returns-2 c =
 pub encode-spec : {M : Type 1} → statement M
 encode-spec =
     tie.close
-    (tie.spec refusal-requires returns written-requires put-requires same-length returns-2)
+    (tie.spec encode-refusal-requires returns written-requires put-requires same-length returns-2)

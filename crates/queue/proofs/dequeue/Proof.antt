@@ -5,8 +5,10 @@ use denote.Ref.{now}
 use Rattle.sheet.specs.Operations.{peekAnswer, dequeueAnswer, dequeueQueue, dequeueOutput}
 use Rattle.sheet.proofs.Answers.{Showing, showing}
 use Rattle.sheet.proofs.Laws.{first-cell}
+use Rattle.cells.proofs.Cells.{releases}
 use Rattle.queue.proofs.Conditions.{kept, wrote}
 use Rattle.queue.proofs.Told.{told-done, told-refused}
+use Rattle.queue.proofs.Stores.{first-fits}
 use borrow.Author.Needs.{needs}
 use Rattle.queue.proofs.dequeue.Statement.{statement}
 use Rattle.queue.proofs.dequeue.Tie as tie
@@ -39,10 +41,7 @@ returns c =
     (k .peek .ensures .0, (kept _ _ (now (start k .args .queue)) (λ e. told-refused (k .peek .result) (c .match .keys2) (k .peek .ensures .0 ∙ e)), k .peek .ensures .1))
 
 release-requires : tie.Need-release-requires
-release-requires c κs =
-    let t = c .before in
-    let s = now (start (t .before .before .before .before) .args .queue) in
-    (shows t .queue, λ e. shows t .found (first-cell s (shows t .queue) ∙ e))
+release-requires c κs = search needs
 
 same-length-3 : tie.Need-same-length-3
 same-length-3 c = search needs
@@ -56,7 +55,10 @@ returns-2 c =
     let k = c .before .before in
     let t = k .before .before in
     let e = shown-at t in
-    (sym e, (k .release .ensures ∙ wrote _ _ _ e, t .before .before .before .before .peek .ensures .1))
+    let s = now (start (t .before .before .before .before) .args .queue) in
+    let q = shows t .queue in
+    let fits = first-fits s q (λ z. shows t .found (first-cell s q ∙ z)) in
+    (sym e, (k .release .ensures ∙ releases s fits ∙ wrote _ _ _ e, t .before .before .before .before .peek .ensures .1))
 
 pub dequeue-spec : {M : Type 1} → statement M
 dequeue-spec =

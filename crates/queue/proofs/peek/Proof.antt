@@ -1,19 +1,21 @@
 -- `peek` meets its contract: what is refused leaves the output, and otherwise the cell that the check led to is shown.
 -- Assumes nothing.
-use mathlib.Core.Path.{_≡_, refl, sym, ap, subst, _∙_}
+use mathlib.Core.Path.{_≡_, refl, sym, ap, _∙_}
 use mathlib.Core.Logic.{_≢_}
 use mathlib.Core.Bool.{Bool, _&&_}
 use mathlib.Core.List.{List}
-use Prim.Native.Nat.{ℕ, _+_, _*_, _≤_}
+use Prim.Native.Nat.{ℕ}
 use native.Mathlib.Omega.{arith}
 use lib.Dec.{eqb, leb, leb→le}
 use lib.ListN.{length}
 use denote.Ref.{now}
-use borrow.Author.Tests.{not-true, not-false, eq-eqb, ne-eqb}
+use borrow.Author.Tests.{eq-eqb, ne-eqb}
 use Rattle.modular.proofs.Search.{and-right}
-use Rattle.sheet.specs.Operations.{shown, showRefusal, cellOf, peekAnswer, peekOutput}
+use Rattle.sheet.specs.Operations.{showRefusal, cellOf, peekAnswer, peekOutput}
 use Rattle.sheet.proofs.Answers.{on-sound, showing}
-use Rattle.soundness.proofs.Conditions.{holds}
+use Rattle.cells.specs.Cells.{shownAt}
+use Rattle.cells.proofs.Conditions.{holds}
+use Rattle.cells.proofs.Cells.{shows}
 use Rattle.queue.proofs.Conditions.{refuses, admits, kept, wrote}
 use Rattle.queue.proofs.Checking.{Told, told-sound, told-unsound, found-is, found-at}
 use Rattle.queue.proofs.Stores.{record-fits}
@@ -64,16 +66,16 @@ answer c n e =
     let a = begin c in
     e ∙ ap (λ (found : Bool). showRefusal found (O a)) (found-is (S a) (K a) (cell-of c) (count-of c) (told c)) ∙ sym (on-sound (S a) _ (told c .queue))
 
-found : (c : tie.Else2) → peekAnswer (S (begin (c .before .before))) (K (begin (c .before .before))) (O (begin (c .before .before))) ≡ 0
+found : (c : tie.Then2) → peekAnswer (S (begin (c .before .before))) (K (begin (c .before .before))) (O (begin (c .before .before))) ≡ 0
 found c =
     let t = c .before .before in
-    sym (answer t 0 (admits (eqb (length (O (begin t))) 104) 2 0 _ (eq-eqb _ _ (c .before .if1 .left)) (admits (hit t) 10 0 0 (not-false _ (c .if2 .left)) refl)))
+    sym (answer t 0 (admits (eqb (length (O (begin t))) 104) 2 0 _ (eq-eqb _ _ (c .before .if1 .left)) (admits (hit t) 10 0 0 (c .if2 .taken) refl)))
 
-at-cell : (c : tie.Else2) → cell-of (c .before .before) ≡ cellOf (S (begin (c .before .before))) (K (begin (c .before .before)))
+at-cell : (c : tie.Then2) → cell-of (c .before .before) ≡ cellOf (S (begin (c .before .before))) (K (begin (c .before .before)))
 at-cell c =
     let t = c .before .before in
     let k = K (begin t) in
-    found-at (S (begin t)) k (cell-of t) (count-of t) (told t) (leb→le k (count-of t) (and-right (leb 1 k) (leb k (count-of t)) (holds (hit t) (not-false _ (c .if2 .left)))))
+    found-at (S (begin t)) k (cell-of t) (count-of t) (told t) (leb→le k (count-of t) (and-right (leb 1 k) (leb k (count-of t)) (holds (hit t) (c .if2 .taken))))
 
 check-requires : tie.Need-check-requires
 check-requires c κs = search needs
@@ -97,30 +99,32 @@ returns-2 c =
     let a = begin (c .before) in
     refused (S a) (K a) (O a) 2 (omega arith) (answer (c .before) 2 (refuses (eqb (length (O a)) 104) 2 _ (ne-eqb _ _ (c .if1 .taken))))
 
-returns-3 : tie.Need-returns-3
-returns-3 c =
-    let t = c .before .before in
-    let a = begin t in
-    refused (S a) (K a) (O a) 10 (omega arith)
-    (answer t 10 (admits (eqb (length (O a)) 104) 2 10 _ (eq-eqb _ _ (c .before .if1 .left)) (refuses (hit t) 10 0 (not-true _ (c .if2 .taken)))))
-
 show-requires : tie.Need-show-requires
-show-requires c κs =
-    let e = c .before in
-    let a = begin (e .before .before) in
-    let h = showing (S a) (K a) (O a) (found e) in
-    (subst (λ (i : ℕ). (i + 1) * 104 ≤ length (S a)) (sym (at-cell e)) (record-fits (S a) (h .queue) (K a) (h .found)), h .long)
+show-requires c κs = search needs
 
 same-length : tie.Need-same-length
 same-length c = search needs
 
-returns-4 : tie.Need-returns-4
+returns-3 : tie.Need-returns-3
 unfolding peekOutput
-returns-4 c =
+returns-3 c =
     let k = c .before .before in
     let e = k .before .before in
     let a = begin (e .before .before) in
-    (sym (found e), k .show .ensures ∙ ap (shown (S a)) (at-cell e) ∙ wrote _ _ _ (found e))
+    let h = showing (S a) (K a) (O a) (found e) in (
+      sym (found e),
+      k .show .ensures
+          ∙ ap (λ (i : ℕ). shownAt (S a) i (O a)) (at-cell e)
+          ∙ shows (S a) (O a) (cellOf (S a) (K a)) (record-fits (S a) (h .queue) (K a) (h .found)) (h .long)
+          ∙ wrote _ _ _ (found e),
+    )
+
+returns-4 : tie.Need-returns-4
+returns-4 c =
+    let t = c .before .before in
+    let a = begin t in
+    refused (S a) (K a) (O a) 10 (omega arith)
+    (answer t 10 (admits (eqb (length (O a)) 104) 2 10 _ (eq-eqb _ _ (c .before .if1 .left)) (refuses (hit t) 10 0 (c .if2 .left))))
 
 pub peek-spec : {M : Type 1} → statement M
 peek-spec =
@@ -131,7 +135,7 @@ peek-spec =
     refuse-requires
     returns
     returns-2
-    returns-3
     show-requires
     same-length
+    returns-3
     returns-4)

@@ -4,6 +4,7 @@ use borrow.Author.Needs.{needs}
 use mathlib.Core.Path.{sym, _∙_}
 use borrow.Author.Tests.{not-true, not-false}
 use Rattle.decoder.proofs.Sent.{sent-none, sent-some}
+use Rattle.decoder.proofs.FourRows.{near-same}
 use Rattle.decoder.proofs.Fitting.{fits-range, fits-check, fits-near}
 use Rattle.decoder.proofs.place.fits.Statement.{statement}
 use Rattle.decoder.proofs.place.fits.Tie as tie
@@ -30,7 +31,7 @@ near-requires : tie.Need-near-requires
 near-requires c κs = search needs
 
 returns-3 : tie.Need-returns-3
-returns-3 c = fits-near _ _ _ _ _ (sent-some _ _ _ (λ e. c .before .before .before .before .before .if1 .left (c .before .before .before .before .before .before .before .balancing-symbol .ensures ∙ e))) (sym (c .before .before .before .before .off-by-lack .ensures) ∙ not-false _ (c .before .before .before .if2 .left)) (c .near .ensures) (c .before .before .moved-first .ensures .1) (c .before .moved-second .ensures .1)
+returns-3 c = fits-near _ _ _ _ _ (sent-some _ _ _ (λ e. c .before .before .before .before .before .if1 .left (c .before .before .before .before .before .before .before .balancing-symbol .ensures ∙ e))) (sym (c .before .before .before .before .off-by-lack .ensures) ∙ not-false _ (c .before .before .before .if2 .left)) (c .near .ensures ∙ near-same _ (c .before .before .before .before .before .before .before .before .pre .0) _ _ (c .before .before .moved-first .ensures .0) (c .before .moved-second .ensures .0)) (c .before .before .moved-first .ensures .1) (c .before .moved-second .ensures .1)
 
 pub fits-spec : {M : Type 1} → statement M
 fits-spec =

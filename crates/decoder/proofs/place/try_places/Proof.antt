@@ -5,9 +5,10 @@ use mathlib.Core.Path.{_≡_, sym, _∙_}
 use mathlib.Core.Bool.{false}
 use Prim.Native.Nat.{ℕ, _+_, _-_, _*_, _≤_, _<_}
 use lib.ListN.{getD}
+use native.Mathlib.Omega.{arith}
 use borrow.Author.Count.{below-none, below-more}
 use Rattle.decoding.specs.Decoded.{fits}
-use Rattle.symbols.specs.Row.{parameters}
+use Rattle.profiles.specs.Row.{parameters}
 use Rattle.decoder.specs.Sides.{isFirst}
 use Rattle.decoder.specs.Totals.{sumsOf}
 use Rattle.decoder.proofs.Fitting.{first-found, none-found}
@@ -39,7 +40,9 @@ shared-slice-read-fits : tie.Need-shared-slice-read-fits Inv-loop μ-loop
 shared-slice-read-fits c = search needs
 
 fits-requires : tie.Need-fits-requires Inv-loop μ-loop
-fits-requires c κs = search needs
+fits-requires c κs =
+    let p = c .before .before .before .before .before .pre in
+    (p .0 .valid, p .1, p .2, p .3, p .4, omega (arith, c .before .before .loop .inv .0, p .0 .valid .length))
 
 returns : tie.Need-returns Inv-loop μ-loop
 returns c = first-found _ _ _ _ (c .before .before .before .before .before .before .before .pre .4) _ (c .before .before .before .loop-test .taken) (c .before .before .before .before .loop .inv .1) (sym (c .before .fits2 .ensures) ∙ c .if1 .taken)

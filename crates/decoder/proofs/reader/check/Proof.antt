@@ -1,78 +1,66 @@
--- `decoder::reader::check` meets its contract: the tests of the definition, in its order.
+-- `decoder::reader::check` meets its contract: the verdict, as an answer.
 -- Assumes nothing.
-use mathlib.Core.Path.{sym, _∙_}
-use native.Mathlib.Omega.{arith}
-use borrow.Author.Tests.{eq-eqb, ne-eqb, not-true, not-false}
-use Rattle.decoder.proofs.Answering.{verdict-far, verdict-clean, verdict-beta, verdict-alpha, verdict-neither}
 use borrow.Author.Needs.{needs}
+use mathlib.Core.Path.{sym, _∙_}
+use Rattle.syndromes.specs.declared.checks.Verdict.the-variants as told
+use Rattle.decoder.proofs.FourRows.{near-same}
+use Rattle.decoder.proofs.Answering.{judged-as}
 use Rattle.decoder.proofs.reader.check.Statement.{statement}
 use Rattle.decoder.proofs.reader.check.Tie as tie
 
-near-requires : tie.Need-near-requires
-near-requires c κs = search needs
+verdict-requires : tie.Need-verdict-requires
+verdict-requires c κs = search needs
+
+enum-told : tie.Need-enum-told
+enum-told c = search needs
+
+enum-told-2 : tie.Need-enum-told-2
+enum-told-2 c = search needs
+
+add-t9 : tie.Need-add-t9
+add-t9 c = search needs
+
+enum-told-3 : tie.Need-enum-told-3
+enum-told-3 c = search needs
+
+add-t10 : tie.Need-add-t10
+add-t10 c = search needs
+
+enum-told-4 : tie.Need-enum-told-4
+enum-told-4 c = search needs
 
 returns : tie.Need-returns
-returns c = verdict-far _ _ (sym (c .before .near .ensures) ∙ not-true _ (c .if1 .taken))
-
-array-read-if2 : tie.Need-array-read-if2
-array-read-if2 c = search needs
-
-array-read-if2-2 : tie.Need-array-read-if2-2
-array-read-if2-2 c = search needs
-
-array-read-if3 : tie.Need-array-read-if3
-array-read-if3 c = search needs
-
-array-read-if3-2 : tie.Need-array-read-if3-2
-array-read-if3-2 c = search needs
-
-add-t22 : tie.Need-add-t22
-add-t22 c = search needs
-
-array-read-t25 : tie.Need-array-read-t25
-array-read-t25 c = search needs
+returns c =
+    let p = c .before .before .before .before .before .before .before .pre in
+    judged-as _ _ (p .0 .balanced) (near-same _ (p .0) _ _ (p .1 .first-rows) (p .1 .second-rows)) told.Clean (sym (c .enum-told .given .1) ∙ c .before .before .verdict .ensures)
 
 returns-2 : tie.Need-returns-2
-returns-2 c = verdict-beta _ _ (sym (c .before .before .before .before .near .ensures) ∙ not-false _ (c .before .before .before .if1 .left)) (eq-eqb _ _ (c .before .before .if2 .taken)) (ne-eqb _ _ (c .before .if3 .taken)) (omega (arith, c .before .before .before .before .before .before .before .before .before .pre .0 .balanced))
+returns-2 c =
+    let p = c .before .before .before .before .before .before .before .before .pre in
+    judged-as _ _ (p .0 .balanced) (near-same _ (p .0) _ _ (p .1 .first-rows) (p .1 .second-rows)) told.Alpha (sym (c .before .enum-told2 .given .1) ∙ c .before .before .before .verdict .ensures)
 
 returns-3 : tie.Need-returns-3
-returns-3 c = verdict-clean _ _ (sym (c .before .before .before .near .ensures) ∙ not-false _ (c .before .before .if1 .left)) (eq-eqb _ _ (c .before .if2 .taken)) (eq-eqb _ _ (c .if3 .left))
-
-array-read-if4 : tie.Need-array-read-if4
-array-read-if4 c = search needs
-
-array-read-if4-2 : tie.Need-array-read-if4-2
-array-read-if4-2 c = search needs
-
-add-t30 : tie.Need-add-t30
-add-t30 c = search needs
-
-array-read-t33 : tie.Need-array-read-t33
-array-read-t33 c = search needs
+returns-3 c =
+    let p = c .before .before .before .before .before .before .before .before .pre in
+    judged-as _ _ (p .0 .balanced) (near-same _ (p .0) _ _ (p .1 .first-rows) (p .1 .second-rows)) told.Beta (sym (c .before .enum-told3 .given .1) ∙ c .before .before .before .verdict .ensures)
 
 returns-4 : tie.Need-returns-4
-returns-4 c = verdict-alpha _ _ (sym (c .before .before .before .before .near .ensures) ∙ not-false _ (c .before .before .before .if1 .left)) (ne-eqb _ _ (c .before .before .if2 .left)) (eq-eqb _ _ (c .before .if4 .taken)) (omega (arith, c .before .before .before .before .before .before .before .before .before .pre .0 .balanced))
-
-returns-5 : tie.Need-returns-5
-returns-5 c = verdict-neither _ _ (sym (c .before .before .before .near .ensures) ∙ not-false _ (c .before .before .if1 .left)) (ne-eqb _ _ (c .before .if2 .left)) (ne-eqb _ _ (c .if4 .left))
+returns-4 c =
+    let p = c .before .before .before .before .before .before .before .pre in
+    judged-as _ _ (p .0 .balanced) (near-same _ (p .0) _ _ (p .1 .first-rows) (p .1 .second-rows)) told.Unreadable (sym (c .enum-told4 .given .1) ∙ c .before .before .verdict .ensures)
 
 pub check-spec : {M : Type 1} → statement M
 check-spec =
     tie.close
     (tie.spec
-    near-requires
+    verdict-requires
+    enum-told
+    enum-told-2
+    add-t9
+    enum-told-3
+    add-t10
+    enum-told-4
     returns
-    array-read-if2
-    array-read-if2-2
-    array-read-if3
-    array-read-if3-2
-    add-t22
-    array-read-t25
     returns-2
     returns-3
-    array-read-if4
-    array-read-if4-2
-    add-t30
-    array-read-t33
-    returns-4
-    returns-5)
+    returns-4)

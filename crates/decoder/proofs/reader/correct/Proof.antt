@@ -5,7 +5,7 @@ use mathlib.Core.Path.{refl}
 use mathlib.Core.Bool.{true, false}
 use native.Mathlib.Omega.{arith}
 use Rattle.decoder.proofs.Answering.{answers-read, written-of}
-use Rattle.decoder.proofs.Finding.{parts-of, place-index, place-small, place-copy, place-body, place-near, place-read}
+use Rattle.decoder.proofs.Finding.{place-index, place-small, place-level, place-near, place-read}
 use Rattle.decoder.proofs.reader.correct.Statement.{statement}
 use Rattle.decoder.proofs.reader.correct.Tie as tie
 
@@ -19,35 +19,28 @@ shared-slice-read-balancing-symbol : tie.Need-shared-slice-read-balancing-symbol
 shared-slice-read-balancing-symbol c = let s = c .before .before .before .before in omega (arith, place-index (s .pre .0) (s .args .s) (s .pre .4) (s .pre .5), s .pre .0 .long, s .pre .0 .valid .balanced)
 
 balancing-symbol-requires : tie.Need-balancing-symbol-requires
-balancing-symbol-requires c κs = let s = c .before .before .before .before in (s .pre .0 .valid, s .pre .2)
+balancing-symbol-requires c κs = (c .before .before .before .before .pre .0 .valid, c .before .before .before .before .pre .2)
 
-copy-body-requires : tie.Need-copy-body-requires
-copy-body-requires c κs = let w = c .before .before .before .before .before .before .pre .0 in (omega (arith, w .long, w .valid .balanced), omega (arith, w .valid .balanced, w .valid .length), refl)
-
-array-write-w : tie.Need-array-write-w
-array-write-w c = let s = c .before .before .before .before .before .before .before in omega (arith, place-index (s .pre .0) (s .args .s) (s .pre .4) (s .pre .5), s .pre .0 .valid .balanced, s .pre .0 .valid .length)
-
-difference-body-requires : tie.Need-difference-body-requires
-difference-body-requires c κs =
-    let s = c .before .before .before .before .before .before .before .before .before in
-    let e = c .before .before .copy-body .ensures in
-    (place-body (s .pre .0) (s .args .s) (s .pre .4) (s .pre .5) (c .before .before .before .before .balancing-symbol .ensures) _ (e .0) (e .1), refl)
+corrected-body-requires : tie.Need-corrected-body-requires
+corrected-body-requires c κs =
+    let s = c .before .before .before .before .before .before in
+    (s .pre .0, place-index (s .pre .0) (s .args .s) (s .pre .4) (s .pre .5), place-level (s .pre .0) (s .args .s) (s .pre .4) (s .pre .5) (c .before .balancing-symbol .ensures), refl)
 
 moved-first-requires : tie.Need-moved-first-requires
-moved-first-requires c κs = let s = c .before .before .before .before .before .before .before .before .before .before in (s .pre .0 .valid, s .pre .1, s .pre .2, s .pre .3, place-small (s .pre .0) (s .args .s) (s .pre .4) (s .pre .5))
+moved-first-requires c κs = let s = c .before .before .before .before .before .before .before in (s .pre .0 .valid, s .pre .1, s .pre .2, s .pre .3, place-small (s .pre .0) (s .args .s) (s .pre .4) (s .pre .5))
 
 moved-second-requires : tie.Need-moved-second-requires
-moved-second-requires c κs = let s = c .before .before .before .before .before .before .before .before .before .before .before in (s .pre .0 .valid, s .pre .1, s .pre .2, s .pre .3, place-small (s .pre .0) (s .args .s) (s .pre .4) (s .pre .5))
+moved-second-requires c κs = let s = c .before .before .before .before .before .before .before .before in (s .pre .0 .valid, s .pre .1, s .pre .2, s .pre .3, place-small (s .pre .0) (s .args .s) (s .pre .4) (s .pre .5))
 
 write-pair-requires : tie.Need-write-pair-requires
 write-pair-requires c κs =
-    let s = c .before .before .before .before .before .before .before .before .before .before .before .before .before .before .before in
+    let s = c .before .before .before .before .before .before .before .before .before .before .before .before in
     let f = c .before .before .before .before .moved-first .ensures in
     let g = c .before .before .before .moved-second .ensures in
-    (c .before .before .before .before .before .difference-body .ensures .0, f .0, g .0, place-near (s .pre .0) (s .args .s) (s .pre .4) (s .pre .5) _ _ (f .1) (g .1), record { first-long = s .pre .6 .first-long; second-long = s .pre .6 .second-long })
+    (c .before .before .before .before .before .corrected-body .ensures .levels, f .0, g .0, place-near (s .pre .0) (s .args .s) (s .pre .4) (s .pre .5) _ _ (f .1) (g .1), record { first-long = s .pre .6 .first-long; second-long = s .pre .6 .second-long })
 
-add-t17 : tie.Need-add-t17
-add-t17 c = let s = c .before .before .before .before .before .before .before .before .before .before .before .before .before .before .before .before .before .before .before .before in omega (arith, place-small (s .pre .0) (s .args .s) (s .pre .4) (s .pre .5), s .pre .4)
+add-t16 : tie.Need-add-t16
+add-t16 c = let s = c .before .before .before .before .before .before .before .before .before .before .before .before .before .before .before .before .before in omega (arith, place-small (s .pre .0) (s .args .s) (s .pre .4) (s .pre .5), s .pre .4)
 
 same-length : tie.Need-same-length
 same-length c = search needs
@@ -57,11 +50,9 @@ same-length-2 c = search needs
 
 returns : tie.Need-returns
 returns c =
-    let s = c .before .before .before .before .before .before .before .before .before .before .before .before .before .before .before .before .before .before .before .before in
-    let y = c .before .before .before .before .before .before .before .before .before .before .before .before .before .before .before .balancing-symbol .ensures in
-    let e = place-copy (s .pre .0) (s .args .s) (s .pre .4) (s .pre .5) y _ (c .before .before .before .before .before .before .before .before .before .before .before .before .before .copy-body .ensures .1) in
-    let p = parts-of (s .pre .0 .valid) _ _ _ e (c .before .before .before .before .before .before .before .before .before .before .difference-body .ensures .1) in
-    answers-read _ _ (place-read (s .pre .0) (s .args .s) (s .pre .4) (s .pre .5) _ _ (c .before .before .before .before .before .before .before .before .before .moved-first .ensures .1) (c .before .before .before .before .before .before .before .before .moved-second .ensures .1) y)
+    let s = c .before .before .before .before .before .before .before .before .before .before .before .before .before .before .before .before .before in
+    let p = c .before .before .before .before .before .before .before .before .before .before .corrected-body .ensures .parts in
+    answers-read _ _ (place-read (s .pre .0) (s .args .s) (s .pre .4) (s .pre .5) _ _ (c .before .before .before .before .before .before .before .before .before .moved-first .ensures .1) (c .before .before .before .before .before .before .before .before .moved-second .ensures .1) (c .before .before .before .before .before .before .before .before .before .before .before .before .balancing-symbol .ensures))
     (written-of (p true) (p false) (c .before .before .before .before .write-pair .ensures)) refl
 
 pub correct-spec : {M : Type 1} → statement M
@@ -72,13 +63,11 @@ correct-spec =
     add-i
     shared-slice-read-balancing-symbol
     balancing-symbol-requires
-    copy-body-requires
-    array-write-w
-    difference-body-requires
+    corrected-body-requires
     moved-first-requires
     moved-second-requires
     write-pair-requires
-    add-t17
+    add-t16
     same-length
     same-length-2
     returns)

@@ -6,14 +6,14 @@ use Rattle.decoder.proofs.Admitting.{call-refused}
 use Rattle.decoder.proofs.reader.decode.Statement.{statement}
 use Rattle.decoder.proofs.reader.decode.Tie as tie
 
-refusal-requires : tie.Need-refusal-requires
-refusal-requires c κs = search needs
+decode-refusal-requires : tie.Need-decode-refusal-requires
+decode-refusal-requires c κs = search needs
 
 returns : tie.Need-returns
-returns c = call-refused _ _ _ _ _ _ (c .before .refusal .ensures) (c .if1 .taken)
+returns c = call-refused _ _ _ _ _ _ (c .before .decode-refusal .ensures) (c .if1 .taken)
 
 decode-word-requires : tie.Need-decode-word-requires
-decode-word-requires c κs = sym (c .before .before .before .refusal .ensures) ∙ c .before .before .if1 .left
+decode-word-requires c κs = sym (c .before .before .before .decode-refusal .ensures) ∙ c .before .before .if1 .left
 
 same-length : tie.Need-same-length
 same-length c = search needs
@@ -27,4 +27,4 @@ returns-2 c = c .before .before .before .before .decode-word .ensures
 pub decode-spec : {M : Type 1} → statement M
 decode-spec =
     tie.close
-    (tie.spec refusal-requires returns decode-word-requires same-length same-length-2 returns-2)
+    (tie.spec decode-refusal-requires returns decode-word-requires same-length same-length-2 returns-2)

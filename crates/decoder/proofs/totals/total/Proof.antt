@@ -3,7 +3,6 @@
 use borrow.Author.Needs.{needs}
 use mathlib.Core.Path.{_≡_, refl}
 use mathlib.Core.Bool.{true, false}
-use mathlib.Core.List.{[], _∷_}
 use Prim.Native.Nat.{_+_}
 use native.Mathlib.Omega.{arith}
 use denote.Ref.{now}
@@ -11,9 +10,9 @@ use lib.ListN.{getD}
 use Rattle.code.specs.Codeword.{body}
 use Rattle.code.proofs.Columns.{q-positive}
 use Rattle.decoding.specs.Decoded.{checkSymbol}
-use Rattle.symbols.specs.Row.{parameters}
+use Rattle.profiles.specs.Row.{parameters}
 use Rattle.decoder.specs.declared.totals.Totals.{Totals}
-use Rattle.decoder.proofs.Totalling.{middle-small, weight-is, weight-light, alpha-is, beta-is, rows-of-part, totals-are, totalled, each-side}
+use Rattle.decoder.proofs.Totalling.{middle-small, weight-is, weight-light, alpha-is, beta-is, rows-of-part, totals-are, totalled, each-check}
 use Rattle.decoder.proofs.totals.total.Statement.{statement}
 use Rattle.decoder.proofs.totals.total.Tie as tie
 
@@ -67,14 +66,14 @@ returns c =
     record {
       weight = k .result .odd + k .result .even;
       lack = c .difference .result;
-      asked = c .before .before .before .before .before .before .before .remainder .result ∷ c .before .before .before .before .before .before .remainder2 .result ∷ [];
-      arrived = getD u m 0 ∷ getD u (m + 1) 0 ∷ [];
+      asked = record { alpha = c .before .before .before .before .before .before .before .remainder .result; beta = c .before .before .before .before .before .before .remainder2 .result };
+      arrived = record { alpha = getD u m 0; beta = getD u (m + 1) 0 };
       first = y .result .first;
       second = y .result .second;
     } in
     let e = weight-is a (k .ensures .0) (k .ensures .1) in
     let g =
-    each-side (λ b x. x ≡ checkSymbol (s₀ .args .row .q) b (body (parameters (s₀ .args .row)) u))
+    each-check (λ b x. x ≡ checkSymbol (s₀ .args .row .q) b (body (parameters (s₀ .args .row)) u)) (s .asked)
     (alpha-is a (k .ensures .0) (k .ensures .1) (c .before .before .before .before .before .before .before .before .before .wide .ensures .0) (c .before .before .before .before .before .before .before .remainder .ensures))
     (beta-is a (k .ensures .0) (k .ensures .1) (c .before .before .before .before .before .before .remainder2 .ensures)) in
     let f = rows-of-part a (s₀ .pre .1) true (y .ensures .0) in

@@ -1,36 +1,45 @@
 -- `encoder::writer::written_by` meets its contract: the steps are those of the definition.
 -- Assumes nothing.
-use mathlib.Core.Path.{_∙_}
 use borrow.Author.Needs.{needs}
+use lib.Dec.{T}
+use Rattle.code.specs.Parameters.{messageLength}
+use Rattle.code.specs.Component.{isWord}
+use Rattle.code.specs.Profiles.{isProfile, profile}
+use denote.Ref.{now}
 use Rattle.encoder.specs.Symbols.{Symbols}
 use Rattle.encoder.proofs.Integrating.{balanced-symbols}
-use Rattle.encoder.proofs.Pairing.{pair-symbols, pair-encoded}
+use Rattle.encoder.proofs.Pairing.{pair-symbols, pair-encoded, pair-length}
 use Rattle.encoder.proofs.writer.written_by.Statement.{statement}
 use Rattle.encoder.proofs.writer.written_by.Tie as tie
 
-components-requires : tie.Need-components-requires
-components-requires c κs = c .before .before .pre
-
 -- x holds symbols
-symbols : (c : tie.After-components) → Symbols (c .before .before .before .args .row .q) (c .before .before .before .args .row .balanced) (c .components .result)
-symbols c =
-    let a = c .before .before .before in
-    pair-symbols (a .args .row) (a .pre .0) _ _ _ (search needs) (a .pre .2) (a .pre .3) (c .components .ensures)
+module _ (c : tie.After-components) where
+  abbrev start : tie.Start
+  start = c .before .before .before
+
+  abbrev pair : T (isProfile (start .args .number)) × T (isWord (profile (start .args .number) .q) (messageLength (profile (start .args .number))) (now (start .args .first))) × T (isWord (profile (start .args .number) .q) (messageLength (profile (start .args .number))) (now (start .args .second)))
+  pair = (start .pre .1, start .pre .2, start .pre .3)
+
+  symbols : Symbols (start .args .row .q) (start .args .row .balanced) (c .components .result)
+  symbols = pair-symbols (start .pre .0) (now (start .args .first)) (now (start .args .second)) pair (c .components .ensures) (search needs)
+
+components-requires : tie.Need-components-requires
+components-requires c κs = search needs
 
 balanced-requires : tie.Need-balanced-requires
-balanced-requires c κs = (c .before .before .before .before .pre .0, symbols (c .before))
+balanced-requires c κs = (start (c .before) .pre .0 .valid, symbols (c .before))
 
 with-checks-requires : tie.Need-with-checks-requires
 with-checks-requires c κs =
-    let b = c .before in
-    (b .before .before .before .before .before .pre .0, balanced-symbols (symbols (b .before .before)) _ (search needs) (b .balanced .ensures))
+    let m = c .before .before .before in
+    (start m .pre .0 .valid, balanced-symbols (symbols m) _ (search needs) (c .before .balanced .ensures))
 
 returns : tie.Need-returns
 returns c =
-    let b = c .before .before in
-    let a = b .before .before .before .before .before in (
-      pair-encoded (a .args .row) (a .pre .0) _ _ _ (search needs) (a .pre .2) (a .pre .3) (b .before .before .components .ensures) (b .balanced .ensures) (c .with-checks .ensures .0),
-      c .with-checks .ensures .1 ∙ a .pre .0 .codeword,
+    let m = c .before .before .before .before in
+    let a = start m in (
+      pair-encoded (a .pre .0) (now (a .args .first)) (now (a .args .second)) (pair m) (m .components .ensures) (c .before .before .balanced .ensures) (c .with-checks .ensures .0),
+      pair-length (a .pre .0) (now (a .args .first)) (now (a .args .second)) (pair m) (m .components .ensures) (c .with-checks .ensures .1),
     )
 
 pub written-by-spec : {M : Type 1} → statement M

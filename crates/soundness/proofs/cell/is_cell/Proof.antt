@@ -3,10 +3,10 @@
 use mathlib.Core.Path.{_≡_, ap, subst, _∙_}
 use mathlib.Core.Bool.{true}
 use mathlib.Core.List.{List}
-use Prim.Native.Nat.{ℕ, _+_, _-_, _*_, _≤_, _<_}
+use Prim.Native.Nat.{ℕ, _+_, _*_, _≤_, _<_}
 use native.Mathlib.Omega.{arith}
 use lib.Dec.{leb}
-use lib.ListN.{length, drop, length-take, length-drop}
+use lib.ListN.{length}
 use denote.Ref.{now}
 use borrow.Author.Needs.{needs}
 use borrow.Author.Tests.{le-leb, lt-leb}
@@ -15,7 +15,8 @@ use Rattle.sheet.specs.Sound.{isBody, isCell, isRecord}
 use Rattle.sheet.specs.Lists.{allZero}
 use Rattle.sheet.proofs.Lists.{size-of}
 use Rattle.code.specs.Component.{symbolsBelow}
-use Rattle.soundness.proofs.Bytes.{zero-below, part}
+use Rattle.cells.proofs.Bytes.{part}
+use Rattle.soundness.proofs.Bytes.{zero-below}
 use Rattle.soundness.proofs.Conditions.{off, on}
 use Rattle.soundness.proofs.cell.is_cell.Statement.{statement}
 use Rattle.soundness.proofs.cell.is_cell.Tie as tie
@@ -45,32 +46,20 @@ mul-a c = omega (arith, fits c)
 add-a : tie.Need-add-a
 add-a c = omega (arith, fits c)
 
-add-e : tie.Need-add-e
-add-e c = omega (arith, fits c)
+add-body : tie.Need-add-body
+add-body c = omega (arith, fits c)
 
-sub-is-record : tie.Need-sub-is-record
-sub-is-record c = search needs
+sub-body : tie.Need-sub-body
+sub-body c = search needs
 
-part-is-record-start : tie.Need-part-is-record-start
-part-is-record-start c = search needs
+part-body-start : tie.Need-part-body-start
+part-body-start c = search needs
 
-part-is-record-end : tie.Need-part-is-record-end
-part-is-record-end c = fits (c .before)
+part-body-end : tie.Need-part-body-end
+part-body-end c = fits c
 
 is-record-requires : tie.Need-is-record-requires
-is-record-requires c κs =
-    let s = Q (c .before .before .before) in
-    let a = c .before .before .before .before .before .args .cell * 104 + 1 in
-    omega (arith, length-take (a + 103 - a) (drop a s), length-drop a s, fits (c .before .before))
-
-sub-symbols-below : tie.Need-sub-symbols-below
-sub-symbols-below c = search needs
-
-part-symbols-below-start : tie.Need-part-symbols-below-start
-part-symbols-below-start c = search needs
-
-part-symbols-below-end : tie.Need-part-symbols-below-end
-part-symbols-below-end c = fits (c .before)
+is-record-requires c κs = omega (arith, c .before .body .given .2)
 
 symbols-below-requires : tie.Need-symbols-below-requires
 symbols-below-requires c κs = search needs
@@ -81,7 +70,7 @@ returns-2 c =
     let e = c .before .before .before in
     let a = e .before .before .before .args in
     let r : c .is-record .result ≡ isRecord (body (now (a .queue)) (a .cell)) = c .is-record .ensures ∙ ap isRecord (part (now (a .queue)) (a .cell * 104 + 1) 103) in
-    rw (c .before .before .if2 .taken) (on (leb (a .cell) (capacity (now (a .queue)))) (isRecord (body (now (a .queue)) (a .cell))) (c .is-record .result) (in-queue e) r)
+    rw (c .before .if2 .taken) (on (leb (a .cell) (capacity (now (a .queue)))) (isRecord (body (now (a .queue)) (a .cell))) (c .is-record .result) (in-queue e) r)
 
 returns-3 : tie.Need-returns-3
 unfolding isCell
@@ -89,7 +78,7 @@ returns-3 c =
     let e = c .before .before .before in
     let a = e .before .before .before .args in
     let r : c .symbols-below .result ≡ allZero (body (now (a .queue)) (a .cell)) = c .symbols-below .ensures ∙ ap (symbolsBelow 1) (part (now (a .queue)) (a .cell * 104 + 1) 103) ∙ zero-below (body (now (a .queue)) (a .cell)) in
-    rw (c .before .before .if2 .left) (on (leb (a .cell) (capacity (now (a .queue)))) (allZero (body (now (a .queue)) (a .cell))) (c .symbols-below .result) (in-queue e) r)
+    rw (c .before .if2 .left) (on (leb (a .cell) (capacity (now (a .queue)))) (allZero (body (now (a .queue)) (a .cell))) (c .symbols-below .result) (in-queue e) r)
 
 pub is-cell-spec : {M : Type 1} → statement M
 is-cell-spec =
@@ -99,14 +88,11 @@ is-cell-spec =
     returns
     mul-a
     add-a
-    add-e
-    sub-is-record
-    part-is-record-start
-    part-is-record-end
+    add-body
+    sub-body
+    part-body-start
+    part-body-end
     is-record-requires
-    sub-symbols-below
-    part-symbols-below-start
-    part-symbols-below-end
     symbols-below-requires
     returns-2
     returns-3)

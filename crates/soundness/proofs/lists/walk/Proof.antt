@@ -2,7 +2,7 @@
 -- Assumes nothing.
 use mathlib.Core.Path.{_≡_, refl, sym, _∙_}
 use mathlib.Core.Bool.{true}
-use Prim.Native.Nat.{_≤_}
+use Prim.Native.Nat.{_*_, _≤_}
 use native.Mathlib.Omega.{arith}
 use denote.Ref.{now}
 use borrow.Author.Needs.{needs}
@@ -91,26 +91,26 @@ go-on-requires c κs = search needs
 mul-at : tie.Need-mul-at Inv-loop μ-loop
 mul-at c = omega (arith, cell-in (c .before .before))
 
-shared-slice-read-wide : tie.Need-shared-slice-read-wide Inv-loop μ-loop
-shared-slice-read-wide c = omega (arith, cell-in (c .before .before .before), size (in-loop (c .before .before .before)) .long)
+shared-slice-read-cell : tie.Need-shared-slice-read-cell Inv-loop μ-loop
+shared-slice-read-cell c = omega (arith, cell-in (c .before .before .before), size (in-loop (c .before .before .before)) .long)
 
-wide-requires : tie.Need-wide-requires Inv-loop μ-loop
-wide-requires c κs = search needs
+cast-cell : tie.Need-cast-cell Inv-loop μ-loop
+cast-cell c = omega (arith, c .shared-slice-known2 .given (in-loop (c .before .before .before) .before .loop .cell * 104))
 
 sub-left : tie.Need-sub-left Inv-loop μ-loop
-sub-left c = omega (arith, c .before .before .before .before .before .before .if1 .left)
+sub-left c = omega (arith, c .before .before .before .before .before .if1 .left)
 
 loop-less : tie.Need-loop-less Inv-loop μ-loop
-loop-less c = omega (arith, c .before .before .before .before .before .before .if1 .left)
+loop-less c = omega (arith, c .before .before .before .before .before .if1 .left)
 
 loop-again : tie.Need-loop-again Inv-loop μ-loop
 loop-again c =
-    let e = c .before .before .before .before in
+    let e = c .before .before .before in
     let m = in-loop e in
     let l = m .before .loop in
     let a = start m .args in
     walk-on (now (a .queue)) (a .used) (a .first) (a .number) (now (a .seen)) (l .seen) (l .left) (l .cell) (l .reached) (l .met) (l .inv) (e .before .before .if1 .left) (m .loop-test .taken)
-    (good e) (c .wide .result) (c .before .before .go-on .result) (c .wide .ensures) (c .before .before .go-on .ensures)
+    (good e) _ (c .before .go-on .result) refl (c .before .go-on .ensures)
 
 returns-3 : tie.Need-returns-3 Inv-loop μ-loop
 returns-3 c =
@@ -136,8 +136,8 @@ walk-spec =
     add-met
     go-on-requires
     mul-at
-    shared-slice-read-wide
-    wide-requires
+    shared-slice-read-cell
+    cast-cell
     sub-left
     loop-less
     loop-again

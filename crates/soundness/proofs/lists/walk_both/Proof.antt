@@ -1,6 +1,6 @@
 -- `walk_both` meets its contract: each list, then cell 0 and the table that both lists have filled.
 -- Assumes nothing.
-use mathlib.Core.Path.{ap, _∙_}
+use mathlib.Core.Path.{refl, ap, _∙_}
 use mathlib.Core.Bool.{true}
 use Prim.Native.Nat.{suc, _≤_}
 use native.Mathlib.Omega.{arith}
@@ -10,7 +10,7 @@ use denote.Ref.{now}
 use borrow.Author.Tests.{not-true, not-false}
 use Rattle.modular.specs.Search.{allBelow}
 use Rattle.code.specs.Component.{symbolsBelow}
-use Rattle.sheet.specs.Layout.{body}
+use Rattle.sheet.specs.Layout.{next, firstFree, body}
 use Rattle.sheet.proofs.Lists.{size-of}
 use Rattle.soundness.specs.Walked.{Walks}
 use Rattle.soundness.proofs.Bytes.{zero-below, spare-part}
@@ -24,42 +24,44 @@ long : (c : tie.Start) → 208 ≤ length (now (c .args .queue))
 long c = let z = size-of (now (c .args .queue)) (c .pre) in omega (arith, z .long, z .some)
 
 abbrev start : tie.After-walk → tie.Start
-start c = c .before .before .before .before .before
+start c = c .before .before .before .before
 
-walked : (c : tie.After-walk) → Walks (now (start c .args .queue)) true (c .before .before .wide .result) (start c .args .number) noneSeen (c .walk .last .1 .1 .1 .1 .0) (c .walk .result)
+walked : (c : tie.After-walk) → Walks (now (start c .args .queue)) true (next (now (start c .args .queue)) 0) (start c .args .number) noneSeen (c .walk .last .1 .1 .1 .1 .0) (c .walk .result)
 unfolding noneSeen
 walked c = c .walk .ensures
 
-shared-slice-read-wide : tie.Need-shared-slice-read-wide
-shared-slice-read-wide c = omega (arith, long (c .before .before))
+shared-slice-read-walk : tie.Need-shared-slice-read-walk
+shared-slice-read-walk c = omega (arith, long (c .before .before))
 
-wide-requires : tie.Need-wide-requires
-wide-requires c κs = search needs
+cast-walk : tie.Need-cast-walk
+cast-walk c = omega (arith, c .shared-slice-known2 .given 0)
 
 walk-requires : tie.Need-walk-requires
 unfolding noneSeen
-walk-requires c κs = (c .before .before .before .before .pre, none-seen)
+walk-requires c κs = (c .before .before .before .pre, none-seen)
 
 returns : tie.Need-returns
 returns c =
     let w = c .before .before in
     let a = start w .args in
-    unsound (now (a .queue)) (a .number) (w .before .before .wide .result) (w .walk .last .1 .1 .1 .1 .0) (w .walk .result) (start w .pre) (w .before .before .wide .ensures) (walked w)
+    let s = now (a .queue) in
+    unsound s (a .number) (next s 0) (w .walk .last .1 .1 .1 .1 .0) (w .walk .result) (start w .pre) refl (walked w)
     (not-true _ (c .if1 .taken))
 
-shared-slice-read-wide-2 : tie.Need-shared-slice-read-wide-2
-shared-slice-read-wide-2 c = omega (arith, long (start (c .before .before .before)))
+shared-slice-read-walk-2 : tie.Need-shared-slice-read-walk-2
+shared-slice-read-walk-2 c = omega (arith, long (start (c .before .before .before)))
 
-wide-requires-2 : tie.Need-wide-requires-2
-wide-requires-2 c κs = search needs
+cast-walk-2 : tie.Need-cast-walk-2
+cast-walk-2 c = omega (arith, c .shared-slice-known3 .given 1)
 
 walk-requires-2 : tie.Need-walk-requires-2
 walk-requires-2 c κs =
-    let e = c .before .before .before in
+    let e = c .before .before in
     let w = e .before .before in
-    let a = start w .args in (
+    let a = start w .args in
+    let s = now (a .queue) in (
       start w .pre,
-      few-after (now (a .queue)) (a .number) (w .before .before .wide .result) (w .walk .last .1 .1 .1 .1 .0) (w .walk .result) (start w .pre) (w .before .before .wide .ensures) (walked w)
+      few-after s (a .number) (next s 0) (w .walk .last .1 .1 .1 .1 .0) (w .walk .result) (start w .pre) refl (walked w)
           (not-false _ (e .if1 .left)),
     )
 
@@ -70,7 +72,7 @@ part-symbols-below-start : tie.Need-part-symbols-below-start
 part-symbols-below-start c = search needs
 
 part-symbols-below-end : tie.Need-part-symbols-below-end
-part-symbols-below-end c = omega (arith, long (start (c .before .before .before .before .before .before)))
+part-symbols-below-end c = omega (arith, long (start (c .before .before .before .before .before)))
 
 symbols-below-requires : tie.Need-symbols-below-requires
 symbols-below-requires c κs = search needs
@@ -80,7 +82,7 @@ capacity-requires c κs = search needs
 
 each-once-requires : tie.Need-each-once-requires
 each-once-requires c κs =
-    let w = c .before .before .before .before .before .before .before .before .before .before in
+    let w = c .before .before .before .before .before .before .before .before .before in
     omega (arith, c .capacity .ensures, size-of (now (start w .args .queue)) (start w .pre) .few)
 
 returns-2 : tie.Need-returns-2
@@ -88,13 +90,13 @@ returns-2 c =
     let o = c .before in
     let b = o .before .before .before in
     let f = b .before .before in
-    let e = f .before .before .before .before in
+    let e = f .before .before .before in
     let w = e .before .before in
     let a = start w .args in
     let s = now (a .queue) in
     let t = f .walk2 .last .1 .1 .1 .1 .0 in
-    checks s (a .number) (w .before .before .wide .result) (w .walk .last .1 .1 .1 .1 .0) (w .walk .result) (start w .pre) (w .before .before .wide .ensures) (walked w) (not-false _ (e .if1 .left))
-    (f .before .before .wide2 .result) t (f .walk2 .result) (b .symbols-below .result) (o .each-once .result) (f .before .before .wide2 .ensures) (f .walk2 .ensures)
+    checks s (a .number) (next s 0) (w .walk .last .1 .1 .1 .1 .0) (w .walk .result) (start w .pre) refl (walked w) (not-false _ (e .if1 .left))
+    (firstFree s) t (f .walk2 .result) (b .symbols-below .result) (o .each-once .result) refl (f .walk2 .ensures)
     (b .symbols-below .ensures ∙ ap (symbolsBelow 1) (spare-part s) ∙ zero-below (drop 1 (body s 0)))
     (o .each-once .ensures ∙ ap (allBelow (λ i. eqb (getD t (suc i) 0) 1)) (o .before .capacity .ensures))
 
@@ -102,12 +104,12 @@ pub walk-both-spec : {M : Type 1} → statement M
 walk-both-spec =
     tie.close
     (tie.spec
-    shared-slice-read-wide
-    wide-requires
+    shared-slice-read-walk
+    cast-walk
     walk-requires
     returns
-    shared-slice-read-wide-2
-    wide-requires-2
+    shared-slice-read-walk-2
+    cast-walk-2
     walk-requires-2
     sub-symbols-below
     part-symbols-below-start

@@ -1,0 +1,57 @@
+-- Parts of slices as they are lent, and one turn of each loop over a slice.
+-- Assumes nothing.
+use mathlib.Core.Path.{_≡_, refl, sym, ap, ap₂, _∙_}
+use mathlib.Core.Logic.{⊎-elim}
+use mathlib.Core.Bool.{Bool, false, _&&_}
+use mathlib.Core.List.{List, [], _∷_, _++_, append-nil}
+use Prim.Native.Nat.{ℕ, zero, suc, _+_, _-_, _≤_, _<_}
+use native.Mathlib.Nat.{not-suc-le-zero, le-of-suc-le-suc}
+use native.Mathlib.Numerals.{add-one}
+use native.Mathlib.Omega.{arith}
+use lib.Dec.{ltb}
+use lib.ListN.{length, getD, take, drop, set, replicate, drop-of-length-le}
+use lib.Seq.{take-all, drop-length}
+use borrow.Author.Tests.{ltb-false, lt-ltb}
+use Rattle.modular.proofs.Search.{le-or-lt}
+use Rattle.sheet.specs.Lists.{zeros}
+use Rattle.cells.specs.Bytes.{copied}
+
+-- a part of n bytes from a on, as a range lends it
+pub part : (s : List ℕ) (a n : ℕ) → take (a + n - a) (drop a s) ≡ take n (drop a s)
+part s a n = let e : a + n - a ≡ n = omega arith in ap (λ (k : ℕ). take k (drop a s)) e
+
+-- a copy of the first i bytes goes on
+copy-here : (from to : List ℕ) (i : ℕ) → i < length from → i < length to → set (take i from ++ drop i to) i (getD from i 0) ≡ take (suc i) from ++ drop (suc i) to
+copy-here [] to i h k = absurd (not-suc-le-zero h)
+copy-here (x ∷ from) [] i h k = absurd (not-suc-le-zero k)
+copy-here (x ∷ from) (y ∷ to) zero h k = refl
+copy-here (x ∷ from) (y ∷ to) (suc i) h k = ap (λ (l : List ℕ). x ∷ l) (copy-here from to i (le-of-suc-le-suc h) (le-of-suc-le-suc k))
+
+pub copy-more : (from to : List ℕ) (i : ℕ) → i < length from → i < length to
+    → set (take i from ++ drop i to) i (getD from i 0) ≡ take (i + 1) from ++ drop (i + 1) to
+copy-more from to i h k = rw (add-one i) (copy-here from to i h k)
+
+-- and is over where either ends
+pub copy-over : (from to : List ℕ) (i : ℕ) → i ≤ length from → i ≤ length to → (ltb i (length to) && ltb i (length from)) ≡ false
+    → take i from ++ drop i to ≡ copied to from
+unfolding copied
+copy-over from to i h k e =
+    ⊎-elim
+    (λ (l : length to ≤ i).
+    let n : i ≡ length to = omega arith in
+    ap₂ (λ (a b : List ℕ). a ++ b) (ap (λ (m : ℕ). take m from) n) (drop-of-length-le to l ∙ sym (let m : length to ≤ length from = omega arith in drop-of-length-le to m)))
+    (λ (l : i < length to).
+    let g : length from ≤ i = ltb-false i (length from) (ap (λ (b : Bool). b && ltb i (length from)) (sym (lt-ltb i (length to) l)) ∙ e) in
+    let n : i ≡ length from = omega arith in
+    ap₂ (λ (a b : List ℕ). a ++ b) (take-all i from g ∙ sym (take-all (length to) from (omega arith))) (ap (λ (m : ℕ). drop m to) n))
+    (le-or-lt (length to) i)
+
+-- a copy over as many bytes
+pub copied-same : (to from : List ℕ) → length to ≡ length from → copied to from ≡ from
+unfolding copied
+copied-same to from e =
+    ap₂ (λ (a b : List ℕ). a ++ b) (take-all (length to) from (omega arith)) (let m : length to ≤ length from = omega arith in drop-of-length-le to m) ∙ append-nil from
+
+-- a fill of all bytes
+pub fill-all : (s : List ℕ) (i : ℕ) → i ≡ length s → replicate i 0 ++ drop i s ≡ zeros (length s)
+fill-all s i e = rw (e, drop-length s, append-nil (zeros (length s)))

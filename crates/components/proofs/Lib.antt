@@ -1,0 +1,12 @@
+-- Symbols mod q
+pub mod Bytes
+-- The messages and the check symbols in one array
+pub mod Interleaving
+pub mod Placing
+pub mod Setting
+-- The components
+pub mod Solve
+pub mod Residues
+pub mod Pairing
+-- The tests
+pub mod Lengths

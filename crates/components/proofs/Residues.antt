@@ -1,0 +1,155 @@
+-- The check symbols that make up for the row sums of a placed message give its component, whatever its symbols are: the candidates of a message are
+-- in code where those of its residues mod q are, so both have the same check symbols.
+-- Assumes nothing.
+use mathlib.Core.Path.{_≡_, refl, sym, ap, _∙_, fun-ext}
+use mathlib.Core.Bool.{Bool, true, false}
+use mathlib.Core.List.{List, [], _∷_}
+use Prim.Native.Nat.{ℕ, zero, suc, _-_, _*_, _%_, _^_, _≤_, _<_}
+use native.Mathlib.Nat.{zero-mod, mod-lt, le-refl, le-of-suc-le}
+use native.Mathlib.Omega.{arith}
+use lib.Dec.{T, eqb}
+use lib.ListN.{length, getD, set, length-set}
+use lib.Seq.{getD-set-other, ext-getD}
+use Rattle.modular.specs.Search.{allBelow, least}
+use Rattle.modular.specs.Sum.{dot}
+use Rattle.modular.specs.Digits.{digits}
+use Rattle.modular.specs.Residue.{Congruent}
+use Rattle.modular.proofs.Sum.{dot-agree}
+use Rattle.modular.proofs.Residue.{of-eq, symm, _then_, scale, reduce}
+use Rattle.code.specs.Parameters.{Parameters, Sized, messageLength}
+use Rattle.code.specs.Component.{symbolsBelow, isWord, checkRow, syndrome, inCode, merge, candidate, component}
+use Rattle.code.proofs.Symbols.{symbols-below}
+use Rattle.code.proofs.Columns.{q-positive}
+use Rattle.code.proofs.Merge.{cases, opposite, word-of, count, length-merge}
+use Rattle.code.proofs.Reduced.{check, place, place-check}
+use Rattle.code.proofs.Pair.{length-component}
+use Rattle.components.specs.Checks.{checkPosition, checked, Solves}
+use Rattle.components.proofs.Placing.{merge-check, merge-message}
+use Rattle.components.proofs.Solve.{bare, at-place, solved}
+
+-- The symbols mod q.
+
+abbrev residues : ℕ → List ℕ → List ℕ
+residues q [] = []
+residues q (x ∷ l) = x % q ∷ residues q l
+
+length-residues : (q : ℕ) (l : List ℕ) → length (residues q l) ≡ length l
+length-residues q [] = refl
+length-residues q (x ∷ l) = ap suc (length-residues q l)
+
+residue-at : (q : ℕ) (l : List ℕ) (i : ℕ) → getD (residues q l) i 0 ≡ getD l i 0 % q
+residue-at q [] i = sym (zero-mod q)
+residue-at q (x ∷ l) zero = refl
+residue-at q (x ∷ l) (suc i) = residue-at q l i
+
+residues-below : (q : ℕ) (l : List ℕ) → 1 ≤ q → T (symbolsBelow q (residues q l))
+residues-below q l h = symbols-below q (residues q l) (λ i b. rw (residue-at q l i) (mod-lt (getD l i 0) h))
+
+-- merged with the same check symbols, a message and its residues have the same sums mod q
+module _ (q : ℕ) (t : ℕ → Bool) (n : ℕ) (e a : List ℕ) where
+  merge-agrees : (f : ℕ → ℕ) → Congruent q (dot f (merge t n e a)) (dot f (merge t n e (residues q a)))
+  merge-agrees f =
+      dot-agree f (merge t n e a) (merge t n e (residues q a)) (length-merge t n e a ∙ sym (length-merge t n e (residues q a)))
+      (λ j l. term j (rw (length-merge t n e a) at l))
+    where
+      term : (j : ℕ) → j < n → Congruent q (f j * getD (merge t n e a) j 0) (f j * getD (merge t n e (residues q a)) j 0)
+      term j l =
+          cases (t j) (λ h. of-eq (ap (λ (y : ℕ). f j * y) (merge-check t n e a j l h ∙ sym (merge-check t n e (residues q a) j l h))))
+          (λ h. let k : ℕ = count (opposite t) j in
+          scale (f j)
+          (of-eq (merge-message t n e a j l h)
+          then symm (reduce q (getD a k 0))
+          then of-eq (sym (residue-at q a k) ∙ sym (merge-message t n e (residues q a) j l h))))
+
+  syndrome-agrees : (r j : ℕ) → syndrome q r (merge t n e a) j ≡ syndrome q r (merge t n e (residues q a)) j
+  unfolding syndrome
+  syndrome-agrees r j = merge-agrees (checkRow q r j) .same
+
+-- What setting the check symbols changes.
+
+set-agrees : (c d : List ℕ) (j y i : ℕ) → length c ≡ length d → getD c i 0 ≡ getD d i 0 → getD (set c j y) i 0 ≡ getD (set d j y) i 0
+set-agrees [] [] j y i l h = refl
+set-agrees [] (z ∷ d) j y i l h = absurd (omega arith)
+set-agrees (x ∷ c) [] j y i l h = absurd (omega arith)
+set-agrees (x ∷ c) (z ∷ d) zero y zero l h = refl
+set-agrees (x ∷ c) (z ∷ d) zero y (suc i) l h = h
+set-agrees (x ∷ c) (z ∷ d) (suc j) y zero l h = h
+set-agrees (x ∷ c) (z ∷ d) (suc j) y (suc i) l h = set-agrees c d j y i (omega arith) h
+
+length-checked : (q : ℕ) (e c : List ℕ) (k : ℕ) → length (checked q e c k) ≡ length c
+length-checked q e c zero = refl
+length-checked q e c (suc k) = length-set (checked q e c k) (checkPosition q k - 1) (getD e k 0) ∙ length-checked q e c k
+
+checked-agrees : (q : ℕ) (e c d : List ℕ) (k i : ℕ) → length c ≡ length d → getD c i 0 ≡ getD d i 0
+    → getD (checked q e c k) i 0 ≡ getD (checked q e d k) i 0
+checked-agrees q e c d zero i l h = h
+checked-agrees q e c d (suc k) i l h =
+    set-agrees (checked q e c k) (checked q e d k) (checkPosition q k - 1) (getD e k 0) i
+    (length-checked q e c k ∙ l ∙ sym (length-checked q e d k)) (checked-agrees q e c d k i l h)
+
+module _ (p : Parameters) (s : Sized p) where
+  -- the symbols of the message stay
+  checked-other : (e c : List ℕ) (k i : ℕ) → k ≤ p .r → check p i ≡ false → getD (checked (p .q) e c k) i 0 ≡ getD c i 0
+  checked-other e c zero i h f = refl
+  checked-other e c (suc k) i h f =
+      rw (at-place p (checked (p .q) e c k) k (getD e k 0))
+      (getD-set-other (checked (p .q) e c k) (place p k) i (getD e k 0) 0 apart ∙ checked-other e c k i (le-of-suc-le h) f)
+    where
+      apart : i ≡ place p k → ⊥
+      apart g = rw (← g, f) at (place-check p s k h)
+
+  module _ (a : List ℕ) (size : length a ≡ messageLength p) where
+    abbrev reduced : List ℕ
+    reduced = residues (p .q) a
+
+    word : T (isWord (p .q) (messageLength p) reduced)
+    word = word-of (p .q) (messageLength p) reduced (length-residues (p .q) a ∙ size) (residues-below (p .q) a (q-positive p s))
+
+    same-tests : _≡_ {A = ℕ → Bool} (λ e. inCode (p .q) (p .r) (candidate p a e)) (λ e. inCode (p .q) (p .r) (candidate p reduced e))
+    unfolding inCode candidate
+    same-tests =
+        fun-ext
+        (λ e. ap (λ (u : ℕ → ℕ). allBelow (λ j. eqb (u j) 0) (p .r))
+        (fun-ext (λ j. syndrome-agrees (p .q) (check p) (p .n) (digits (p .q) (p .r) e) a (p .r) j)))
+
+    -- the check symbols of both
+    checks : List ℕ
+    checks = digits (p .q) (p .r) (least (λ e. inCode (p .q) (p .r) (candidate p reduced e)) (p .q ^ p .r))
+
+    component-is : component p a ≡ merge (check p) (p .n) checks a
+    unfolding component candidate checks
+    component-is = ap (λ (t : ℕ → Bool). merge (check p) (p .n) (digits (p .q) (p .r) (least t (p .q ^ p .r))) a) same-tests
+
+    reduced-is : component p reduced ≡ merge (check p) (p .n) checks reduced
+    unfolding component candidate checks
+    reduced-is = refl
+
+    module _ (sums e : List ℕ) (four : p .r ≤ 4) (are : (j : ℕ) → j < 4 → getD sums j 0 ≡ syndrome (p .q) 4 (bare p a) j) (solves : Solves (p .q) sums e) where
+      reduced-solved : checked (p .q) e (bare p reduced) (p .r) ≡ component p reduced
+      reduced-solved =
+          solved p s reduced word sums e four (λ j h. are j h ∙ syndrome-agrees (p .q) (check p) (p .n) [] a 4 j) solves
+
+      pub any-solved : checked (p .q) e (bare p a) (p .r) ≡ component p a
+      any-solved =
+          ext-getD 0 (checked (p .q) e (bare p a) (p .r)) (component p a) (long ∙ sym (length-component p a))
+          (λ i l. let h : i < p .n = omega (arith, long) in cases (check p i) (at-check i h) (at-message i h))
+        where
+          long : length (checked (p .q) e (bare p a) (p .r)) ≡ p .n
+          long = length-checked (p .q) e (bare p a) (p .r) ∙ length-merge (check p) (p .n) [] a
+
+          at-check : (i : ℕ) → i < p .n → check p i ≡ true → getD (checked (p .q) e (bare p a) (p .r)) i 0 ≡ getD (component p a) i 0
+          at-check i l h =
+              checked-agrees (p .q) e (bare p a) (bare p reduced) (p .r) i
+              (length-merge (check p) (p .n) [] a ∙ sym (length-merge (check p) (p .n) [] reduced))
+              (merge-check (check p) (p .n) [] a i l h ∙ sym (merge-check (check p) (p .n) [] reduced i l h))
+              ∙ ap (λ (c : List ℕ). getD c i 0) (reduced-solved ∙ reduced-is)
+              ∙ merge-check (check p) (p .n) checks reduced i l h
+              ∙ sym (merge-check (check p) (p .n) checks a i l h)
+              ∙ ap (λ (c : List ℕ). getD c i 0) (sym component-is)
+
+          at-message : (i : ℕ) → i < p .n → check p i ≡ false → getD (checked (p .q) e (bare p a) (p .r)) i 0 ≡ getD (component p a) i 0
+          at-message i l h =
+              checked-other e (bare p a) (p .r) i (le-refl (p .r)) h
+              ∙ merge-message (check p) (p .n) [] a i l h
+              ∙ sym (merge-message (check p) (p .n) checks a i l h)
+              ∙ ap (λ (c : List ℕ). getD c i 0) (sym component-is)

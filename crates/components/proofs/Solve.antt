@@ -1,0 +1,225 @@
+-- The check symbols that make up for the row sums of a placed message give its component word.
+-- Assumes nothing.
+use mathlib.Core.Path.{_≡_, refl, sym, ap, ap₂, _∙_}
+use mathlib.Core.Logic.{_≢_}
+use mathlib.Core.List.{List, [], _∷_, _++_}
+use Prim.Native.Nat.{ℕ, zero, suc, _+_, _-_, _*_, _/_, _%_, _^_, _≤_, _<_, zero-le, suc-le-suc}
+use native.Mathlib.Nat.{zero-mod, zero-div, pow-zero, pow-suc, zero-add, suc-add, add-zero, add-comm, div-lt-iff-lt-mul, le-refl, le-of-suc-le-suc, not-suc-le-zero, le-trans, mul-zero}
+use native.Mathlib.Omega.{arith}
+use native.Mathlib.Decide.{ℕ-discrete}
+use lib.Dec.{T, T-not}
+use lib.Arith.{lt-one, lt-of-le-ne}
+use lib.ListN.{length, getD, set, replicate, length-set, List·getD-append}
+use lib.Seq.{getD-set-other}
+use Rattle.modular.specs.Sum.{weight, dot}
+use Rattle.modular.specs.Digits.{digits}
+use Rattle.modular.specs.Residue.{Congruent}
+use Rattle.modular.proofs.Search.{passes}
+use Rattle.modular.proofs.Sum.{dot-set-one, dot-set-zero, dot-same, dot-add, dot-scale, weight-zeros}
+use Rattle.modular.proofs.Digits.{length-digits}
+use Rattle.modular.proofs.Residue.{of-eq, same, symm, _then_, add, scale, reduce, multiple, cancel}
+use Rattle.code.specs.Parameters.{Parameters, Sized, messageLength}
+use Rattle.code.specs.Component.{symbolsBelow, isWord, checkRow, syndrome, message, merge, component}
+use Rattle.code.proofs.Symbols.{symbols-below, symbols-set}
+use Rattle.code.proofs.Syndrome.{zero-code}
+use Rattle.code.proofs.Columns.{last-row, digit-row, q-positive}
+use Rattle.code.proofs.Weights.{times-pred}
+use Rattle.code.proofs.Merge.{opposite, word-length, word-below, word-of, below-merge, count, length-merge, keep-merge, keep-set}
+use Rattle.code.proofs.Reduced.{check, place, row, reducedTwo, reduced, place-below, place-check, place-injective, row-two-first, row-two-other, reduced-same, reduced-other, rows-reduced}
+use Rattle.code.proofs.Component.{unique, component-holding}
+use Rattle.components.specs.Checks.{checkPosition, checked, Solves}
+use Rattle.components.proofs.Placing.{merge-check, message-count}
+
+-- Three digits, where fewer are asked for.
+
+digits-none : (q j : ℕ) → digits q j 0 ≡ replicate j 0
+digits-none q zero = refl
+digits-none q (suc j) = rw (zero-mod, zero-div, digits-none q j)
+
+digits-more : (q k j i : ℕ) → 1 ≤ q → i < q ^ k → digits q (k + j) i ≡ digits q k i ++ replicate j 0
+digits-more q zero j i h l = rw (zero-add, lt-one (rw pow-zero at l)) (digits-none q j)
+digits-more q (suc k) j i h l =
+    rw suc-add (ap (λ (d : List ℕ). i % q ∷ d) (digits-more q k j (i / q) h (div-lt-iff-lt-mul h .1 (rw pow-suc at l))))
+
+weight-zeros-after : (l : List ℕ) (j : ℕ) → weight (l ++ replicate j 0) ≡ weight l
+weight-zeros-after [] j = weight-zeros j
+weight-zeros-after (x ∷ l) j = ap (λ (y : ℕ). x + y) (weight-zeros-after l j)
+
+module _ (p : Parameters) (s : Sized p) (four : p .r ≤ 4) where
+  -- row j of the columns of three digits
+  abbrev f : ℕ → ℕ → ℕ
+  f j = checkRow (p .q) 4 j
+
+  three : (i : ℕ) → i < p .n → digits (p .q) 3 (suc i) ≡ digits (p .q) (p .r - 1) (suc i) ++ replicate (3 - (p .r - 1)) 0
+  three i h =
+      let e : 3 ≡ p .r - 1 + (3 - (p .r - 1)) = omega arith in
+      ap (λ (k : ℕ). digits (p .q) k (suc i)) e
+      ∙ digits-more (p .q) (p .r - 1) (3 - (p .r - 1)) (suc i) (q-positive p s) (le-trans (suc-le-suc h) (s .columns))
+
+  row-of : (j i : ℕ) → j < p .r - 1 → i < p .n → row p j i ≡ f j i
+  row-of j i h l =
+      let k : j < 4 - 1 = omega arith in
+      digit-row (p .q) (p .r) j i h
+      ∙ sym (List·getD-append (digits (p .q) (p .r - 1) (suc i)) (replicate (3 - (p .r - 1)) 0) 0 j (rw length-digits h))
+      ∙ ap (λ (d : List ℕ). getD d j 0) (sym (three i l))
+      ∙ sym (digit-row (p .q) 4 j i k)
+
+  digit-sum : (i : ℕ) → i < p .n → weight (digits (p .q) (p .r - 1) (suc i)) ≡ f 0 i + f 1 i + f 2 i
+  digit-sum i h =
+      let e : weight (digits (p .q) 3 (suc i)) ≡ f 0 i + f 1 i + f 2 i = omega arith in
+      sym (weight-zeros-after (digits (p .q) (p .r - 1) (suc i)) (3 - (p .r - 1))) ∙ ap weight (sym (three i h)) ∙ e
+
+  -- The reduced sums of a word of n symbols, by the sums of these rows.
+
+  module _ (c : List ℕ) (size : length c ≡ p .n) where
+    abbrev total : ℕ → ℕ
+    total j = dot (f j) c
+
+    row-total : (j : ℕ) → j < p .r - 1 → dot (row p j) c ≡ total j
+    row-total j h = dot-same (row p j) (f j) c (λ i l. row-of j i h (rw size at l))
+
+    two-total : dot (reducedTwo p) c ≡ total 0 + total 1 + total 2 + (p .q - 1) * total 3
+    two-total =
+        dot-same (reducedTwo p) (λ i. f 0 i + f 1 i + f 2 i + (p .q - 1) * f 3 i) c
+        (λ i l. ap₂ (λ (x y : ℕ). x + (p .q - 1) * y) (digit-sum i (rw size at l)) (last-row (p .q) (p .r) i))
+        ∙ dot-add (λ i. f 0 i + f 1 i + f 2 i) (λ i. (p .q - 1) * f 3 i) c
+        ∙ ap₂ (λ (x y : ℕ). x + y) (dot-add (λ i. f 0 i + f 1 i) (f 2) c ∙ ap (λ (x : ℕ). x + total 2) (dot-add (f 0) (f 1) c)) (dot-scale (p .q - 1) (f 3) c)
+
+    power-total : (j : ℕ) → j < p .r - 1 → dot (reduced p (suc j)) c ≡ total j + (p .q - row p j 1) * dot (reducedTwo p) c
+    power-total j h =
+        dot-add (row p j) (λ i. (p .q - row p j 1) * reducedTwo p i) c
+        ∙ ap₂ (λ (x y : ℕ). x + y) (row-total j h) (dot-scale (p .q - row p j 1) (reducedTwo p) c)
+
+    -- The check symbols e make up for them.
+
+    module _ (sums e : List ℕ) (are : (j : ℕ) → j < 4 → getD sums j 0 ≡ syndrome (p .q) 4 c j) (solves : Solves (p .q) sums e) where
+      sum-is : (j : ℕ) → j < 4 → Congruent (p .q) (getD sums j 0) (total j)
+      unfolding syndrome
+      sum-is j h = of-eq (are j h) then reduce (p .q) (total j)
+
+      makes-two : Congruent (p .q) (getD e 0 0 + dot (reducedTwo p) c) 0
+      makes-two =
+          let d : ℕ = total 0 + total 1 + total 2 in
+          let g : getD e 0 0 + dot (reducedTwo p) c ≡ getD e 0 0 + d + (p .q - 1) * total 3 = rw two-total (omega arith) in
+          let h : total 3 + (p .q - 1) * total 3 ≡ 0 + total 3 * p .q = omega (arith, times-pred (p .q) (total 3) (q-positive p s)) in
+          let k : Congruent (p .q) (getD e 0 0 + d) (total 3) =
+          add (same (getD e 0 0)) (symm (add (add (sum-is 0 (omega arith)) (sum-is 1 (omega arith))) (sum-is 2 (omega arith))))
+          then solves .two then sum-is 3 (omega arith) in
+          of-eq g then add k (same ((p .q - 1) * total 3)) then of-eq h then multiple (p .q) 0 (total 3)
+
+      -- u times the symbol at position 2 is what the reduced rows take away
+      turned : (u : ℕ) → u ≤ p .q → Congruent (p .q) ((p .q - u) * dot (reducedTwo p) c) (u * getD e 0 0)
+      turned u l =
+          let z : ℕ = getD e 0 0 in
+          let w : ℕ = p .q - u in
+          let a : w * dot (reducedTwo p) c + w * z ≡ w * (z + dot (reducedTwo p) c) = omega arith in
+          let b : u + w ≡ p .q = omega arith in
+          let d : u * z + w * z ≡ 0 + z * p .q = omega (arith, ap (λ (x : ℕ). z * x) b) in
+          cancel (w * z) (of-eq a then scale w makes-two then of-eq (mul-zero w) then symm (multiple (p .q) 0 z) then of-eq (sym d))
+
+      makes-power : (j u : ℕ) → suc j < p .r → row p j 1 ≡ u → u ≤ p .q
+          → Congruent (p .q) (getD e (suc j) 0 + (getD sums j 0 + u * getD e 0 0)) 0
+          → Congruent (p .q) (getD e (suc j) 0 + dot (reduced p (suc j)) c) 0
+      makes-power j u h r l k =
+          let m : j < p .r - 1 = omega arith in
+          of-eq (ap (λ (x : ℕ). getD e (suc j) 0 + x) (power-total j m ∙ ap (λ (x : ℕ). total j + (p .q - x) * dot (reducedTwo p) c) r))
+          then add (same (getD e (suc j) 0)) (add (symm (sum-is j (omega arith))) (turned u l))
+          then k
+
+      pub makes : (k : ℕ) → k < p .r → Congruent (p .q) (getD e k 0 + dot (reduced p k) c) 0
+      makes zero h = makes-two
+      makes (suc zero) h = makes-power 0 2 h (row-two-first p s) (omega (arith, s .levels)) (solves .one)
+      makes (suc (suc j)) h =
+          let g : getD e (suc (suc j)) 0 + (getD sums (suc j) 0 + 0 * getD e 0 0) ≡ getD e (suc (suc j)) 0 + getD sums (suc j) 0 = omega arith in
+          makes-power (suc j) 0 h (row-two-other p s j h) zero-le (of-eq g then solves .powers (suc j) (omega arith) (omega arith))
+
+-- Setting them one after the other.
+
+-- a word of n symbols below q with message a: its first k reduced sums vanish, and at the later check positions it is 0 as c is
+record Filling (p : Parameters) (a c d : List ℕ) (k : ℕ) : Type 0 where
+  size : length d ≡ p .n
+  below : T (symbolsBelow (p .q) d)
+  holds : message (p .q) (p .r) d ≡ a
+  vanish : (l : ℕ) → l < k → Congruent (p .q) (dot (reduced p l) d) 0
+  kept : (l : ℕ) → k ≤ l → l < p .r → Congruent (p .q) (dot (reduced p l) d) (dot (reduced p l) c)
+  zeros : (l : ℕ) → k ≤ l → l < p .r → getD d (place p l) 0 ≡ 0
+
+-- the message with 0 at the check positions
+abbrev pub bare : Parameters → List ℕ → List ℕ
+bare p a = merge (check p) (p .n) [] a
+
+pub at-place : (p : Parameters) (d : List ℕ) (k y : ℕ) → set d (checkPosition (p .q) k - 1) y ≡ set d (place p k) y
+at-place p d zero y = refl
+at-place p d (suc j) y = refl
+
+module _ (p : Parameters) (s : Sized p) (a : List ℕ) (w : T (isWord (p .q) (messageLength p) a)) where
+  filled-none : Filling p a (bare p a) (bare p a) 0
+  unfolding message
+  filled-none =
+      record {
+        size = length-merge (check p) (p .n) [] a;
+        below =
+            symbols-below (p .q) (bare p a)
+            (λ i l. below-merge (p .q) (check p) (p .n) [] a (λ j. q-positive p s) (word-below (p .q) (messageLength p) a (q-positive p s) w) i);
+        holds = keep-merge (check p) (p .n) [] a fits;
+        vanish = λ l h. absurd (not-suc-le-zero h);
+        kept = λ l h g. same (dot (reduced p l) (bare p a));
+        zeros = λ l h g. merge-check (check p) (p .n) [] a (place p l) (place-below p s l g) (passes (place-check p s l g));
+      }
+    where
+      fits : length a ≡ count (opposite (check p)) (p .n)
+      fits = word-length (p .q) (messageLength p) a w ∙ message-count p s
+
+  filled-more : {c d : List ℕ} {k : ℕ} → Filling p a c d k → k < p .r → (y : ℕ) → y < p .q → Congruent (p .q) (y + dot (reduced p k) c) 0
+      → Filling p a c (set d (place p k) y) (suc k)
+  unfolding message
+  filled-more {c} {d} {k} b h y small makes =
+      record {
+        size = length-set d i y ∙ b .size;
+        below = symbols-set (p .q) d i y small (b .below);
+        holds = keep-set (opposite (check p)) d i y (λ n. T-not (check p i) n (place-check p s k h)) ∙ b .holds;
+        vanish = λ l m. vanish l m (ℕ-discrete l k);
+        kept = λ l m n. dot-set-zero (reduced p l) d i y inside (reduced-other p s l k n h (omega arith)) then b .kept l (omega arith) n;
+        zeros = λ l m n. getD-set-other d i (place p l) y 0 (apart l m n) ∙ b .zeros l (omega arith) n;
+      }
+    where
+      i : ℕ
+      i = place p k
+
+      inside : i < length d
+      inside = rw (b .size) (place-below p s k h)
+
+      apart : (l : ℕ) → suc k ≤ l → l < p .r → place p l ≢ i
+      apart l m n e = let g : l ≡ k = place-injective p s l k n h e in omega arith
+
+      vanish : (l : ℕ) → l < suc k → Dec (l ≡ k) → Congruent (p .q) (dot (reduced p l) (set d i y)) 0
+      vanish l m (yes e) =
+          let f : ℕ → ℕ = reduced p k in
+          let z : getD d i 0 ≡ 0 = b .zeros k (le-refl k) h in
+          of-eq (ap (λ (o : ℕ). dot (reduced p o) (set d i y)) e ∙ sym (add-zero (dot f (set d i y))) ∙ ap (λ (x : ℕ). dot f (set d i y) + x) (sym z))
+          then dot-set-one f d i y inside (reduced-same p s k h)
+          then add (b .kept k (le-refl k) h) (same y)
+          then of-eq (add-comm (dot f c) y)
+          then makes
+      vanish l m (no n) =
+          let g : l < k = lt-of-le-ne (le-of-suc-le-suc m) n in
+          dot-set-zero (reduced p l) d i y inside (reduced-other p s l k (omega arith) h n) then b .vanish l g
+
+  module _ (sums e : List ℕ) (four : p .r ≤ 4) (are : (j : ℕ) → j < 4 → getD sums j 0 ≡ syndrome (p .q) 4 (bare p a) j) (solves : Solves (p .q) sums e) where
+    fill : (k : ℕ) → k ≤ p .r → Filling p a (bare p a) (checked (p .q) e (bare p a) k) k
+    fill zero h = filled-none
+    fill (suc k) h =
+        rw (at-place p (checked (p .q) e (bare p a) k) k (getD e k 0))
+        (filled-more (fill k (omega arith)) h (getD e k 0) (solves .below k (omega arith))
+        (makes p s four (bare p a) (length-merge (check p) (p .n) [] a) sums e are solves k h))
+
+    pub solved : checked (p .q) e (bare p a) (p .r) ≡ component p a
+    solved =
+        let b : Filling p a (bare p a) (checked (p .q) e (bare p a) (p .r)) (p .r) = fill (p .r) (le-refl (p .r)) in
+        unique p s {a = a}
+        (record {
+          word = word-of (p .q) (p .n) (checked (p .q) e (bare p a) (p .r)) (b .size) (b .below);
+          code = zero-code p (checked (p .q) e (bare p a) (p .r)) (rows-reduced p s (checked (p .q) e (bare p a) (p .r)) (b .vanish));
+          holds = b .holds;
+        })
+        (component-holding p s a w)

@@ -1,0 +1,122 @@
+// The steps: the messages at their positions, the check symbols that they ask for, and both together.
+use crate::residue::sub;
+use profiles::Row;
+use symbols::Body;
+use symbols::Syndrome;
+use symbols::Syndromes;
+use symbols::columns;
+use symbols::syndromes_of;
+ghost use mathlib.Core.Path.{_≡_};
+ghost use mathlib.Core.Bool.{true, false};
+ghost use Prim.Native.Nat.{min, _≤_, _<_};
+ghost use lib.Dec.{T};
+ghost use lib.ListN.{length};
+ghost use Rattle.code.specs.Parameters.{messageLength};
+ghost use Rattle.code.specs.Profiles.{isProfile};
+ghost use Rattle.profiles.specs.Row.{Valid, parameters};
+ghost use Rattle.symbols.specs.Columns.{Columns, columnsOf};
+ghost use Rattle.symbols.specs.Syndromes.{rows, part, rowSums};
+ghost use Rattle.components.specs.Checks.{symbols, setAt, Solves, Placed, Filled};
+ghost use Rattle.components.specs.Components.{padded};
+
+// The check symbols of a component: of position 2, and of 1, q and q².
+pub(crate) struct CheckSymbols {
+    pub(crate) two: u8,
+    pub(crate) one: u8,
+    pub(crate) middle: u8,
+    pub(crate) high: u8,
+}
+
+// Both components' symbols at a position.
+fn set_pair(x: &mut Body, position: usize, a: u8, b: u8)
+    requires { ⌜ (1 ≤ position) × (position ≤ 48) ⌝ }
+    ensures { λ _. ⌜ now (x .exit) ≡ setAt (now (x .entry)) position a b ⌝ }
+{
+    x[2 * position - 1] = a;
+    x[2 * position] = b;
+}
+
+// Both messages at their positions, and 0 at the check positions: 2, and the powers of q, of which `power` is the next.
+fn placed(row: Row, first: &[u8], second: &[u8]) -> Body
+    requires { ⌜ Valid row × (length (now first) ≡ messageLength (parameters row)) × (length (now second) ≡ messageLength (parameters row)) ⌝ }
+    ensures { λ x. ⌜ Placed row (now (first .entry)) (now (second .entry)) x ⌝ }
+{
+    let q = row.q as usize;
+    let mut x = [0u8; 97];
+    let mut power: usize = 1;
+    let mut next = 0;
+    let mut position = 1;
+    while position <= row.n {
+        if position == power {
+            power *= q;
+        } else if position != 2 {
+            set_pair(&mut x, position, first[next], second[next]);
+            next += 1;
+        }
+        position += 1;
+    }
+    x
+}
+
+// The check symbols that make up for these sums.
+fn check_symbols(q: u8, s: Syndrome) -> CheckSymbols
+    requires { ⌜ (s .low < q) × (s .middle < q) × (s .high < q) × (s .ones < q) ⌝ }
+    ensures { λ e. ⌜ Solves q (rows s) (symbols e) ⌝ }
+{
+    let two = sub(q, sub(q, sub(q, s.ones, s.low), s.middle), s.high);
+    CheckSymbols {
+        two,
+        one: sub(q, sub(q, sub(q, 0, s.low), two), two),
+        middle: sub(q, 0, s.middle),
+        high: sub(q, 0, s.high),
+    }
+}
+
+// The array with the check symbols of both components set.
+fn filled(row: Row, x: Body, first: CheckSymbols, second: CheckSymbols) -> Body
+    requires { ⌜ Valid row × (3 ≤ row .r) ⌝ }
+    ensures { λ y. ⌜ Filled row x (symbols first) (symbols second) y ⌝ }
+{
+    let q = row.q as usize;
+    let mut y = x;
+    set_pair(&mut y, 2, first.two, second.two);
+    set_pair(&mut y, 1, first.one, second.one);
+    set_pair(&mut y, q, first.middle, second.middle);
+    if 3 < row.r {
+        set_pair(&mut y, q * q, first.high, second.high);
+    }
+    y
+}
+
+// The syndromes of both components. Each profile has a call of its own, with its columns as a constant.
+fn syndromes_by(profile: usize, row: Row, x: &Body) -> Syndromes
+    requires { ⌜ T (isProfile profile) ⌝ }
+    ensures { λ s. ⌜ (rows (s .first) ≡ rowSums (row .q) (columnsOf profile) (part true (min (row .n) 48) (now (x .entry)))) × (rows (s .second) ≡ rowSums (row .q) (columnsOf profile) (part false (min (row .n) 48) (now (x .entry)))) ⌝ }
+{
+    if profile == 1 {
+        let matrix = columns(1);
+        return syndromes_of(row.q, row.n, &matrix, x);
+    }
+    if profile == 2 {
+        let matrix = columns(2);
+        return syndromes_of(row.q, row.n, &matrix, x);
+    }
+    if profile == 3 {
+        let matrix = columns(3);
+        return syndromes_of(row.q, row.n, &matrix, x);
+    }
+    let matrix = columns(4);
+    syndromes_of(row.q, row.n, &matrix, x)
+}
+
+// The components of two messages of the right length, by a profile's row.
+pub(crate) fn interleaved(profile: usize, row: Row, first: &[u8], second: &[u8]) -> Body
+    requires { ⌜ Valid row × (3 ≤ row .r) × T (isProfile profile) × Columns (row .q) (columnsOf profile) × (length (now first) ≡ messageLength (parameters row)) × (length (now second) ≡ messageLength (parameters row)) ⌝ }
+    ensures { λ x. ⌜ x ≡ padded (parameters row) (now (first .entry)) (now (second .entry)) ⌝ }
+{
+    let x = placed(row, first, second);
+    let sums = syndromes_by(profile, row, &x);
+    let a = check_symbols(row.q, sums.first);
+    let b = check_symbols(row.q, sums.second);
+    filled(row, x, a, b)
+}

@@ -1,0 +1,62 @@
+-- `decoder::reader::decode_balanced` meets its contract: what the check finds readable is written.
+-- Assumes nothing.
+use borrow.Author.Needs.{needs}
+use mathlib.Core.Path.{_≡_, subst}
+use mathlib.Core.Logic.{_⊎_, inl, inr}
+use mathlib.Core.Bool.{true, false}
+use mathlib.Core.List.{[], _∷_}
+use Prim.Native.Nat.{ℕ}
+use native.Mathlib.Omega.{arith}
+use types.Run.{OneOf}
+use denote.Enum.Declared.{tagOf}
+use Rattle.decoder.specs.declared.reader.Decoded.{Decoded}
+use Rattle.decoder.specs.declared.reader.Decoded.the-variants.{Unreadable}
+use Rattle.decoder.proofs.reader.Decoded.{the-type}
+use Rattle.decoder.proofs.Answering.{written-of, judged-near, judged-none, judged-read}
+use Rattle.decoder.proofs.reader.decode_balanced.Statement.{statement}
+use Rattle.decoder.proofs.reader.decode_balanced.Tie as tie
+
+-- the cases of an answer that is not unreadable are the others
+none : _≡_ {A = ℕ} 2 0 ⊎ (_≡_ {A = ℕ} 2 1 ⊎ _≡_ {A = ℕ} 2 3) → ⊥
+none (inl e) = omega arith
+none (inr (inl e)) = omega arith
+none (inr (inr e)) = omega arith
+
+readable : (c : tie.At-match-keys2) → c .before .check .result ≡ Unreadable → ⊥
+readable c e = none (subst (λ (r : Decoded). OneOf (0 ∷ 1 ∷ 3 ∷ []) (tagOf the-type r)) e (c .match .keys2))
+
+check-requires : tie.Need-check-requires
+check-requires c κs = (c .before .before .pre .0 .valid, c .before .before .pre .1)
+
+enum-told : tie.Need-enum-told
+enum-told c = search needs
+
+returns : tie.Need-returns
+returns c = record { to = λ v p. judged-none _ _ (c .enum-told .given .1) (c .before .before .check .ensures) _ _ _ }
+
+write-pair-requires : tie.Need-write-pair-requires
+write-pair-requires c κs =
+    let s = c .before .before .before .before .before .before .before .before .before in
+    let n = judged-near _ _ _ (c .before .before .before .before .before .before .check .ensures) (readable (c .before .before .before .before .before)) in
+    (s .pre .0, s .pre .1 .first-rows, s .pre .1 .second-rows, n, record { first-long = s .pre .2 .first-long; second-long = s .pre .2 .second-long })
+
+same-length : tie.Need-same-length
+same-length c = search needs
+
+same-length-2 : tie.Need-same-length-2
+same-length-2 c = search needs
+
+returns-2 : tie.Need-returns-2
+returns-2 c = record { to = λ v p. judged-read _ _ _ (c .before .before .before .before .before .before .before .before .before .before .before .check .ensures) (readable (c .before .before .before .before .before .before .before .before .before .before)) _ (written-of (p true) (p false) (c .before .before .before .before .write-pair .ensures)) }
+
+pub decode-balanced-spec : {M : Type 1} → statement M
+decode-balanced-spec =
+    tie.close
+    (tie.spec
+    check-requires
+    enum-told
+    returns
+    write-pair-requires
+    same-length
+    same-length-2
+    returns-2)

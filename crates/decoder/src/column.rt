@@ -1,0 +1,56 @@
+// How a changed symbol moves a syndrome: by a multiple of a column.
+use crate::residue::add;
+use crate::residue::multiple;
+use profiles::Row;
+use symbols::Syndrome;
+ghost use mathlib.Core.Path.{_≡_};
+ghost use Prim.Native.Nat.{ℕ, _+_, _*_, _%_, _≤_, _<_};
+ghost use lib.ListN.{getD};
+ghost use Rattle.decoding.specs.Syndromes.{moved};
+ghost use Rattle.profiles.specs.Row.{Valid, parameters};
+ghost use Rattle.symbols.specs.Columns.{Columns};
+ghost use Rattle.symbols.specs.Syndromes.{rows};
+ghost use Rattle.decoder.specs.Level.{Multiples};
+ghost use Rattle.decoder.specs.Rows.{FourRows, rowsOf, movedRows};
+
+// One row s of a syndrome with a multiple of the column's digit d added.
+fn moved_row(q: u8, s: u8, multiples: &[u8; 16], d: u8) -> u8
+    requires { ⌜ (s < q) × (d < q) × (q ≤ 15) × Multiples q (now multiples) ⌝ }
+    ensures { λ r. ⌜ r ≡ (s + getD (now (multiples .entry)) 1 0 * d) % q ⌝ }
+{
+    add(q, s, multiple(multiples, d))
+}
+
+// The syndrome with a multiple of a column added.
+fn moved_rows(q: u8, column: [u8; 3], s: Syndrome, multiples: &[u8; 16]) -> Syndrome
+    requires { ⌜ (2 ≤ q) × (q ≤ 15) × ((j : ℕ) → getD column j 0 < q) × ((j : ℕ) → j < 4 → getD (rows s) j 0 < q) × Multiples q (now multiples) ⌝ }
+    ensures { λ t. ⌜ rows t ≡ movedRows q (getD (now (multiples .entry)) 1 0) column (rows s) ⌝ }
+{
+    Syndrome {
+        low: moved_row(q, s.low, multiples, column[0]),
+        middle: moved_row(q, s.middle, multiples, column[1]),
+        high: moved_row(q, s.high, multiples, column[2]),
+        ones: moved_row(q, s.ones, multiples, 1),
+    }
+}
+
+// The syndrome with a multiple of column a added, by the multiples of each level. There is no column 0 and none past n.
+pub(crate) fn moved(
+    row: Row,
+    columns: &[[u8; 3]; 48],
+    s: Syndrome,
+    multiples: &[u8; 16],
+    a: usize,
+) -> Syndrome
+    requires { ⌜ Valid row × Columns (row .q) (now columns) × FourRows row (rows s) × Multiples (row .q) (now multiples) ⌝ }
+    ensures { λ t. ⌜ FourRows row (rows t) × (rowsOf row (rows t) ≡ moved (parameters row) (getD (now (multiples .entry)) 1 0) a (rowsOf row (rows s))) ⌝ }
+{
+    if a == 0 {
+        return s;
+    }
+    if row.n < a {
+        return s;
+    }
+    let i = a - 1;
+    moved_rows(row.q, columns[i], s, multiples)
+}

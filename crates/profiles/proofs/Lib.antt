@@ -1,0 +1,7 @@
+-- The table of profiles
+pub mod Table
+pub mod Numbers
+-- The levels of a word
+pub mod Highest
+-- The refusals
+pub mod Refusing

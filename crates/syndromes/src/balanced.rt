@@ -1,0 +1,37 @@
+// What a balanced word is, by its syndromes and its check symbols.
+use crate::checks::Checks;
+use crate::checks::Verdict;
+use crate::syndrome::near;
+use symbols::Syndrome;
+ghost use mathlib.Core.Path.{_≡_};
+ghost use lib.Dec.{eqb};
+ghost use Rattle.decoding.specs.Syndromes.{nearSyndromes};
+ghost use Rattle.symbols.specs.Syndromes.{rows};
+ghost use Rattle.syndromes.specs.FourRows.{fourRows};
+ghost use Rattle.syndromes.specs.Verdict.{verdictOf};
+
+// Clean, or one check symbol is wrong: `asked` are those that the body asks for, `arrived` those received.
+pub fn verdict(
+    q: u8,
+    n: usize,
+    first: Syndrome,
+    second: Syndrome,
+    asked: Checks,
+    arrived: Checks,
+) -> Verdict
+    ensures { λ r. ⌜ r ≡ verdictOf (nearSyndromes (fourRows q n) (rows first) (rows second)) (eqb (asked .alpha) (arrived .alpha)) (eqb (asked .beta) (arrived .beta)) ⌝ }
+{
+    if !near(q, n, first, second) {
+        return Verdict::Unreadable;
+    }
+    if asked.alpha == arrived.alpha {
+        if asked.beta != arrived.beta {
+            return Verdict::Beta;
+        }
+        return Verdict::Clean;
+    }
+    if asked.beta == arrived.beta {
+        return Verdict::Alpha;
+    }
+    Verdict::Unreadable
+}
