@@ -2,10 +2,10 @@
 -- Assumes nothing.
 use mathlib.Core.Path.{_≡_, refl, sym, ap, _∙_}
 use mathlib.Core.Logic.{⊎-elim}
-use mathlib.Core.Bool.{Bool, true, false}
+use mathlib.Core.Bool.{Bool, true, false, not}
 use mathlib.Core.List.{List}
 use Prim.Native.Nat.{ℕ, zero, suc, _+_, _-_, _*_, _%_, _≤_, _<_}
-use native.Mathlib.Nat.{zero-add}
+use native.Mathlib.Nat.{zero-add, add-zero}
 use native.Mathlib.Numerals.{add-one}
 use native.Mathlib.Omega.{arith}
 use lib.Dec.{eqb}
@@ -22,8 +22,10 @@ use Rattle.decoding.proofs.Tests.{true-test, false-test}
 use Rattle.profiles.specs.declared.row.Row.{Row}
 use Rattle.decoder.specs.declared.totals.Totals.{Totals}
 use Rattle.profiles.specs.Row.{parameters, Valid}
+use Rattle.decoder.specs.Level.{Multiples}
 use Rattle.decoder.specs.Sides.{isFirst}
 use Rattle.decoder.specs.Totals.{sumsOf, Totalled}
+use Rattle.decoder.specs.Place.{factor, Moves}
 use Rattle.decoder.proofs.Bytes.{minus-is}
 use Rattle.decoder.proofs.Moving.{moved-congruent}
 
@@ -38,6 +40,25 @@ pub places-are : (p : Parameters) (parity : ℕ) → parity ≤ 1 → places p (
 places-are p zero h = omega arith
 places-are p (suc zero) h = omega arith
 places-are p (suc (suc j)) h = absurd (omega arith)
+
+other-side : (parity : ℕ) → parity ≤ 1 → isFirst (1 - parity) ≡ not (isFirst parity)
+other-side zero h = refl
+other-side (suc zero) h = refl
+other-side (suc (suc j)) h = absurd (omega arith)
+
+-- the multiples for the parity and those for the other
+pub moves-are : (t : Row) (s : Totals) (parity : ℕ) {x y : List ℕ} → parity ≤ 1
+    → Multiples (t .q) x × (getD x 1 0 ≡ factor (t .q) (s .lack) (isFirst parity))
+    → Multiples (t .q) y × (getD y 1 0 ≡ factor (t .q) (s .lack) (isFirst (1 - parity))) → Moves t s parity x y
+moves-are t s parity h f g =
+    record { first-table = f .0; second-table = g .0; first-by = f .1; second-by = g .1 ∙ ap (factor (t .q) (s .lack)) (other-side parity h) }
+
+pub factor-odd : (q e parity : ℕ) → parity ≡ 0 → minus q 0 e ≡ factor q e (isFirst parity)
+factor-odd q e parity z = rw z
+
+pub factor-even : (q e parity : ℕ) → (parity ≡ 0 → ⊥) → e ≡ factor q e (isFirst parity)
+factor-even q e zero z = absurd (z refl)
+factor-even q e (suc parity) z = refl
 
 module _ {t : Row} {s : Totals} (w : Totalled t s) where
   pub off-odd : (parity : ℕ) → parity ≡ 0 → {y : ℕ} → y ≡ (s .asked .alpha + s .lack) % t .q
@@ -58,27 +79,18 @@ module _ {t : Row} (v : Valid t) {s : Totals} (w : Totalled t s) (S : List ℕ) 
       let g : f ≡ (0 + (t .q - s .lack)) % t .q = e ∙ sym (minus-is (t .q) 0 (s .lack) (q-positive (parameters t) (v .sized)) (omega (arith, w .lack-below))) in
       moved-congruent (parameters t) a S (of-eq g then reduce (t .q) (0 + (t .q - s .lack)) then of-eq (zero-add (t .q - s .lack)))
 
-  pub first-odd : (parity : ℕ) {f : ℕ} → parity ≡ 0 → f ≡ minus (t .q) 0 (s .lack)
-      → moved (parameters t) f (k + 1) S ≡ movedFirst (parameters t) (isFirst parity) k (lack (parameters t) (sumsOf t s)) S
+  pub first-moved : {parity : ℕ} {x y : List ℕ} → Moves t s parity x y
+      → moved (parameters t) (getD x 1 0) (k + 1) S ≡ movedFirst (parameters t) (isFirst parity) k (lack (parameters t) (sumsOf t s)) S
   unfolding movedFirst
-  first-odd parity z e = rw (z, ← w .lacks, add-one) (less (suc k) e)
+  first-moved {parity = zero} m = rw (← w .lacks, add-one) (less (suc k) (m .first-by))
+  first-moved {parity = suc parity} m = rw (← w .lacks, add-one, m .first-by)
 
-  pub first-even : (parity : ℕ) {f : ℕ} → (parity ≡ 0 → ⊥) → f ≡ s .lack
-      → moved (parameters t) f (k + 1) S ≡ movedFirst (parameters t) (isFirst parity) k (lack (parameters t) (sumsOf t s)) S
-  unfolding movedFirst
-  first-even zero z e = absurd (z refl)
-  first-even (suc parity) z e = rw (← w .lacks, add-one, e)
-
-  pub second-odd : (parity : ℕ) {f : ℕ} → parity ≡ 0 → f ≡ s .lack
-      → moved (parameters t) f k S ≡ movedSecond (parameters t) (isFirst parity) k (lack (parameters t) (sumsOf t s)) S
+  pub second-moved : {parity : ℕ} {x y : List ℕ} → parity ≤ 1 → Moves t s parity x y
+      → moved (parameters t) (getD y 1 0) (k + parity) S ≡ movedSecond (parameters t) (isFirst parity) k (lack (parameters t) (sumsOf t s)) S
   unfolding movedSecond
-  second-odd parity z e = rw (z, ← w .lacks, e)
-
-  pub second-even : (parity : ℕ) {f : ℕ} → (parity ≡ 0 → ⊥) → f ≡ minus (t .q) 0 (s .lack)
-      → moved (parameters t) f (k + 1) S ≡ movedSecond (parameters t) (isFirst parity) k (lack (parameters t) (sumsOf t s)) S
-  unfolding movedSecond
-  second-even zero z e = absurd (z refl)
-  second-even (suc parity) z e = rw (← w .lacks, add-one) (less (suc k) e)
+  second-moved {parity = zero} h m = rw (← w .lacks, add-zero, m .second-by)
+  second-moved {parity = suc zero} h m = rw (← w .lacks, add-one) (less (suc k) (m .second-by))
+  second-moved {parity = suc (suc j)} h m = absurd (omega arith)
 
 -- A position fits where it passes the three tests.
 module _ (p : Parameters) (S : Sums) (b : Bool) (k x : ℕ) where
@@ -90,10 +102,14 @@ module _ (p : Parameters) (S : Sums) (b : Bool) (k x : ℕ) where
   unfolding fits
   fits-check e f = rw (e, f)
 
-  pub fits-near : inRange p S x ≡ true → offByLack p S b ≡ true → {c : Bool} {F G : List ℕ} → c ≡ nearSyndromes p F G
-      → F ≡ movedFirst p b k (lack p S) (S .first) → G ≡ movedSecond p b k (lack p S) (S .second) → c ≡ fits p S b k x
-  unfolding fits nearAfter
-  fits-near e f {c} {F} {G} g h i = rw (e, f, ← h, ← i) g
+  pub fits-near : inRange p S x ≡ true → offByLack p S b ≡ true → {c : Bool} → c ≡ nearAfter p S b k → c ≡ fits p S b k x
+  unfolding fits
+  fits-near e f g = rw (e, f) g
+
+pub near-after : (p : Parameters) (S : Sums) (b : Bool) (k : ℕ) {c : Bool} {F G : List ℕ} → c ≡ nearSyndromes p F G
+    → F ≡ movedFirst p b k (lack p S) (S .first) → G ≡ movedSecond p b k (lack p S) (S .second) → c ≡ nearAfter p S b k
+unfolding nearAfter
+near-after p S b k g h i = rw (← h, ← i) g
 
 -- The search.
 

@@ -81,6 +81,12 @@ module _ (t : Row) (v : Valid t) where
             ⊎-elim (λ (g : 3 ≤ i). let e : i ≡ 3 = omega arith in rw e (sym (rows-last s) ∙ at (t .r - 1) (last-below (parameters t) (v .sized))))
             (λ (g : i < 3). w .unused i k g) (le-or-lt 3 i)
 
+    pub zero-same : FourRows t s → zeroRows s ≡ zeroSyndrome (parameters t) (rowsOf t s)
+    unfolding zeroRows
+    zero-same w =
+        same-test _ _ (λ h. zero-to (λ j l. eqb→eq _ 0 (all-at (λ j. eqb (getD s j 0) 0) 4 h j l)))
+        (λ h. all-of (λ j. eqb (getD s j 0) 0) 4 (λ j l. eq-test (zero-from w h j l)))
+
     digits-are : FourRows t s → (getD s 2 0 * t .q + getD s 1 0) * t .q + getD s 0 0 ≡ columnPosition (parameters t) (rowsOf t s)
     unfolding columnPosition rowsOf
     digits-are w = go (t .r) (r-large (parameters t) (v .sized)) (v .checks) (w .unused)
@@ -96,17 +102,11 @@ module _ (t : Row) (v : Valid t) where
 
   -- The tests of four rows are those of the r rows.
   module _ (s : Syndrome) (w : FourRows t (rows s)) where
-    pub zero-same : zeroRows (rows s) ≡ zeroSyndrome (parameters t) (rowsOf t (rows s))
-    unfolding zeroRows
-    zero-same =
-        same-test _ _ (λ h. zero-to (rows s) (λ j l. eqb→eq _ 0 (all-at (λ j. eqb (getD (rows s) j 0) 0) 4 h j l)))
-        (λ h. all-of (λ j. eqb (getD (rows s) j 0) 0) 4 (λ j l. eq-test (zero-from (rows s) w h j l)))
-
     pub position-same : value (t .q) 3 (rows s) ≡ columnPosition (parameters t) (rowsOf t (rows s))
     position-same = sym (position-is (t .q) (s .low) (s .middle) (s .high) (s .ones)) ∙ digits-are (rows s) w
 
     zero-four : zeroSyndrome (fourRows (t .q) (t .n)) (rows s) ≡ zeroSyndrome (parameters t) (rowsOf t (rows s))
-    zero-four = zero-by (t .q) (t .n) (rows s) (sym zero-same) refl
+    zero-four = zero-by (t .q) (t .n) (rows s) (sym (zero-same (rows s) w)) refl
 
     position-four : columnPosition (fourRows (t .q) (t .n)) (rows s) ≡ columnPosition (parameters t) (rowsOf t (rows s))
     unfolding columnPosition

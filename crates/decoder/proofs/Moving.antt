@@ -7,8 +7,9 @@ use mathlib.Core.List.{List, [], _∷_}
 use Prim.Native.Nat.{ℕ, zero, suc, _+_, _-_, _*_, _%_, _≤_, _<_, zero-le, suc-le-suc}
 use native.Mathlib.Nat.{mod-lt, mod-eq-of-lt, mul-zero, add-zero, zero-mod, le-trans}
 use native.Mathlib.Omega.{arith}
+use lib.Dec.{eqb}
 use lib.ListN.{getD}
-use borrow.Author.Tests.{lt-ltb, le-ltb}
+use borrow.Author.Tests.{ne-eqb, lt-ltb, le-ltb}
 use Rattle.modular.specs.Digits.{digits}
 use Rattle.modular.specs.Residue.{Congruent}
 use Rattle.modular.proofs.Residue.{same, add, mul}
@@ -16,15 +17,17 @@ use Rattle.modular.proofs.Search.{le-or-lt}
 use Rattle.code.specs.Parameters.{Parameters}
 use Rattle.code.specs.Component.{checkRow}
 use Rattle.code.proofs.Columns.{q-positive, last-row, digit-row}
-use Rattle.decoding.specs.Syndromes.{tabulate, columnEntry, moved}
+use Rattle.decoding.specs.Syndromes.{tabulate, zeroSyndrome, columnEntry, moved}
 use Rattle.decoding.proofs.Value.{tabulate-at}
 use Rattle.profiles.specs.declared.row.Row.{Row}
 use Rattle.profiles.specs.Row.{parameters, Valid}
 use Rattle.symbols.specs.Columns.{Columns}
+use Rattle.syndromes.specs.FourRows.{zeroRows}
+use Rattle.syndromes.proofs.Rows.{zero-not}
 use Rattle.decoder.specs.Rows.{FourRows, rowIndex, rowsOf, movedRows}
 use Rattle.symbols.proofs.DigitRows.{digit-below}
 use Rattle.symbols.proofs.Digits.{digits-same, digits-high}
-use Rattle.decoder.proofs.FourRows.{row-cases, rows-digit, rows-last}
+use Rattle.decoder.proofs.FourRows.{row-cases, rows-digit, rows-last, zero-same}
 
 tabulate-same : (f g : ℕ → ℕ) (k : ℕ) → ((j : ℕ) → j < k → f j ≡ g j) → tabulate f k ≡ tabulate g k
 tabulate-same f g zero e = refl
@@ -76,6 +79,9 @@ module _ (t : Row) (v : Valid t) where
         still : (j i : ℕ) → getD (rowsOf t s) j 0 ≡ getD s i 0 → i < 4
             → (getD (rowsOf t s) j 0 + f * columnEntry (parameters t) j a) % t .q ≡ getD s i 0
         still j i e l = rw (e, entry-none (parameters t) j a h, mul-zero, add-zero) (mod-eq-of-lt (w .below i l))
+
+    pub zero-none : (a : ℕ) → (a ≡ 0) ⊎ (t .n < a) → zeroRows s ≡ zeroSyndrome (parameters t) (moved (parameters t) f a (rowsOf t s))
+    zero-none a h = zero-same t v s w ∙ ap (zeroSyndrome (parameters t)) (moved-none a h)
 
     module _ {columns : List (List ℕ)} (k : Columns (t .q) columns) (i : ℕ) (h : i < t .n) (d : List ℕ) where
       digit : ℕ → ℕ
@@ -130,6 +136,18 @@ module _ (t : Row) (v : Valid t) where
           digit-rows (suc (suc zero)) h = ap (λ (x : List ℕ). getD x 2 0) g
           digit-rows (suc (suc (suc j))) h = absurd (omega arith)
 
+      pub zero-column : zeroRows (movedRows (t .q) f (getD columns (a - 1) []) s) ≡ zeroSyndrome (parameters t) (moved (parameters t) f a (rowsOf t s))
+      zero-column =
+          let m = moved-column {d = movedRows (t .q) f (getD columns (a - 1) []) s} refl in
+          zero-same t v (movedRows (t .q) f (getD columns (a - 1) []) s) (m .0) ∙ ap (zeroSyndrome (parameters t)) (m .1)
+
 -- four rows, one by one
 pub four-equal : {a b c d a′ b′ c′ d′ : ℕ} → a ≡ a′ → b ≡ b′ → c ≡ c′ → d ≡ d′ → a ∷ b ∷ c ∷ d ∷ [] ≡ a′ ∷ b′ ∷ c′ ∷ d′ ∷ []
 four-equal e f g h = cc
+
+-- the high row decides where the others are 0
+pub zero-high : {a b d : ℕ} (c : ℕ) → a ≡ 0 → b ≡ 0 → d ≡ 0 → eqb c 0 ≡ zeroRows (a ∷ b ∷ c ∷ d ∷ [])
+unfolding zeroRows
+zero-high zero e f g = rw (e, f, g)
+zero-high {a} {b} {d} (suc c) e f g =
+    ne-eqb (suc c) 0 (λ z. omega arith) ∙ zero-not (a ∷ b ∷ suc c ∷ d ∷ []) 2 (omega arith) (λ z. let y : suc c ≡ 0 = z in omega arith)

@@ -1,7 +1,7 @@
 -- What trying positions answers, against the first index that a definition gives, and the symbol sent at one.
 -- Assumes nothing.
 use mathlib.Core.Path.{_≡_}
-use mathlib.Core.Bool.{Bool, true, false}
+use mathlib.Core.Bool.{Bool, true, false, not}
 use mathlib.Core.List.{List}
 use Prim.Native.Nat.{ℕ, _<_}
 use lib.ListN.{getD}
@@ -13,6 +13,7 @@ use Rattle.decoder.specs.declared.totals.Totals.{Totals}
 use Rattle.decoder.specs.declared.place.Place.{Place}
 use Rattle.decoder.specs.declared.place.Place.the-variants.{At, Nothing}
 use Rattle.decoder.specs.Level.{Multiples}
+use Rattle.decoder.specs.Sides.{isFirst}
 
 -- the first index is `first`, of `count` that were tried
 abbrev pub Found : ℕ → ℕ → Place → Type 0
@@ -23,12 +24,18 @@ Found first count Nothing = first ≡ count
 abbrev pub Located : Parameters → Sums → Bool → List ℕ → ℕ → Type 0
 Located p s b v k = (firstFit p s b v ≡ k) × (k < places p b)
 
--- the multiples by which a corrected symbol moves the syndromes: of what the weight lacks, and of its negative
-pub record Moves (t : Row) (s : Totals) (up down : List ℕ) : Type 0 where
-  pub rising : Multiples (t .q) up
-  pub falling : Multiples (t .q) down
-  pub by-lack : getD up 1 0 ≡ s .lack
-  pub by-negative : getD down 1 0 ≡ minus (t .q) 0 (s .lack)
+-- the symbol whose multiples move the first component's syndrome where one at an odd position (true) or an even one (false) is corrected: the
+-- negative of what the weight lacks, or the lack
+abbrev pub factor : ℕ → ℕ → Bool → ℕ
+factor q e true = minus q 0 e
+factor q e false = e
+
+-- the multiples by which a corrected symbol of the parity moves the syndromes: the second component's moves by the opposite
+pub record Moves (t : Row) (s : Totals) (parity : ℕ) (byFirst bySecond : List ℕ) : Type 0 where
+  pub first-table : Multiples (t .q) byFirst
+  pub second-table : Multiples (t .q) bySecond
+  pub first-by : getD byFirst 1 0 ≡ factor (t .q) (s .lack) (isFirst parity)
+  pub second-by : getD bySecond 1 0 ≡ factor (t .q) (s .lack) (not (isFirst parity))
 
 -- the symbol that balances the body in place of x, and q where it is no level
 unfoldable pub symbolSent : Parameters → Sums → ℕ → ℕ

@@ -3,13 +3,15 @@ use crate::residue::add;
 use crate::residue::multiple;
 use profiles::Row;
 use symbols::Syndrome;
+use syndromes::is_zero;
 ghost use mathlib.Core.Path.{_≡_};
 ghost use Prim.Native.Nat.{ℕ, _+_, _*_, _%_, _≤_, _<_};
 ghost use lib.ListN.{getD};
-ghost use Rattle.decoding.specs.Syndromes.{moved};
+ghost use Rattle.decoding.specs.Syndromes.{zeroSyndrome, moved};
 ghost use Rattle.profiles.specs.Row.{Valid, parameters};
 ghost use Rattle.symbols.specs.Columns.{Columns};
 ghost use Rattle.symbols.specs.Syndromes.{rows};
+ghost use Rattle.syndromes.specs.FourRows.{zeroRows};
 ghost use Rattle.decoder.specs.Level.{Multiples};
 ghost use Rattle.decoder.specs.Rows.{FourRows, rowsOf, movedRows};
 
@@ -53,4 +55,42 @@ pub(crate) fn moved(
     }
     let i = a - 1;
     moved_rows(row.q, columns[i], s, multiples)
+}
+
+// Whether the syndrome with a multiple of a column added is zero: one row after the other, and first the row of ones, which is the same for every column.
+fn rows_to_zero(q: u8, column: [u8; 3], s: Syndrome, multiples: &[u8; 16]) -> bool
+    requires { ⌜ (2 ≤ q) × (q ≤ 15) × ((j : ℕ) → getD column j 0 < q) × ((j : ℕ) → j < 4 → getD (rows s) j 0 < q) × Multiples q (now multiples) ⌝ }
+    ensures { λ b. ⌜ b ≡ zeroRows (movedRows q (getD (now (multiples .entry)) 1 0) column (rows s)) ⌝ }
+{
+    if moved_row(q, s.ones, multiples, 1) != 0 {
+        return false;
+    }
+    if moved_row(q, s.low, multiples, column[0]) != 0 {
+        return false;
+    }
+    if moved_row(q, s.middle, multiples, column[1]) != 0 {
+        return false;
+    }
+    moved_row(q, s.high, multiples, column[2]) == 0
+}
+
+// The same of column a, by the multiples of each level.
+pub(crate) fn moves_to_zero(
+    row: Row,
+    columns: &[[u8; 3]; 48],
+    s: Syndrome,
+    multiples: &[u8; 16],
+    a: usize,
+) -> bool
+    requires { ⌜ Valid row × Columns (row .q) (now columns) × FourRows row (rows s) × Multiples (row .q) (now multiples) ⌝ }
+    ensures { λ b. ⌜ b ≡ zeroSyndrome (parameters row) (moved (parameters row) (getD (now (multiples .entry)) 1 0) a (rowsOf row (rows s))) ⌝ }
+{
+    if a == 0 {
+        return is_zero(s);
+    }
+    if row.n < a {
+        return is_zero(s);
+    }
+    let i = a - 1;
+    rows_to_zero(row.q, columns[i], s, multiples)
 }

@@ -1,22 +1,23 @@
 // Which position of an unbalanced word changed: each of the parity that the check symbols name is tried, in rising order.
 use crate::column::moved;
+use crate::column::moves_to_zero;
 use crate::residue::add;
+use crate::residue::multiples;
+use crate::residue::sub;
 use crate::residue::wide;
 use crate::totals::Totals;
 use profiles::Row;
-use symbols::Syndrome;
 use syndromes::near;
 ghost use mathlib.Core.Path.{_≡_};
 ghost use Prim.Native.Nat.{_+_, _*_, _≤_, _<_};
-ghost use Rattle.decoding.specs.Syndromes.{movedFirst, movedSecond};
-ghost use Rattle.decoding.specs.Decoded.{lack, offByLack, fits, places, firstFit};
+ghost use lib.ListN.{getD};
+ghost use Rattle.decoding.specs.Decoded.{offByLack, nearAfter, fits, places, firstFit};
 ghost use Rattle.profiles.specs.Row.{Valid, parameters};
 ghost use Rattle.symbols.specs.Columns.{Columns};
-ghost use Rattle.symbols.specs.Syndromes.{rows};
-ghost use Rattle.decoder.specs.Rows.{FourRows, rowsOf};
+ghost use Rattle.decoder.specs.Level.{Multiples};
 ghost use Rattle.decoder.specs.Sides.{isFirst};
 ghost use Rattle.decoder.specs.Totals.{Word, sumsOf, Totalled};
-ghost use Rattle.decoder.specs.Place.{Found, Moves, symbolSent};
+ghost use Rattle.decoder.specs.Place.{Found, factor, Moves, symbolSent};
 
 // What trying the positions of one parity finds: an index among them.
 pub(crate) enum Place {
@@ -43,44 +44,39 @@ fn off_by_lack(row: Row, s: Totals, parity: usize) -> bool
     add(row.q, s.asked.beta, s.lack) == s.arrived.beta
 }
 
-// The first component's syndrome with the symbol at index k of the parity corrected: less column k + 1, or more.
-pub(crate) fn moved_first(
-    row: Row,
-    columns: &[[u8; 3]; 48],
-    s: Totals,
-    up: &[u8; 16],
-    down: &[u8; 16],
-    parity: usize,
-    k: usize,
-) -> Syndrome
-    requires { ⌜ Valid row × Columns (row .q) (now columns) × Totalled row s × Moves row s (now up) (now down) × (k ≤ 48) ⌝ }
-    ensures { λ t. ⌜ FourRows row (rows t) × (rowsOf row (rows t) ≡ movedFirst (parameters row) (isFirst parity) k (lack (parameters row) (sumsOf row s)) (rowsOf row (rows (s .first)))) ⌝ }
+// The multiples by which a corrected symbol of the parity moves the first component's syndrome: of the negative of what the weight lacks, or of the lack.
+// The second component's syndrome moves by those of the other parity.
+pub(crate) fn moves(row: Row, s: Totals, parity: usize) -> [u8; 16]
+    requires { ⌜ Valid row × Totalled row s ⌝ }
+    ensures { λ r. ⌜ Multiples (row .q) r × (getD r 1 0 ≡ factor (row .q) (s .lack) (isFirst parity)) ⌝ }
 {
-    let first = s.first;
     if parity == 0 {
-        return moved(row, columns, first, down, k + 1);
+        return multiples(row.q, sub(row.q, 0, s.lack));
     }
-    moved(row, columns, first, up, k + 1)
+    multiples(row.q, s.lack)
 }
 
-// The second component's: more column k, or less column k + 1.
-pub(crate) fn moved_second(
+// Whether the syndromes are near once the symbol at index k of the parity is corrected. At most positions neither is zero then, and that is seen first.
+fn near_after(
     row: Row,
     columns: &[[u8; 3]; 48],
     s: Totals,
-    up: &[u8; 16],
-    down: &[u8; 16],
+    by_first: &[u8; 16],
+    by_second: &[u8; 16],
     parity: usize,
     k: usize,
-) -> Syndrome
-    requires { ⌜ Valid row × Columns (row .q) (now columns) × Totalled row s × Moves row s (now up) (now down) × (k ≤ 48) ⌝ }
-    ensures { λ t. ⌜ FourRows row (rows t) × (rowsOf row (rows t) ≡ movedSecond (parameters row) (isFirst parity) k (lack (parameters row) (sumsOf row s)) (rowsOf row (rows (s .second)))) ⌝ }
+) -> bool
+    requires { ⌜ Valid row × Columns (row .q) (now columns) × Totalled row s × Moves row s parity (now «by_first») (now «by_second») × (parity ≤ 1) × (k ≤ 48) ⌝ }
+    ensures { λ b. ⌜ b ≡ nearAfter (parameters row) (sumsOf row s) (isFirst parity) k ⌝ }
 {
-    let second = s.second;
-    if parity == 0 {
-        return moved(row, columns, second, up, k);
+    if !moves_to_zero(row, columns, s.first, by_first, k + 1) {
+        if !moves_to_zero(row, columns, s.second, by_second, k + parity) {
+            return false;
+        }
     }
-    moved(row, columns, second, down, k + 1)
+    let first = moved(row, columns, s.first, by_first, k + 1);
+    let second = moved(row, columns, s.second, by_second, k + parity);
+    near(row.q, row.n, first, second)
 }
 
 // Whether the symbol x at index k of the parity can be the one that changed: the three tests of a position.
@@ -88,13 +84,13 @@ fn fits(
     row: Row,
     columns: &[[u8; 3]; 48],
     s: Totals,
-    up: &[u8; 16],
-    down: &[u8; 16],
+    by_first: &[u8; 16],
+    by_second: &[u8; 16],
     parity: usize,
     k: usize,
     x: u8,
 ) -> bool
-    requires { ⌜ Valid row × Columns (row .q) (now columns) × Totalled row s × Moves row s (now up) (now down) × (parity ≤ 1) × (k ≤ 48) ⌝ }
+    requires { ⌜ Valid row × Columns (row .q) (now columns) × Totalled row s × Moves row s parity (now «by_first») (now «by_second») × (parity ≤ 1) × (k ≤ 48) ⌝ }
     ensures { λ b. ⌜ b ≡ fits (parameters row) (sumsOf row s) (isFirst parity) k x ⌝ }
 {
     if balancing_symbol(row, s, x) == row.q {
@@ -103,9 +99,7 @@ fn fits(
     if !off_by_lack(row, s, parity) {
         return false;
     }
-    let first = moved_first(row, columns, s, up, down, parity, k);
-    let second = moved_second(row, columns, s, up, down, parity, k);
-    near(row.q, row.n, first, second)
+    near_after(row, columns, s, by_first, by_second, parity, k)
 }
 
 // The first index of the parity that fits.
@@ -113,18 +107,27 @@ pub(crate) fn try_places(
     row: Row,
     columns: &[[u8; 3]; 48],
     s: Totals,
-    up: &[u8; 16],
-    down: &[u8; 16],
+    by_first: &[u8; 16],
+    by_second: &[u8; 16],
     word: &[u8],
     parity: usize,
 ) -> Place
-    requires { ⌜ Word row (now word) × Columns (row .q) (now columns) × Totalled row s × Moves row s (now up) (now down) × (parity ≤ 1) ⌝ }
+    requires { ⌜ Word row (now word) × Columns (row .q) (now columns) × Totalled row s × Moves row s parity (now «by_first») (now «by_second») × (parity ≤ 1) ⌝ }
     ensures { λ r. ⌜ Found (firstFit (parameters row) (sumsOf row s) (isFirst parity) (now (word .entry))) (places (parameters row) (isFirst parity)) r ⌝ }
 {
     let count = row.n + 1 - parity;
     let mut k = 0;
     while k < count {
-        if fits(row, columns, s, up, down, parity, k, word[2 * k + parity]) {
+        if fits(
+            row,
+            columns,
+            s,
+            by_first,
+            by_second,
+            parity,
+            k,
+            word[2 * k + parity],
+        ) {
             return Place::At(k);
         }
         k += 1;

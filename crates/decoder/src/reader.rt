@@ -1,13 +1,11 @@
 // Decoding of a received word, by its sums.
 use crate::body::corrected_body;
+use crate::column::moved;
 use crate::message::write_pair;
 use crate::place::Place;
 use crate::place::balancing_symbol;
-use crate::place::moved_first;
-use crate::place::moved_second;
+use crate::place::moves;
 use crate::place::try_places;
-use crate::residue::multiples;
-use crate::residue::sub;
 use crate::totals::Totals;
 use crate::totals::sums_of;
 use profiles::Row;
@@ -82,23 +80,23 @@ fn correct(
     row: Row,
     columns: &[[u8; 3]; 48],
     s: Totals,
-    up: &[u8; 16],
-    down: &[u8; 16],
+    by_first: &[u8; 16],
+    by_second: &[u8; 16],
     word: &[u8],
     parity: usize,
     k: usize,
     first: &mut [u8],
     second: &mut [u8],
 ) -> Decoded
-    requires { ⌜ Word row (now word) × Columns (row .q) (now columns) × Totalled row s × Moves row s (now up) (now down) × (parity ≤ 1) × Located (parameters row) (sumsOf row s) (isFirst parity) (now word) k × Outputs row (now first) (now second) ⌝ }
+    requires { ⌜ Word row (now word) × Columns (row .q) (now columns) × Totalled row s × Moves row s parity (now «by_first») (now «by_second») × (parity ≤ 1) × Located (parameters row) (sumsOf row s) (isFirst parity) (now word) k × Outputs row (now first) (now second) ⌝ }
     ensures { λ r. ⌜ Answers (answered (decodedBody (parameters row) (sumsOf row s) (isFirst parity) (now (word .entry)))) r (now (first .entry)) (now (first .exit)) (now (second .entry)) (now (second .exit)) ⌝ }
 {
     let i = 2 * k + parity;
     let y = balancing_symbol(row, s, word[i]);
     let mut x = [0u8; 97];
     corrected_body(row, word, i, y, &mut x);
-    let f = moved_first(row, columns, s, up, down, parity, k);
-    let g = moved_second(row, columns, s, up, down, parity, k);
+    let f = moved(row, columns, s.first, by_first, k + 1);
+    let g = moved(row, columns, s.second, by_second, k + parity);
     write_pair(row, f, g, &mut x, first, second);
     Decoded::Corrected(i + 1, y)
 }
@@ -119,12 +117,23 @@ fn decode_unbalanced(
     if 1 < parity {
         return Decoded::Unreadable;
     }
-    let up = multiples(row.q, s.lack);
-    let down = multiples(row.q, sub(row.q, 0, s.lack));
-    let Place::At(k) = try_places(row, columns, s, &up, &down, word, parity) else {
+    let by_first = moves(row, s, parity);
+    let by_second = moves(row, s, 1 - parity);
+    let Place::At(k) = try_places(row, columns, s, &by_first, &by_second, word, parity) else {
         return Decoded::Unreadable;
     };
-    correct(row, columns, s, &up, &down, word, parity, k, first, second)
+    correct(
+        row,
+        columns,
+        s,
+        &by_first,
+        &by_second,
+        word,
+        parity,
+        k,
+        first,
+        second,
+    )
 }
 
 // What follows the balance test of a balanced word, whose components are in x.

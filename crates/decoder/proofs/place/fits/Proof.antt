@@ -4,7 +4,6 @@ use borrow.Author.Needs.{needs}
 use mathlib.Core.Path.{sym, _∙_}
 use borrow.Author.Tests.{not-true, not-false}
 use Rattle.decoder.proofs.Sent.{sent-none, sent-some}
-use Rattle.decoder.proofs.FourRows.{near-same}
 use Rattle.decoder.proofs.Fitting.{fits-range, fits-check, fits-near}
 use Rattle.decoder.proofs.place.fits.Statement.{statement}
 use Rattle.decoder.proofs.place.fits.Tie as tie
@@ -21,17 +20,12 @@ off-by-lack-requires c κs = search needs
 returns-2 : tie.Need-returns-2
 returns-2 c = fits-check _ _ _ _ _ (sent-some _ _ _ (λ e. c .before .before .if1 .left (c .before .before .before .before .balancing-symbol .ensures ∙ e))) (sym (c .before .off-by-lack .ensures) ∙ not-true _ (c .if2 .taken))
 
-moved-first-requires : tie.Need-moved-first-requires
-moved-first-requires c κs = search needs
-
-moved-second-requires : tie.Need-moved-second-requires
-moved-second-requires c κs = search needs
-
-near-requires : tie.Need-near-requires
-near-requires c κs = search needs
+near-after-requires : tie.Need-near-after-requires
+near-after-requires c κs = search needs
 
 returns-3 : tie.Need-returns-3
-returns-3 c = fits-near _ _ _ _ _ (sent-some _ _ _ (λ e. c .before .before .before .before .before .if1 .left (c .before .before .before .before .before .before .before .balancing-symbol .ensures ∙ e))) (sym (c .before .before .before .before .off-by-lack .ensures) ∙ not-false _ (c .before .before .before .if2 .left)) (c .near .ensures ∙ near-same _ (c .before .before .before .before .before .before .before .before .pre .0) _ _ (c .before .before .moved-first .ensures .0) (c .before .moved-second .ensures .0)) (c .before .before .moved-first .ensures .1) (c .before .moved-second .ensures .1)
+returns-3 c =
+    fits-near _ _ _ _ _ (sent-some _ _ _ (λ e. c .before .before .before .if1 .left (c .before .before .before .before .before .balancing-symbol .ensures ∙ e))) (sym (c .before .before .off-by-lack .ensures) ∙ not-false _ (c .before .if2 .left)) (c .near-after .ensures)
 
 pub fits-spec : {M : Type 1} → statement M
 fits-spec =
@@ -41,7 +35,5 @@ fits-spec =
     returns
     off-by-lack-requires
     returns-2
-    moved-first-requires
-    moved-second-requires
-    near-requires
+    near-after-requires
     returns-3)

@@ -16,10 +16,10 @@ use Rattle.decoder.proofs.place.try_places.Statement.{statement}
 use Rattle.decoder.proofs.place.try_places.Tie as tie
 
 abbrev Inv-loop : tie.InvT-loop
-Inv-loop row columns s up down word parity count k₀ k = (k ≤ count) × ((j : ℕ) → j < k → fits (parameters row) (sumsOf row s) (isFirst parity) j (getD word (2 * j + parity) 0) ≡ false)
+Inv-loop row columns s by_first by_second word parity count k₀ k = (k ≤ count) × ((j : ℕ) → j < k → fits (parameters row) (sumsOf row s) (isFirst parity) j (getD word (2 * j + parity) 0) ≡ false)
 
 abbrev μ-loop : tie.MeasureT-loop
-μ-loop row columns s up down word parity count k₀ k = count - k
+μ-loop row columns s by_first by_second word parity count k₀ k = count - k
 
 add-count : tie.Need-add-count Inv-loop μ-loop
 add-count c = search needs

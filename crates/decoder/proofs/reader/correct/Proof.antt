@@ -1,9 +1,10 @@
 -- `decoder::reader::correct` meets its contract: the index fits, so its symbol is a level and the moved syndromes are near.
 -- Assumes nothing.
 use borrow.Author.Needs.{needs}
-use mathlib.Core.Path.{refl}
+use mathlib.Core.Path.{refl, _∙_}
 use mathlib.Core.Bool.{true, false}
 use native.Mathlib.Omega.{arith}
+use Rattle.decoder.proofs.Fitting.{first-moved, second-moved}
 use Rattle.decoder.proofs.Answering.{answers-read, written-of}
 use Rattle.decoder.proofs.Finding.{place-index, place-small, place-level, place-near, place-read}
 use Rattle.decoder.proofs.reader.correct.Statement.{statement}
@@ -26,18 +27,24 @@ corrected-body-requires c κs =
     let s = c .before .before .before .before .before .before in
     (s .pre .0, place-index (s .pre .0) (s .args .s) (s .pre .4) (s .pre .5), place-level (s .pre .0) (s .args .s) (s .pre .4) (s .pre .5) (c .before .balancing-symbol .ensures), refl)
 
-moved-first-requires : tie.Need-moved-first-requires
-moved-first-requires c κs = let s = c .before .before .before .before .before .before .before in (s .pre .0 .valid, s .pre .1, s .pre .2, s .pre .3, place-small (s .pre .0) (s .args .s) (s .pre .4) (s .pre .5))
+add-moved : tie.Need-add-moved
+add-moved c = let s = c .before .before .before .before .before .before .before in omega (arith, place-small (s .pre .0) (s .args .s) (s .pre .4) (s .pre .5))
 
-moved-second-requires : tie.Need-moved-second-requires
-moved-second-requires c κs = let s = c .before .before .before .before .before .before .before .before in (s .pre .0 .valid, s .pre .1, s .pre .2, s .pre .3, place-small (s .pre .0) (s .args .s) (s .pre .4) (s .pre .5))
+moved-requires : tie.Need-moved-requires
+moved-requires c κs = let p = c .before .before .before .before .before .before .before .pre in (p .0 .valid, p .1, p .2 .first-rows, p .3 .first-table)
+
+add-moved-2 : tie.Need-add-moved-2
+add-moved-2 c = let s = c .before .before .before .before .before .before .before .before in omega (arith, place-small (s .pre .0) (s .args .s) (s .pre .4) (s .pre .5), s .pre .4)
+
+moved-requires-2 : tie.Need-moved-requires-2
+moved-requires-2 c κs = let p = c .before .before .before .before .before .before .before .before .pre in (p .0 .valid, p .1, p .2 .second-rows, p .3 .second-table)
 
 write-pair-requires : tie.Need-write-pair-requires
 write-pair-requires c κs =
     let s = c .before .before .before .before .before .before .before .before .before .before .before .before in
-    let f = c .before .before .before .before .moved-first .ensures in
-    let g = c .before .before .before .moved-second .ensures in
-    (c .before .before .before .before .before .corrected-body .ensures .levels, f .0, g .0, place-near (s .pre .0) (s .args .s) (s .pre .4) (s .pre .5) _ _ (f .1) (g .1), record { first-long = s .pre .6 .first-long; second-long = s .pre .6 .second-long })
+    let f = c .before .before .before .before .moved .ensures in
+    let g = c .before .before .before .moved2 .ensures in
+    (c .before .before .before .before .before .corrected-body .ensures .levels, f .0, g .0, place-near (s .pre .0) (s .args .s) (s .pre .4) (s .pre .5) _ _ (f .1 ∙ first-moved (s .pre .0 .valid) (s .pre .2) _ _ (s .pre .3)) (g .1 ∙ second-moved (s .pre .0 .valid) (s .pre .2) _ _ (s .pre .4) (s .pre .3)), record { first-long = s .pre .6 .first-long; second-long = s .pre .6 .second-long })
 
 add-t16 : tie.Need-add-t16
 add-t16 c = let s = c .before .before .before .before .before .before .before .before .before .before .before .before .before .before .before .before .before in omega (arith, place-small (s .pre .0) (s .args .s) (s .pre .4) (s .pre .5), s .pre .4)
@@ -52,7 +59,7 @@ returns : tie.Need-returns
 returns c =
     let s = c .before .before .before .before .before .before .before .before .before .before .before .before .before .before .before .before .before in
     let p = c .before .before .before .before .before .before .before .before .before .before .corrected-body .ensures .parts in
-    answers-read _ _ (place-read (s .pre .0) (s .args .s) (s .pre .4) (s .pre .5) _ _ (c .before .before .before .before .before .before .before .before .before .moved-first .ensures .1) (c .before .before .before .before .before .before .before .before .moved-second .ensures .1) (c .before .before .before .before .before .before .before .before .before .before .before .before .balancing-symbol .ensures))
+    answers-read _ _ (place-read (s .pre .0) (s .args .s) (s .pre .4) (s .pre .5) _ _ (c .before .before .before .before .before .before .before .before .before .moved .ensures .1 ∙ first-moved (s .pre .0 .valid) (s .pre .2) _ _ (s .pre .3)) (c .before .before .before .before .before .before .before .before .moved2 .ensures .1 ∙ second-moved (s .pre .0 .valid) (s .pre .2) _ _ (s .pre .4) (s .pre .3)) (c .before .before .before .before .before .before .before .before .before .before .before .before .balancing-symbol .ensures))
     (written-of (p true) (p false) (c .before .before .before .before .write-pair .ensures)) refl
 
 pub correct-spec : {M : Type 1} → statement M
@@ -64,8 +71,10 @@ correct-spec =
     shared-slice-read-balancing-symbol
     balancing-symbol-requires
     corrected-body-requires
-    moved-first-requires
-    moved-second-requires
+    add-moved
+    moved-requires
+    add-moved-2
+    moved-requires-2
     write-pair-requires
     add-t16
     same-length
