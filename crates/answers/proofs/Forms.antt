@@ -1,8 +1,8 @@
 -- Reading a line: what the functions of src/form.rt find.
 -- Assumes nothing.
-use mathlib.Core.Path.{_≡_, refl, sym, ap, _∙_, subst}
+use mathlib.Core.Path.{_≡_, sym, ap, _∙_, subst}
 use mathlib.Core.Logic.{⊎-elim}
-use mathlib.Core.Bool.{Bool, true, false, _&&_}
+use mathlib.Core.Bool.{true, false, _&&_}
 use mathlib.Core.List.{List, [], _∷_, _++_, map, map-append}
 use Prim.Native.Nat.{ℕ, _+_, _-_, _%_, _≤_, _<_}
 use native.Mathlib.Nat.{add-comm}
@@ -17,10 +17,6 @@ use Rattle.stream.specs.Line.{isDigit, digitsOnly, value, symbolsOf, hasForm, i
 use Rattle.answers.specs.declared.form.Form.{Form}
 use Rattle.answers.specs.declared.form.Form.the-variants.{Good, Bad}
 use Rattle.answers.specs.Forms.{formOf, Valued, Higher, Symbols, Parsed}
-
-pub and-true : (b : Bool) → b ≡ b && true
-and-true true = refl
-and-true false = refl
 
 -- The value of a byte: 48 less, and round from 0 to 255.
 

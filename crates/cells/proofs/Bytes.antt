@@ -2,23 +2,27 @@
 -- Assumes nothing.
 use mathlib.Core.Path.{_≡_, refl, sym, ap, ap₂, _∙_}
 use mathlib.Core.Logic.{⊎-elim}
-use mathlib.Core.Bool.{Bool, false, _&&_}
+use mathlib.Core.Bool.{Bool, true, false, _&&_}
 use mathlib.Core.List.{List, [], _∷_, _++_, append-nil}
 use Prim.Native.Nat.{ℕ, zero, suc, _+_, _-_, _≤_, _<_}
 use native.Mathlib.Nat.{not-suc-le-zero, le-of-suc-le-suc}
 use native.Mathlib.Numerals.{add-one}
 use native.Mathlib.Omega.{arith}
-use lib.Dec.{ltb}
+use lib.Dec.{T, ltb}
 use lib.ListN.{length, getD, take, drop, set, replicate, drop-of-length-le}
 use lib.Seq.{take-all, drop-length}
 use borrow.Author.Tests.{ltb-false, lt-ltb}
-use Rattle.modular.proofs.Search.{le-or-lt}
+use Rattle.modular.proofs.Search.{holds, and-left, and-right, le-or-lt}
 use Rattle.sheet.specs.Lists.{zeros}
 use Rattle.cells.specs.Bytes.{copied}
 
 -- a part of n bytes from a on, as a range lends it
 pub part : (s : List ℕ) (a n : ℕ) → take (a + n - a) (drop a s) ≡ take n (drop a s)
 part s a n = let e : a + n - a ≡ n = omega arith in ap (λ (k : ℕ). take k (drop a s)) e
+
+-- both tests of a loop
+pub both : (a b : Bool) → (a && b) ≡ true → T a × T b
+both a b e = (and-left a b (holds (a && b) e), and-right a b (holds (a && b) e))
 
 -- a copy of the first i bytes goes on
 copy-here : (from to : List ℕ) (i : ℕ) → i < length from → i < length to → set (take i from ++ drop i to) i (getD from i 0) ≡ take (suc i) from ++ drop (suc i) to

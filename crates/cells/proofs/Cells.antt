@@ -11,12 +11,11 @@ use lib.ListN.{length, take, drop, set, length-drop}
 use lib.Seq.{length-take-le, drop-cons}
 use borrow.Rule.Slice.PartMut.{putMid}
 use borrow.Author.Tests.{lt-leb, eq-eqb}
-use Rattle.modular.proofs.Search.{and-left, and-right, and-intro, same-test}
+use Rattle.modular.proofs.Search.{and-left, and-right, and-intro, same-test, holds}
 use Rattle.sheet.specs.Lists.{zeros}
 use Rattle.sheet.specs.Layout.{bodySize, next, firstFree, body, setNext, setFirstFree, setBody}
 use Rattle.sheet.specs.Operations.{linked, shown, dequeued}
 use Rattle.cells.specs.Cells.{hasCell, writtenIf, shownAt, released}
-use Rattle.cells.proofs.Conditions.{holds}
 
 written-if : (b : Bool) (written before : List ℕ) → T b → writtenIf b written before ≡ written
 written-if true written before h = refl

@@ -1,3 +1,2 @@
-pub mod Conditions
 pub mod Bytes
 pub mod Cells

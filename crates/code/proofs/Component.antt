@@ -102,7 +102,7 @@ record Solution (p : Parameters) (a : List ℕ) (k : ℕ) : Type 0 where
 
 module _ (p : Parameters) (s : Sized p) (a : List ℕ) (w : T (isWord (p .q) (messageLength p) a)) where
   -- as many symbols as there are positions without a check symbol
-  message-fits : length a ≡ count (opposite (check p)) (p .n)
+  pub message-fits : length a ≡ count (opposite (check p)) (p .n)
   message-fits = omega (arith, word-length (p .q) (messageLength p) a w, check-count p s, count-not (check p) (p .n))
 
   message-below : Below (p .q) a

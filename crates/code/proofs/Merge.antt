@@ -21,7 +21,7 @@ cases true f g = f refl
 cases false f g = g refl
 
 -- the test from the second index on
-abbrev shift : (ℕ → Bool) → ℕ → Bool
+abbrev pub shift : (ℕ → Bool) → ℕ → Bool
 shift t i = t (suc i)
 
 -- the opposite test

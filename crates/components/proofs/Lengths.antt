@@ -17,7 +17,7 @@ use Rattle.code.specs.Profiles.{isProfile, profile, derivedRow}
 use Rattle.code.proofs.Pair.{length-interleaved}
 use Rattle.profiles.specs.declared.row.Row.{Row}
 use Rattle.profiles.specs.Row.{Valid, parameters, cells, RowOf}
-use Rattle.profiles.proofs.Table.{row-of-profile}
+use Rattle.profiles.proofs.Table.{row-of-profile, message-is}
 use Rattle.symbols.specs.Columns.{Columns, columnsOf}
 use Rattle.symbols.proofs.DigitRows.{columns-of-number}
 use Rattle.components.specs.Components.{padded, fits, componentsOf}
@@ -75,13 +75,9 @@ module _ (i : ℕ) (a b : List ℕ) where
 
   -- by the row that is asked for
   module _ (t : Row) (cellsAre : cells i t ≡ derivedRow i) {u : Bool} (test : u ≡ fits i (t .message) (length a) (length b)) where
-    message-is : t .message ≡ messageLength (profile i)
-    unfolding derivedRow
-    message-is = cc
-
     array-is : array u ≡ componentsOf i a b
     unfolding componentsOf
-    array-is = ap array (test ∙ ap (λ (m : ℕ). fits i m (length a) (length b)) message-is)
+    array-is = ap array (test ∙ ap (λ (m : ℕ). fits i m (length a) (length b)) (message-is i cellsAre))
 
     pub no-fit : u ≡ false → replicate 97 0 ≡ componentsOf i a b
     no-fit e = ap array (sym e) ∙ array-is

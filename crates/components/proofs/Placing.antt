@@ -14,7 +14,7 @@ use lib.Seq.{getD-drop, getD-set-same, getD-set-other, ext-getD}
 use Rattle.modular.proofs.Search.{le-or-lt}
 use Rattle.code.specs.Parameters.{Parameters, Sized, messageLength}
 use Rattle.code.specs.Component.{isCheck, checkAt, merge}
-use Rattle.code.proofs.Merge.{cases, opposite, count, count-not, length-merge, count-pass, count-fail}
+use Rattle.code.proofs.Merge.{cases, opposite, count, count-not, length-merge, count-pass, count-fail, shift}
 use Rattle.code.proofs.Reduced.{check, check-count}
 use Rattle.profiles.specs.declared.row.Row.{Row}
 use Rattle.symbols.specs.Syndromes.{part}
@@ -22,9 +22,7 @@ use Rattle.symbols.proofs.Parts.{part-first, part-second, part-length, part-siz
 use Rattle.symbols.proofs.Powers.{Ahead, ahead-first, ahead-power, ahead-other, check-two, check-power, check-neither}
 use Rattle.components.specs.Checks.{setAt, Placed}
 use Rattle.components.proofs.Interleaving.{set-first, set-second, set-head, set-past}
-
-abbrev shift : (ℕ → Bool) → ℕ → Bool
-shift t i = t (suc i)
+use Rattle.symbols.proofs.Words.{zeros-at}
 
 -- The symbols of a merged word.
 
@@ -114,11 +112,6 @@ pub record Pair (q r n : ℕ) (a b x : List ℕ) (power next position : ℕ) : T
   pub counted : next ≡ count (opposite (checkAt q r)) i
   first : Placing q r n a (part true n x) next i
   second : Placing q r n b (part false n x) next i
-
-zeros-at : (m k : ℕ) → getD {A = ℕ} (replicate m 0) k 0 ≡ 0
-zeros-at zero k = refl
-zeros-at (suc m) zero = refl
-zeros-at (suc m) (suc k) = zeros-at m k
 
 zeros-placed : (q r n : ℕ) (a : List ℕ) (b : Bool) → n ≤ 48 → Placing q r n a (part b n (replicate 97 0)) 0 0
 zeros-placed q r n a b h =

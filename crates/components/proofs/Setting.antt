@@ -6,7 +6,7 @@ use mathlib.Core.List.{List, [], _∷_}
 use Prim.Native.Nat.{ℕ, zero, suc, _+_, _-_, _*_, _^_, _≤_, _<_}
 use native.Mathlib.Nat.{pow-zero, pow-suc}
 use native.Mathlib.Omega.{arith}
-use lib.ListN.{getD, set}
+use lib.ListN.{getD}
 use Rattle.modular.specs.Residue.{Congruent}
 use Rattle.modular.proofs.Residue.{of-eq, same, add, _then_, minus-add}
 use Rattle.code.proofs.Reduced.{place-below, power-position}

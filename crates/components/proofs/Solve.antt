@@ -4,7 +4,7 @@ use mathlib.Core.Path.{_≡_, refl, sym, ap, ap₂, _∙_}
 use mathlib.Core.Logic.{_≢_}
 use mathlib.Core.List.{List, [], _∷_, _++_}
 use Prim.Native.Nat.{ℕ, zero, suc, _+_, _-_, _*_, _/_, _%_, _^_, _≤_, _<_, zero-le, suc-le-suc}
-use native.Mathlib.Nat.{zero-mod, zero-div, pow-zero, pow-suc, zero-add, suc-add, add-zero, add-comm, div-lt-iff-lt-mul, le-refl, le-of-suc-le-suc, not-suc-le-zero, le-trans, mul-zero}
+use native.Mathlib.Nat.{pow-zero, pow-suc, zero-add, suc-add, add-zero, add-comm, div-lt-iff-lt-mul, le-refl, le-of-suc-le-suc, not-suc-le-zero, le-trans, mul-zero}
 use native.Mathlib.Omega.{arith}
 use native.Mathlib.Decide.{ℕ-discrete}
 use lib.Dec.{T, T-not}
@@ -16,7 +16,7 @@ use Rattle.modular.specs.Digits.{digits}
 use Rattle.modular.specs.Residue.{Congruent}
 use Rattle.modular.proofs.Search.{passes}
 use Rattle.modular.proofs.Sum.{dot-set-one, dot-set-zero, dot-same, dot-add, dot-scale, weight-zeros}
-use Rattle.modular.proofs.Digits.{length-digits}
+use Rattle.modular.proofs.Digits.{length-digits, digits-zero}
 use Rattle.modular.proofs.Residue.{of-eq, same, symm, _then_, add, scale, reduce, multiple, cancel}
 use Rattle.code.specs.Parameters.{Parameters, Sized, messageLength}
 use Rattle.code.specs.Component.{symbolsBelow, isWord, checkRow, syndrome, message, merge, component}
@@ -24,20 +24,16 @@ use Rattle.code.proofs.Symbols.{symbols-below, symbols-set}
 use Rattle.code.proofs.Syndrome.{zero-code}
 use Rattle.code.proofs.Columns.{last-row, digit-row, q-positive}
 use Rattle.code.proofs.Weights.{times-pred}
-use Rattle.code.proofs.Merge.{opposite, word-length, word-below, word-of, below-merge, count, length-merge, keep-merge, keep-set}
+use Rattle.code.proofs.Merge.{opposite, word-below, word-of, below-merge, length-merge, keep-merge, keep-set}
 use Rattle.code.proofs.Reduced.{check, place, row, reducedTwo, reduced, place-below, place-check, place-injective, row-two-first, row-two-other, reduced-same, reduced-other, rows-reduced}
-use Rattle.code.proofs.Component.{unique, component-holding}
+use Rattle.code.proofs.Component.{unique, component-holding, message-fits}
 use Rattle.components.specs.Checks.{checkPosition, checked, Solves}
-use Rattle.components.proofs.Placing.{merge-check, message-count}
+use Rattle.components.proofs.Placing.{merge-check}
 
 -- Three digits, where fewer are asked for.
 
-digits-none : (q j : ℕ) → digits q j 0 ≡ replicate j 0
-digits-none q zero = refl
-digits-none q (suc j) = rw (zero-mod, zero-div, digits-none q j)
-
 digits-more : (q k j i : ℕ) → 1 ≤ q → i < q ^ k → digits q (k + j) i ≡ digits q k i ++ replicate j 0
-digits-more q zero j i h l = rw (zero-add, lt-one (rw pow-zero at l)) (digits-none q j)
+digits-more q zero j i h l = rw (zero-add, lt-one (rw pow-zero at l)) (digits-zero q j)
 digits-more q (suc k) j i h l =
     rw suc-add (ap (λ (d : List ℕ). i % q ∷ d) (digits-more q k j (i / q) h (div-lt-iff-lt-mul h .1 (rw pow-suc at l))))
 
@@ -161,14 +157,11 @@ module _ (p : Parameters) (s : Sized p) (a : List ℕ) (w : T (isWord (p .q) (me
         below =
             symbols-below (p .q) (bare p a)
             (λ i l. below-merge (p .q) (check p) (p .n) [] a (λ j. q-positive p s) (word-below (p .q) (messageLength p) a (q-positive p s) w) i);
-        holds = keep-merge (check p) (p .n) [] a fits;
+        holds = keep-merge (check p) (p .n) [] a (message-fits p s a w);
         vanish = λ l h. absurd (not-suc-le-zero h);
         kept = λ l h g. same (dot (reduced p l) (bare p a));
         zeros = λ l h g. merge-check (check p) (p .n) [] a (place p l) (place-below p s l g) (passes (place-check p s l g));
       }
-    where
-      fits : length a ≡ count (opposite (check p)) (p .n)
-      fits = word-length (p .q) (messageLength p) a w ∙ message-count p s
 
   filled-more : {c d : List ℕ} {k : ℕ} → Filling p a c d k → k < p .r → (y : ℕ) → y < p .q → Congruent (p .q) (y + dot (reduced p k) c) 0
       → Filling p a c (set d (place p k) y) (suc k)

@@ -8,14 +8,14 @@ use native.Mathlib.Omega.{arith}
 use lib.Dec.{T}
 use lib.ListN.{getD, set}
 use borrow.Author.Tests.{lt-ltb, le-ltb}
-use Rattle.modular.proofs.Search.{least-hit}
+use Rattle.modular.proofs.Search.{least-hit, holds}
 use Rattle.code.specs.Parameters.{Parameters, balancedLength}
 use Rattle.code.specs.Codeword.{received}
 use Rattle.code.specs.Reading.{Kind, corrected, Reading, unreadable}
 use Rattle.code.specs.Operations.{Answer, refused, answered, success, decodeAnswer}
 use Rattle.decoding.specs.Syndromes.{nearSyndromes, index, movedFirst, movedSecond}
 use Rattle.decoding.specs.Decoded.{Sums, checkIndex, lack, balancingSymbol, inRange, offByLack, nearAfter, fits, places, firstFit, readBy, readFit, decodedBody, decodedCheck, agrees, decodedBalanced, decodedUnbalanced}
-use Rattle.decoding.proofs.Tests.{true-test, three-parts}
+use Rattle.decoding.proofs.Tests.{three-parts}
 use Rattle.syndromes.specs.declared.checks.Verdict as verdicts
 use Rattle.syndromes.specs.declared.checks.Verdict.the-variants as told
 use Rattle.syndromes.specs.Verdict.{verdictOf}
@@ -23,7 +23,8 @@ use Rattle.decoder.specs.declared.reader.Decoded.{Decoded}
 use Rattle.decoder.specs.declared.reader.Decoded.the-variants.{Clean, Corrected, Unreadable, Refused}
 use Rattle.decoder.specs.Sides.{isFirst}
 use Rattle.decoder.specs.Written.{Written}
-use Rattle.decoder.specs.Decode.{decodedReport, Numbered, Answers, Judged, wrongParity}
+use Rattle.decoder.specs.Decode.{decodedReport, Numbered, Answers}
+use Rattle.decoder.specs.Steps.{Judged, wrongParity}
 
 -- What is answered.
 
@@ -70,9 +71,9 @@ module _ (p : Parameters) (s : Sums) where
       → Judged p s (verdictAnswer (balancedLength p) s (verdictOf near a b))
   unfolding decodedBalanced decodedCheck
   judged-by false a b n e f = λ v. rw (n, decodedBalanced)
-  judged-by true true true n e f = (true-test n, λ v. rw (n, decodedBalanced, e, f))
-  judged-by true true false n e f = let g : balancedLength p + 2 ≡ checkIndex p false + 1 = omega arith in (true-test n, λ v. rw (n, decodedBalanced, e, f, g))
-  judged-by true false true n e f = (true-test n, λ v. rw (n, decodedBalanced, e, f))
+  judged-by true true true n e f = (holds _ n, λ v. rw (n, decodedBalanced, e, f))
+  judged-by true true false n e f = let g : balancedLength p + 2 ≡ checkIndex p false + 1 = omega arith in (holds _ n, λ v. rw (n, decodedBalanced, e, f, g))
+  judged-by true false true n e f = (holds _ n, λ v. rw (n, decodedBalanced, e, f))
   judged-by true false false n e f = λ v. rw (n, decodedBalanced, e, f)
 
   pub judged-as : {m : ℕ} → m ≡ balancedLength p → {near : Bool} → near ≡ nearSyndromes p (s .first) (s .second)

@@ -11,14 +11,11 @@ use lib.ListN.{length, getD, take, drop, set, drop-of-length-le, length-set}
 use lib.Seq.{drop-cons, set-at, length-take-le}
 use Rattle.code.specs.Parameters.{messageLength}
 use Rattle.code.specs.Component.{isCheck, checkAt, keep, message}
-use Rattle.code.proofs.Merge.{cases, count, count-not, length-keep, count-pass, count-fail}
+use Rattle.code.proofs.Merge.{cases, count, count-not, length-keep, count-pass, count-fail, shift}
 use Rattle.code.proofs.Reduced.{check-count}
 use Rattle.profiles.specs.declared.row.Row.{Row}
 use Rattle.profiles.specs.Row.{parameters, Valid}
 use Rattle.decoder.specs.Written.{run}
-
-abbrev shift : (ℕ → Bool) → ℕ → Bool
-shift t i = t (suc i)
 
 -- What is kept of one symbol more.
 

@@ -12,13 +12,13 @@ use lib.Dec.{eqb}
 use lib.ListN.{getD}
 use Rattle.modular.specs.Search.{least}
 use Rattle.modular.specs.Residue.{minus}
-use Rattle.modular.proofs.Search.{least-is, least-le, least-hit, le-or-lt}
-use Rattle.modular.proofs.Residue.{of-eq, _then_, reduce}
+use Rattle.modular.proofs.Search.{least-is, least-le, least-hit, le-or-lt, holds}
+use Rattle.modular.proofs.Residue.{of-eq, _then_, reduce, minus-is}
 use Rattle.code.specs.Parameters.{Parameters}
 use Rattle.code.proofs.Columns.{q-positive}
 use Rattle.decoding.specs.Syndromes.{nearSyndromes, index, moved, movedFirst, movedSecond}
 use Rattle.decoding.specs.Decoded.{Sums, lack, inRange, offByLack, nearAfter, fits, places, firstFit}
-use Rattle.decoding.proofs.Tests.{true-test, false-test}
+use Rattle.decoding.proofs.Tests.{false-test}
 use Rattle.profiles.specs.declared.row.Row.{Row}
 use Rattle.decoder.specs.declared.totals.Totals.{Totals}
 use Rattle.profiles.specs.Row.{parameters, Valid}
@@ -26,7 +26,6 @@ use Rattle.decoder.specs.Level.{Multiples}
 use Rattle.decoder.specs.Sides.{isFirst}
 use Rattle.decoder.specs.Totals.{sumsOf, Totalled}
 use Rattle.decoder.specs.Place.{factor, Moves}
-use Rattle.decoder.proofs.Bytes.{minus-is}
 use Rattle.decoder.proofs.Moving.{moved-congruent}
 
 -- Parities by number.
@@ -131,7 +130,7 @@ module _ (p : Parameters) (S : Sums) (word : List ℕ) (parity : ℕ) (h : parit
   unfolding firstFit
   first-found k l f e =
       let m : k < places p (isFirst parity) = omega (arith, places-are p parity h) in (
-        least-is (λ k. fits p S (isFirst parity) k (getD word (index (isFirst parity) k) 0)) (places p (isFirst parity)) k m (true-test (same k ∙ e))
+        least-is (λ k. fits p S (isFirst parity) k (getD word (index (isFirst parity) k) 0)) (places p (isFirst parity)) k m (holds _ (same k ∙ e))
             (λ j i. false-test (same j ∙ f j i)),
         m,
       )

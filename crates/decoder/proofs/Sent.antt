@@ -7,10 +7,9 @@ use Prim.Native.Nat.{ℕ, _+_, _-_, _≤_, _<_}
 use native.Mathlib.Omega.{arith}
 use lib.Dec.{T, leb, ltb, ltb→lt}
 use borrow.Author.Tests.{le-leb, lt-leb, lt-ltb, le-ltb}
-use Rattle.modular.proofs.Search.{and-right, passes}
+use Rattle.modular.proofs.Search.{and-right, passes, holds}
 use Rattle.code.specs.Parameters.{Parameters}
 use Rattle.decoding.specs.Decoded.{Sums, target, balancingSymbol, inRange}
-use Rattle.decoding.proofs.Tests.{true-test}
 use Rattle.profiles.specs.declared.row.Row.{Row}
 use Rattle.profiles.specs.Row.{parameters, Valid}
 use Rattle.decoder.specs.declared.totals.Totals.{Totals}
@@ -49,7 +48,7 @@ module _ (p : Parameters) (s : Sums) (x : ℕ) where
   sent-none e = go (inRange p s x) refl
     where
       go : (b : Bool) → inRange p s x ≡ b → inRange p s x ≡ false
-      go true f = absurd (let l = sent-is (true-test f) .1 in omega arith)
+      go true f = absurd (let l = sent-is (holds _ f) .1 in omega arith)
       go false f = f
 
   pub sent-some : symbolSent p s x ≢ p .q → inRange p s x ≡ true

@@ -3,7 +3,7 @@
 use mathlib.Core.Path.{_≡_, sym, ap, ap₂, _∙_, fun-ext}
 use mathlib.Core.Bool.{Bool, true, false}
 use mathlib.Core.List.{List}
-use Prim.Native.Nat.{ℕ, _+_, _-_, _*_, _%_, _≤_, _<_, min}
+use Prim.Native.Nat.{ℕ, _+_, _-_, _*_, _%_, _≤_, min}
 use native.Mathlib.Nat.{mul-le-mul, mod-lt, min-eq-left}
 use native.Mathlib.Omega.{arith}
 use lib.ListN.{length, getD, take}
@@ -12,6 +12,7 @@ use Rattle.code.specs.Parameters.{balancedLength, balancingValue, delta}
 use Rattle.code.specs.Codeword.{alternate, alpha, beta, body, received}
 use Rattle.code.proofs.Columns.{q-positive}
 use Rattle.code.proofs.Lawful.{length-body}
+use Rattle.code.proofs.Delta.{alternate-weight}
 use Rattle.decoding.specs.Syndromes.{syndromes}
 use Rattle.decoding.specs.Decoded.{sums, checkSymbol, checkIndex, target, lack}
 use Rattle.profiles.specs.declared.row.Row.{Row}
@@ -20,7 +21,6 @@ use Rattle.symbols.specs.Remainder.{residue}
 use Rattle.symbols.specs.Columns.{Columns}
 use Rattle.symbols.specs.Syndromes.{rows, part, rowSums}
 use Rattle.symbols.proofs.Reduce.{residue-is}
-use Rattle.symbols.proofs.Words.{weight-alternate}
 use Rattle.symbols.proofs.Parts.{part-length}
 use Rattle.symbols.proofs.Rows.{sums-are}
 use Rattle.syndromes.specs.declared.checks.Checks.{Checks}
@@ -30,11 +30,7 @@ use Rattle.decoder.specs.Totals.{Apart, checkOf, sumsOf, Totalled}
 use Rattle.decoder.proofs.Levels.{symbols-take, weight-small}
 use Rattle.decoder.proofs.FourRows.{four-rows}
 use Rattle.decoder.proofs.Restoring.{four-are}
-
-check-below : (q : ℕ) → 1 ≤ q → (b : Bool) (w : List ℕ) → checkSymbol q b w < q
-unfolding alpha beta
-check-below q h true w = mod-lt _ h
-check-below q h false w = mod-lt _ h
+use Rattle.decoding.proofs.Outcomes.{check-below}
 
 pub middle-is : {t : Row} → Valid t → t .middle ≡ target (parameters t)
 middle-is {t} v = v .middle ∙ ap (balancingValue (t .q)) (v .balanced)
@@ -75,7 +71,7 @@ module _ {t : Row} {word w x : List ℕ} (a : Apart t word w x) where
   module _ {odd even : ℕ} (e : odd ≡ weight (alternate true (take (min (t .balanced) 97) w)))
       (f : even ≡ weight (alternate false (take (min (t .balanced) 97) w))) where
     pub weight-is : odd + even ≡ weight (body (parameters t) word)
-    weight-is = rw (e, f, copy-is) (weight-alternate (body (parameters t) word))
+    weight-is = rw (e, f, copy-is) (alternate-weight (body (parameters t) word))
 
     pub weight-light : odd + even ≤ 1358
     weight-light = omega (arith, weight-is, body-light)

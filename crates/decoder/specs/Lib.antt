@@ -6,4 +6,5 @@ pub mod Totals
 pub mod Place
 pub mod Written
 pub mod Decode
+pub mod Steps
 pub mod Claims

@@ -28,7 +28,8 @@ ghost use Rattle.decoder.specs.Totals.{Word, sumsOf, Totalled};
 ghost use Rattle.decoder.specs.Sides.{isFirst};
 ghost use Rattle.decoder.specs.Place.{Located, Moves};
 ghost use Rattle.decoder.specs.Written.{Outputs};
-ghost use Rattle.decoder.specs.Decode.{Judged, wrongParity, Answers, BalancedAnswers};
+ghost use Rattle.decoder.specs.Decode.{Answers};
+ghost use Rattle.decoder.specs.Steps.{Judged, wrongParity, BalancedAnswers};
 
 // What a received word is read as; the outputs hold its messages where it is clean or corrected.
 pub enum Decoded {

@@ -10,13 +10,13 @@ use lib.Dec.{T, eqb, ltb}
 use lib.ListN.{getD}
 use borrow.Author.Tests.{eqb-true, eqb-false, ltb-true, ltb-false}
 use Rattle.modular.specs.Residue.{Prime}
-use Rattle.modular.proofs.Search.{least-hit, least-some}
+use Rattle.modular.proofs.Search.{least-hit, least-some, holds}
 use Rattle.code.specs.Parameters.{Parameters, Sized, codewordLength}
 use Rattle.code.specs.Component.{isWord}
 use Rattle.code.specs.Reading.{reading}
 use Rattle.decoding.specs.Syndromes.{nearSyndromes, index}
 use Rattle.decoding.specs.Decoded.{Sums, target, fits, places, firstFit, decodedBody, agrees, decodedBalanced, decodedUnbalanced, decodedBy, decoded}
-use Rattle.decoding.proofs.Tests.{true-test, false-test, both}
+use Rattle.decoding.proofs.Tests.{false-test, both}
 use Rattle.decoding.proofs.Changed.{Summed, summed}
 use Rattle.decoding.proofs.Outcomes.{clean-reading, check-reading, fit-reading, far-refused, checks-refused, right-refused, wrong-refused, unfit-refused}
 
@@ -51,11 +51,11 @@ module _ (p : Parameters) (s : Sized p) (prime : Prime (p .q)) {v : List ℕ} (w
     where
       go : (n c d : Bool) → nearSyndromes p (t .first) (t .second) ≡ n → agrees t true ≡ c → agrees t false ≡ d → decodedBalanced p t v ≡ reading p v
       go false c d e f g = rw (e, decodedBalanced) (sym (far-refused p s prime w m a (false-test e)))
-      go true true true e f g = rw (e, decodedBalanced, f, g) (sym (clean-reading p s prime w m a (true-test e) (agree f g)))
+      go true true true e f g = rw (e, decodedBalanced, f, g) (sym (clean-reading p s prime w m a (holds _ e) (agree f g)))
       go true true false e f g =
-          rw (e, decodedBalanced, f, g) (sym (check-reading p s prime w m false a (true-test e) (eqb-true _ _ f) (eqb-false _ _ g)))
+          rw (e, decodedBalanced, f, g) (sym (check-reading p s prime w m false a (holds _ e) (eqb-true _ _ f) (eqb-false _ _ g)))
       go true false true e f g =
-          rw (e, decodedBalanced, f, g) (sym (check-reading p s prime w m true a (true-test e) (eqb-true _ _ g) (eqb-false _ _ f)))
+          rw (e, decodedBalanced, f, g) (sym (check-reading p s prime w m true a (holds _ e) (eqb-true _ _ g) (eqb-false _ _ f)))
       go true false false e f g = rw (e, decodedBalanced, f, g) (sym (checks-refused p s prime w m a (disagree f g)))
 
   unbalanced-decoded : t .weighs ≢ target p → decodedUnbalanced p t v ≡ reading p v

@@ -14,7 +14,7 @@ use Rattle.modular.specs.Search.{allBelow}
 use Rattle.modular.specs.Sum.{dot}
 use Rattle.modular.specs.Residue.{Congruent}
 use Rattle.modular.specs.Digits.{digits}
-use Rattle.modular.proofs.Search.{eq-test, same-test, all-at, all-of, or-cases, or-left, or-right}
+use Rattle.modular.proofs.Search.{eq-test, same-test, all-at, all-of, or-cases, or-left, or-right, holds}
 use Rattle.modular.proofs.Residue.{of-eq, symm, _then_, reduce, small}
 use Rattle.modular.proofs.Digits.{digits-below}
 use Rattle.code.specs.Parameters.{Parameters, Sized}
@@ -24,7 +24,7 @@ use Rattle.code.proofs.Syndrome.{Zero, ColumnOf, code-zero, zero-code, near-cas
 use Rattle.code.proofs.Columns.{q-positive, last-row, last-below, digit-row}
 use Rattle.code.proofs.Restored.{restored-zero, restored-column}
 use Rattle.decoding.specs.Syndromes.{syndromes, zeroSyndrome, columnPosition, columnSyndrome, nearSyndrome, restoredBy}
-use Rattle.decoding.proofs.Tests.{and-three, three-parts, true-test}
+use Rattle.decoding.proofs.Tests.{and-three, three-parts}
 use Rattle.decoding.proofs.Value.{tabulate-at, length-tabulate, Digits, digits-value, value-digits}
 
 -- the list begins with the syndrome of c
@@ -160,5 +160,5 @@ module _ (p : Parameters) (s : Sized p) {c S : List ℕ} (w : Rows p c S) where
     restored-by t = go (zeroSyndrome p S) refl t
       where
         go : (b : Bool) → zeroSyndrome p S ≡ b → T (b || columnSyndrome p S) → restoredBy p S c ≡ restored p c
-        go true e k = restored-as-is p S c e ∙ sym (restored-zero p s c n (code-zero p c (subst T (zero-test w) (true-test e))))
+        go true e k = restored-as-is p S c e ∙ sym (restored-zero p s c n (code-zero p c (subst T (zero-test w) (holds _ e))))
         go false e k = restored-lowered p S c e ∙ sym (restored-column p s c n (columnPosition p S - 1) (position-within k) (column-named k))

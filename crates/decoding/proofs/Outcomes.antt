@@ -28,7 +28,7 @@ use Rattle.decoding.proofs.Changed.{index-within, check-within, body-ke
 use Rattle.decoding.proofs.Fits.{Fit, fit, word-set, fit-codeword}
 use Rattle.decoding.proofs.Nearby.{Nearby, as-sent, check-changed, body-changed, received-kept, components-kept, near-is, none-nearby}
 
-check-below : (q : ℕ) → 1 ≤ q → (b : Bool) (w : List ℕ) → checkSymbol q b w < q
+pub check-below : (q : ℕ) → 1 ≤ q → (b : Bool) (w : List ℕ) → checkSymbol q b w < q
 unfolding alpha beta
 check-below q h true w = mod-lt _ h
 check-below q h false w = mod-lt _ h

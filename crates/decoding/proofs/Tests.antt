@@ -1,6 +1,6 @@
 -- Laws of tests that the searches of crate modular do not have, by cases.
 -- Assumes nothing.
-use mathlib.Core.Path.{_≡_, subst, sym}
+use mathlib.Core.Path.{_≡_, subst}
 use mathlib.Core.Bool.{Bool, true, false, not, _&&_}
 use lib.Dec.{T}
 
@@ -15,10 +15,7 @@ three-parts true true c h = (tt, tt, h)
 three-parts true false c h = absurd h
 three-parts false b c h = absurd h
 
--- a test that has the value true or false
-pub true-test : {b : Bool} → b ≡ true → T b
-true-test e = subst T (sym e) tt
-
+-- a test that has the value false
 pub false-test : {b : Bool} → b ≡ false → T b → ⊥
 false-test e t = subst T e t
 

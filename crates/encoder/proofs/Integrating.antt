@@ -17,7 +17,7 @@ use Rattle.code.specs.Balance.{addAt, integrate, chosen, earliestS, earliestV, 
 use Rattle.code.proofs.Balance.{length-integrate}
 use Rattle.code.proofs.Symbols.{symbol-below}
 use Rattle.code.proofs.Alternate.{integrate-below}
-use Rattle.symbols.proofs.Words.{weight-take}
+use Rattle.symbols.proofs.Words.{weight-take, zeros-at}
 use Rattle.encoder.specs.Symbols.{Symbols, Light, Summed}
 
 -- The sums.
@@ -30,11 +30,6 @@ pub record Summing (m : ℕ) (x sums : List ℕ) (sum i : ℕ) : Type 0 where
   pub bound : sum ≤ 15 * i
   pub at : (k : ℕ) → k < i → getD sums k 0 ≡ weight (take (suc k) x)
   pub small : (k : ℕ) → getD sums k 0 ≤ 1455
-
-zeros-at : (m k : ℕ) → getD {A = ℕ} (replicate m 0) k 0 ≡ 0
-zeros-at zero k = refl
-zeros-at (suc m) zero = refl
-zeros-at (suc m) (suc k) = zeros-at m k
 
 pub summing-none : (m : ℕ) (x : List ℕ) → Summing m x (replicate 97 0) 0 0
 summing-none m x =

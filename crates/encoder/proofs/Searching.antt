@@ -1,7 +1,7 @@
 -- The search for the earliest balancing choice over the integrated word: s from 0 up and, for each s, v from 1 up, with the weight carried from v
 -- to v + 1.
 -- Assumes nothing.
-use mathlib.Core.Path.{_≡_, refl, sym, ap, ap₂, _∙_}
+use mathlib.Core.Path.{_≡_, sym, ap, ap₂, _∙_}
 use mathlib.Core.Logic.{_≢_, inl, inr, ⊎-elim}
 use mathlib.Core.List.{List, [], _∷_}
 use Prim.Native.Nat.{ℕ, zero, suc, _+_, _-_, _*_, _/_, _%_, _≤_, _<_, zero-le}
@@ -19,6 +19,7 @@ use Rattle.code.proofs.Balance.{shifted, shiftedFrom, chosen-shifted, length-in
 use Rattle.profiles.specs.declared.row.Row.{Row}
 use Rattle.profiles.specs.Row.{Valid}
 use Rattle.encoder.specs.Symbols.{Integral, Chosen}
+use Rattle.symbols.proofs.Words.{zeros-at}
 
 -- the weight of the choice s, i + 1; past the last position nothing is added but s
 abbrev pub weightAt : ℕ → List ℕ → ℕ → ℕ → ℕ
@@ -60,11 +61,6 @@ gain-top q s h = getD-set-same (replicate 16 0) (q - 1 - s) q 0 (omega arith)
 
 gain-other : (q s y : ℕ) → y ≢ q - 1 - s → getD (gains q s) y 0 ≡ 0
 gain-other q s y n = getD-set-other (replicate 16 0) (q - 1 - s) y q 0 n ∙ zeros-at 16 y
-  where
-    zeros-at : (m k : ℕ) → getD {A = ℕ} (replicate m 0) k 0 ≡ 0
-    zeros-at zero k = refl
-    zeros-at (suc m) zero = refl
-    zeros-at (suc m) (suc k) = zeros-at m k
 
 pub weight-next : (q s : ℕ) (d : List ℕ) (i : ℕ) → q ≤ 15 → s < q → i < length d → getD d i 0 < q → {g : ℕ} → g ≡ getD (gains q s) (getD d i 0) 0
     → weightAt q d s i + g ≡ suc (weightAt q d s (suc i))

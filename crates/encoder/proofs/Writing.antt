@@ -13,11 +13,11 @@ use Rattle.modular.specs.Sum.{weight}
 use Rattle.code.specs.Parameters.{delta}
 use Rattle.code.specs.Codeword.{alternate, alpha, beta, withChecks}
 use Rattle.code.proofs.Columns.{q-positive}
+use Rattle.code.proofs.Delta.{alternate-weight}
 use Rattle.profiles.specs.declared.row.Row.{Row}
 use Rattle.profiles.specs.Row.{parameters, Valid}
 use Rattle.symbols.specs.Remainder.{residue}
 use Rattle.symbols.proofs.Reduce.{residue-is}
-use Rattle.symbols.proofs.Words.{weight-alternate}
 use Rattle.encoder.specs.Symbols.{Symbols}
 
 -- Copying.
@@ -83,7 +83,7 @@ module _ (t : Row) (valid : Valid t) (w : List ℕ) (room : length w ≡ 97) whe
       let f : sum ≡ weight (alternate true l) = rw (min-eq-left long) at e in
       let b : weight l ≤ 15 * length l =
       weight-bound l (λ i h. let g : getD l i 0 < t .q = rw (getD-take (t .balanced) w i 0 (omega (arith, size))) (y .below i (omega (arith, size))) in omega (arith, y .levels)) in
-      omega (arith, weight-alternate l, size, long)
+      omega (arith, alternate-weight l, size, long)
 
 -- The word with them.
 

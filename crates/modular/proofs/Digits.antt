@@ -41,7 +41,7 @@ digits-onto q (x ∷ xs) h =
     let k : digits q (length xs) ((i * q + x) / q) ≡ xs = rw digits-div e in
     (i * q + x, rw pow-suc (digits-lt l b), ap₂ (λ (y : ℕ) (z : List ℕ). y ∷ z) (digits-mod i b) k)
 
-digits-zero : (q k : ℕ) → digits q k 0 ≡ replicate k 0
+pub digits-zero : (q k : ℕ) → digits q k 0 ≡ replicate k 0
 digits-zero q zero = refl
 digits-zero q (suc k) = rw (zero-mod, zero-div, digits-zero q k)
 

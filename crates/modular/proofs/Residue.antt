@@ -101,6 +101,23 @@ minus-add q a zero h =
     add (reduce q (a + 0)) (same 0) then of-eq e
 minus-add q a (suc b) h = below-case q a b h (ltb a (suc b)) refl
 
+-- to take b away is to add q - b
+pub minus-is : (q a b : ℕ) → 1 ≤ q → b ≤ q → (a + (q - b)) % q ≡ minus q a b
+minus-is q a b h k =
+    let e : a + (q - b) + b ≡ a + 1 * q = omega arith in
+    small (mod-lt (a + (q - b)) h) (minus-below q a b h)
+    (cancel b (add (reduce q (a + (q - b))) (same b) then of-eq e then multiple q a 1 then symm (minus-add q a b h)))
+
+-- a number below q is its own remainder, and one below twice q is once it is less by q
+pub kept : {q s : ℕ} → s < q → (s ≡ s % q) × (s < q)
+kept h = (sym (mod-eq-of-lt h), h)
+
+pub wrapped : {q s : ℕ} → q ≤ s → s < q + q → (s - q ≡ s % q) × (s - q < q)
+wrapped {q} {s} h l =
+    let m : s - q < q = omega arith in
+    let e : s ≡ s - q + 1 * q = omega arith in
+    (sym (ap (λ (x : ℕ). x % q) e ∙ add-mul-mod-self-right (s - q) 1 q ∙ mod-eq-of-lt m), m)
+
 -- q is k * e + r, so (q - 1) * k times e is r mod q, and an inverse of r gives one of e
 inverse-step : {q : ℕ} (s k e r j : ℕ) → suc s ≡ q → r + k * e ≡ q → Congruent q (r * j) 1 → Congruent q (e * (s * k * j)) 1
 inverse-step {q} s k e r j es er c =

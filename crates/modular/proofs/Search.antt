@@ -1,6 +1,6 @@
 -- Laws of the tests and searches of specs/Search.antt, by induction on the bound.
 -- Assumes nothing.
-use mathlib.Core.Path.{_≡_, refl, subst}
+use mathlib.Core.Path.{_≡_, refl, sym, subst}
 use mathlib.Core.Bool.{Bool, true, false, _&&_, _||_}
 use mathlib.Core.Logic.{_⊎_, inl, inr, ⊎-elim}
 use Prim.Native.Nat.{ℕ, zero, suc, _≤_, _<_, zero-le, suc-le-suc}
@@ -14,6 +14,9 @@ use Rattle.modular.specs.Search.{allBelow, least, anyBelow}
 pub decide : (b : Bool) → T b ⊎ (T b → ⊥)
 decide true = inl tt
 decide false = inr (λ h. h)
+
+pub holds : (b : Bool) → b ≡ true → T b
+holds b e = subst T (sym e) tt
 
 pub and-intro : (a b : Bool) → T a → T b → T (a && b)
 and-intro true b h k = k

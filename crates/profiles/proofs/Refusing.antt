@@ -8,7 +8,7 @@ use mathlib.Core.List.{List}
 use Prim.Native.Nat.{ℕ, _≤_}
 use native.Mathlib.Omega.{arith}
 use lib.Dec.{T, eqb, eqb→eq}
-use lib.ListN.{length, getD}
+use lib.ListN.{length}
 use Rattle.modular.proofs.Search.{eq-test, and-intro, and-left, and-right}
 use Rattle.code.specs.Parameters.{messageLength, codewordLength}
 use Rattle.code.specs.Component.{symbolsBelow, isWord}
@@ -18,7 +18,7 @@ use Rattle.code.specs.Operations.{Answer, refused, answered, encodeRefusal, dec
 use Rattle.profiles.specs.declared.row.Row.{Row}
 use Rattle.profiles.specs.Row.{cells}
 use Rattle.profiles.specs.Refusal.{refusalNumber}
-use Rattle.profiles.proofs.Table.{profile-fits}
+use Rattle.profiles.proofs.Table.{profile-fits, levels-are, message-is, codeword-is}
 
 -- the number by the three tests
 abbrev number : Bool → Bool → Bool → ℕ
@@ -64,20 +64,6 @@ three-lengths : (x y z a b c : ℕ) → T (eqb x a && eqb y b && eqb z c) → (x
 three-lengths x y z a b c h =
     let two : T (eqb x a && eqb y b) = and-left (eqb x a && eqb y b) (eqb z c) h in
     (eqb→eq x a (and-left (eqb x a) (eqb y b) two), eqb→eq y b (and-right (eqb x a) (eqb y b) two), eqb→eq z c (and-right (eqb x a && eqb y b) (eqb z c) h))
-
--- the numbers of the profile's row that the code tests by
-module _ (i : ℕ) {t : Row} (same : cells i t ≡ derivedRow i) where
-  levels-are : t .q ≡ profile i .q
-  unfolding derivedRow
-  levels-are = ap (λ (l : List ℕ). getD l 1 0) same
-
-  message-is : t .message ≡ messageLength (profile i)
-  unfolding derivedRow
-  message-is = ap (λ (l : List ℕ). getD l 4 0) same
-
-  codeword-is : t .codeword ≡ codewordLength (profile i)
-  unfolding derivedRow
-  codeword-is = ap (λ (l : List ℕ). getD l 6 0) same
 
 -- Encoding: the messages a and b, and an output of l symbols.
 

@@ -1,6 +1,6 @@
 -- The table of profiles, by one test that is computed over its rows.
 -- Assumes nothing.
-use mathlib.Core.Path.{_≡_}
+use mathlib.Core.Path.{_≡_, ap}
 use mathlib.Core.Logic.{⊎-elim}
 use mathlib.Core.Bool.{Bool, _&&_}
 use mathlib.Core.List.{List, [], _∷_, _++_, map}
@@ -10,7 +10,7 @@ use lib.Dec.{T, eqb, leb, eqb→eq, leb→le}
 use lib.ListN.{getD, List·getD-eq-default}
 use Rattle.modular.specs.Search.{allBelow}
 use Rattle.modular.proofs.Search.{all-at, and-left, and-right, le-or-lt}
-use Rattle.code.specs.Parameters.{balancingValue, delta}
+use Rattle.code.specs.Parameters.{messageLength, codewordLength, balancingValue, delta}
 use Rattle.code.specs.Profiles.{row, profiles, isProfile, profile, table, derivedRow}
 use Rattle.code.specs.Reading.{distance}
 use Rattle.code.proofs.Distance.{distance-zero}
@@ -104,3 +104,17 @@ row-of-profile i t h e =
             delta = cc;
           };
     }
+
+-- the numbers of a profile's row that are asked for alone
+module _ (i : ℕ) {t : Row} (same : cells i t ≡ derivedRow i) where
+  pub levels-are : t .q ≡ profile i .q
+  unfolding derivedRow
+  levels-are = ap (λ (l : List ℕ). getD l 1 0) same
+
+  pub message-is : t .message ≡ messageLength (profile i)
+  unfolding derivedRow
+  message-is = ap (λ (l : List ℕ). getD l 4 0) same
+
+  pub codeword-is : t .codeword ≡ codewordLength (profile i)
+  unfolding derivedRow
+  codeword-is = ap (λ (l : List ℕ). getD l 6 0) same

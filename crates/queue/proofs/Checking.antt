@@ -12,6 +12,7 @@ use lib.ListN.{length, getD, take}
 use lib.Seq.{take-all}
 use types.Run.{OneOf, miss}
 use denote.Enum.Declared.{tagOf}
+use Rattle.modular.proofs.Search.{holds}
 use Rattle.sheet.specs.Lists.{lastOf}
 use Rattle.sheet.specs.Layout.{isQueueLength}
 use Rattle.sheet.specs.Chains.{used, lastUsed}
@@ -24,7 +25,6 @@ use Rattle.soundness.specs.declared.Checked.{Checked}
 use Rattle.soundness.specs.declared.Checked.the-variants.{Sound}
 use Rattle.soundness.specs.Checked.{reached, checked}
 use Rattle.soundness.proofs.Checked.{the-type}
-use Rattle.cells.proofs.Conditions.{holds}
 use Rattle.queue.specs.Refusal.{refusalOf}
 
 -- a sound queue with the cell and the number of records that the check gave

@@ -1,17 +1,17 @@
 -- Counts of numbers in lists, by induction on the list. That a number is in a list is said as 1 ≤ count.
 -- Assumes nothing.
 use mathlib.Core.Path.{_≡_, refl, sym, ap₂, subst, _∙_}
-use mathlib.Core.Logic.{_≢_, _⊎_, inl, inr, ⊎-elim}
+use mathlib.Core.Logic.{_≢_, _⊎_, ⊎-elim}
 use mathlib.Core.Bool.{Bool}
 use mathlib.Core.List.{List, [], _∷_, _++_, map}
 use Prim.Native.Nat.{ℕ, zero, suc, _+_, _≤_, _<_}
-use native.Mathlib.Decide.{ℕ-discrete}
 use native.Mathlib.Nat.{not-suc-le-zero}
 use native.Mathlib.Omega.{arith}
 use lib.Dec.{T, eqb}
 use lib.ListN.{length}
 use borrow.Author.Tests.{eq-eqb, ne-eqb}
 use Rattle.modular.proofs.Search.{and-left, and-right, and-intro}
+use Rattle.code.proofs.Distance.{equal-or-not}
 use Rattle.sheet.specs.Lists.{all, bit, count, lastOf}
 
 pub bit-same : {x y : ℕ} → x ≡ y → bit (eqb x y) ≡ 1
@@ -19,13 +19,6 @@ bit-same {x} {y} e = rw (eq-eqb x y e)
 
 pub bit-other : {x y : ℕ} → x ≢ y → bit (eqb x y) ≡ 0
 bit-other {x} {y} h = rw (ne-eqb x y h)
-
-pub same-or-not : (x y : ℕ) → (x ≡ y) ⊎ (x ≢ y)
-same-or-not x y = go (ℕ-discrete x y)
-  where
-    go : Dec (x ≡ y) → (x ≡ y) ⊎ (x ≢ y)
-    go (yes e) = inl e
-    go (no h) = inr h
 
 pub count-append : (x : ℕ) (l m : List ℕ) → count x (l ++ m) ≡ count x l + count x m
 count-append x [] m = omega arith
@@ -52,7 +45,7 @@ all-in t (y ∷ l) h x k =
     ⊎-elim
     (λ (e : x ≡ y). subst (λ (z : ℕ). T (t z)) (sym e) (and-left (t y) (all t l) h))
     (λ (d : x ≢ y). all-in t l (and-right (t y) (all t l) h) x (omega (arith, bit-other d)))
-    (same-or-not x y)
+    (equal-or-not x y)
 
 pub all-from : (t : ℕ → Bool) (l : List ℕ) → ((x : ℕ) → 1 ≤ count x l → T (t x)) → T (all t l)
 all-from t [] f = tt
@@ -94,7 +87,7 @@ hits-in (suc n) x h k =
     ⊎-elim
     (λ (e : suc n ≡ x). omega (arith, bit-same e, hits-past n x (omega arith)))
     (λ (d : suc n ≢ x). omega (arith, bit-other d, hits-in n x h (omega arith)))
-    (same-or-not (suc n) x)
+    (equal-or-not (suc n) x)
 
 counts-length : (n : ℕ) (l : List ℕ) → ((x : ℕ) → 1 ≤ count x l → (1 ≤ x) × (x ≤ n)) → counts n l ≡ length l
 counts-length n [] f = counts-nil n

@@ -8,10 +8,11 @@ use Prim.Native.Nat.{ℕ, _+_, _*_, _≤_, _<_}
 use native.Mathlib.Omega.{arith}
 use lib.Dec.{T, eqb}
 use lib.ListN.{length, drop, length-set, length-replicate}
+use Rattle.code.proofs.Distance.{equal-or-not}
 use Rattle.sheet.specs.Lists.{allZero, zeros, bit, count}
 use Rattle.sheet.specs.Layout.{cellSize, bodySize, next, firstFree, body, setNext, setFirstFree, setBody}
 use Rattle.sheet.specs.Sound.{isBody}
-use Rattle.sheet.proofs.Counts.{same-or-not, bit-same, bit-other, count-append}
+use Rattle.sheet.proofs.Counts.{bit-same, bit-other, count-append}
 use Rattle.sheet.proofs.Places.{next-set, next-set-other, body-set-next, firstFree-set, next-set-free, body-set-free, spare-set-free, length-set-body, body-set, body-set-other, next-set-body, firstFree-set-body}
 use Rattle.sheet.proofs.Follow.{From, from-same, from-nonzero}
 use Rattle.sheet.proofs.Record.{zeros-zero}
@@ -130,7 +131,7 @@ module _ (s : List ℕ) (R c : ℕ) (u f : List ℕ) (ls : Lists s R (c ∷ u) f
       still true x (used-in ls x k .0) (used-other x h) (ls .used-cells x k)
 
   free-good : (x : ℕ) → 1 ≤ count x (c ∷ f) → Cell s′ R false x
-  free-good x h = ⊎-elim new-case old-case (same-or-not x c)
+  free-good x h = ⊎-elim new-case old-case (equal-or-not x c)
     where
       new-case : x ≡ c → Cell s′ R false x
       new-case e =

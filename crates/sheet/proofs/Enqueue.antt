@@ -9,10 +9,11 @@ use native.Mathlib.Omega.{arith}
 use lib.Dec.{T, eqb}
 use lib.ListN.{length, drop, length-set}
 use Rattle.modular.proofs.Search.{le-or-lt}
+use Rattle.code.proofs.Distance.{equal-or-not}
 use Rattle.sheet.specs.Lists.{allZero, bit, count, lastOf}
 use Rattle.sheet.specs.Layout.{cellSize, bodySize, next, firstFree, body, setNext, setFirstFree, setBody}
 use Rattle.sheet.specs.Sound.{isRecord, isBody}
-use Rattle.sheet.proofs.Counts.{same-or-not, bit-same, bit-other, count-append, in-last}
+use Rattle.sheet.proofs.Counts.{bit-same, bit-other, count-append, in-last}
 use Rattle.sheet.proofs.Places.{next-set, next-set-other, firstFree-set-next, body-set-next, firstFree-set, next-set-free, body-set-free, spare-set-free, length-set-body, body-set, body-set-other, next-set-body, firstFree-set-body}
 use Rattle.sheet.proofs.Follow.{From, from-same, from-append, from-nonzero}
 use Rattle.sheet.proofs.Lists.{Cell, Lists, used-in, free-in, at-most-once}
@@ -57,7 +58,7 @@ module _ (s : List ℕ) (R c : ℕ) (u f : List ℕ) (r : List ℕ) (ls : Lists 
 
   -- the last cell is 0 or used
   last-in : (l ≡ 0) ⊎ (1 ≤ count l u)
-  last-in = ⊎-elim (λ (e : l ≡ 0). inl e) (λ (d : l ≢ 0). inr (omega (arith, bit-other d, in-last 0 u))) (same-or-not l 0)
+  last-in = ⊎-elim (λ (e : l ≡ 0). inl e) (λ (d : l ≢ 0). inr (omega (arith, bit-other d, in-last 0 u))) (equal-or-not l 0)
 
   pub last-below : l ≤ R
   last-below = ⊎-elim (λ (e : l ≡ 0). omega arith) (λ (h : 1 ≤ count l u). used-in ls l h .1) last-in
@@ -128,7 +129,7 @@ module _ (s : List ℕ) (R c : ℕ) (u f : List ℕ) (r : List ℕ) (ls : Lists 
 
   -- cell 0 and the used cells, each once
   with-zero : (x : ℕ) → count x (0 ∷ u) ≤ 1
-  with-zero x = ⊎-elim zero-case other-case (same-or-not x 0)
+  with-zero x = ⊎-elim zero-case other-case (equal-or-not x 0)
     where
       zero-case : x ≡ 0 → count x (0 ∷ u) ≤ 1
       zero-case e = ⊎-elim (λ (h : 1 ≤ count x u). absurd (from-nonzero s (next s 0) u (ls .used-from) x h e)) (λ (k : count x u < 1). omega (arith, bit-same e)) (le-or-lt 1 (count x u))
@@ -153,7 +154,7 @@ module _ (s : List ℕ) (R c : ℕ) (u f : List ℕ) (r : List ℕ) (ls : Lists 
       (from-same s s′ (next s c) f (λ x h. next-other x (not-cell f not-free x h) (last-not-free x h)) (ls .free-from .2))
 
   used-good : T (isRecord r) → (x : ℕ) → 1 ≤ count x (u ++ (c ∷ [])) → Cell s′ R true x
-  used-good g x h = ⊎-elim new-case old-case (same-or-not x c)
+  used-good g x h = ⊎-elim new-case old-case (equal-or-not x c)
     where
       new-case : x ≡ c → Cell s′ R true x
       new-case e =

@@ -8,10 +8,11 @@ use native.Mathlib.Nat.{not-suc-le-zero, le-of-suc-le-suc}
 use native.Mathlib.Omega.{arith}
 use lib.Dec.{T, eqb, eqb→eq}
 use lib.ListN.{length}
+use Rattle.code.proofs.Distance.{equal-or-not}
 use Rattle.sheet.specs.Lists.{bit, count, lastOf}
 use Rattle.sheet.specs.Layout.{next}
 use Rattle.sheet.specs.Chains.{chain, ends}
-use Rattle.sheet.proofs.Counts.{same-or-not, bit-same, bit-other, in-here, in-later, in-last}
+use Rattle.sheet.proofs.Counts.{bit-same, bit-other, in-here, in-later, in-last}
 
 -- from cell i the cells of the list are met, and then 0
 abbrev pub From : List ℕ → ℕ → List ℕ → Type 0
@@ -41,7 +42,7 @@ from-nonzero s i (b ∷ l) f x h =
     ⊎-elim
     (λ (e : x ≡ b). λ (z : x ≡ 0). f .1 (sym e ∙ z))
     (λ (d : x ≢ b). from-nonzero s (next s b) l (f .2) x (omega (arith, bit-other d)))
-    (same-or-not x b)
+    (equal-or-not x b)
 
 -- next cells that stay leave the list
 pub from-same : (s s′ : List ℕ) (i : ℕ) (l : List ℕ) → ((x : ℕ) → 1 ≤ count x l → next s′ x ≡ next s x) → From s i l → From s′ i l

@@ -10,12 +10,13 @@ use native.Mathlib.Omega.{arith}
 use lib.Dec.{T, eqb}
 use lib.ListN.{length, getD, take, drop, length-set, length-replicate}
 use Rattle.modular.proofs.Search.{and-left, and-right, and-intro}
+use Rattle.code.proofs.Distance.{equal-or-not}
 use Rattle.sheet.specs.Lists.{all, allZero, zeros, count, upFrom}
 use Rattle.sheet.specs.Layout.{Size, cellSize, bodySize, capacity, next, firstFree, body, setNext, setFirstFree}
 use Rattle.sheet.specs.Chains.{records}
 use Rattle.sheet.specs.Operations.{linked, formatted}
 use Rattle.sheet.specs.Claims.{FormatLaw}
-use Rattle.sheet.proofs.Counts.{same-or-not, bit-same, bit-other}
+use Rattle.sheet.proofs.Counts.{bit-same, bit-other}
 use Rattle.sheet.proofs.Places.{next-set, next-set-other, body-set-next, firstFree-set, next-set-free, body-set-free, spare-set-free}
 use Rattle.sheet.proofs.Follow.{From}
 use Rattle.sheet.proofs.Record.{zeros-zero}
@@ -60,7 +61,7 @@ next-linked-in s i (suc n) j f h k =
     ∙ subst (λ (z : ℕ). next (setNext s i (suc i)) z ≡ suc z) (sym e) (next-set s i (suc i) (omega arith)))
     (λ (d : j ≢ i).
     next-linked-in (setNext s i (suc i)) (suc i) n j (omega (arith, length-set s (i * cellSize) (suc i))) (omega arith) (omega arith))
-    (same-or-not j i)
+    (equal-or-not j i)
 
 -- The numbers from i up.
 from-up : (s : List ℕ) (n i : ℕ) → 1 ≤ i → ((j : ℕ) → i ≤ j → j < i + n → next s j ≡ suc j) → next s (i + n) ≡ 0 → From s i (upFrom i (suc n))
@@ -73,7 +74,7 @@ from-up s (suc n) i h f e =
 
 up-in : (n i x : ℕ) → 1 ≤ count x (upFrom i n) → (i ≤ x) × (x < i + n)
 up-in zero i x h = absurd (not-suc-le-zero h)
-up-in (suc n) i x h = go (same-or-not x i) (up-in n (suc i) x)
+up-in (suc n) i x h = go (equal-or-not x i) (up-in n (suc i) x)
   where
     go : (x ≡ i) ⊎ (x ≢ i) → (1 ≤ count x (upFrom (suc i) n) → (suc i ≤ x) × (x < suc i + n)) → (i ≤ x) × (x < i + suc n)
     go (inl e) f = omega arith
@@ -89,7 +90,7 @@ up-once (suc n) i x h k =
     ⊎-elim
     (λ (e : x ≡ i). omega (arith, bit-same e, up-below n (suc i) x (omega arith)))
     (λ (d : x ≢ i). omega (arith, bit-other d, up-once n (suc i) x (omega arith) (omega arith)))
-    (same-or-not x i)
+    (equal-or-not x i)
 
 -- n + 1 is R
 module _ (s : List ℕ) (n : ℕ) (z : Size s (suc n)) where

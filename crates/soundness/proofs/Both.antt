@@ -1,7 +1,7 @@
 -- What the walks over both lists say of the queue.
 -- Assumes nothing.
 use mathlib.Core.Path.{_≡_, refl, sym, ap, ap₂, subst, _∙_}
-use mathlib.Core.Bool.{Bool, true, false, _&&_}
+use mathlib.Core.Bool.{Bool, true, false, _&&_, and-false}
 use mathlib.Core.List.{List, _++_}
 use Prim.Native.Nat.{ℕ, suc}
 use lib.Dec.{T, eqb}
@@ -19,16 +19,11 @@ use Rattle.soundness.specs.Walked.{Found, Walks, Checks}
 use Rattle.soundness.proofs.Conditions.{second-off, no-truth}
 use Rattle.soundness.proofs.Tallies.{noneSeen, few-seen, both-seen}
 
--- a test that fails after one that is not made again
-and-false : (a : Bool) → false ≡ (a && false)
-and-false true = refl
-and-false false = refl
-
 -- the free list's test first, and the last test only where that one passed
 four-tests : (spare used free once f s o : Bool) → used ≡ true → f ≡ free → s ≡ spare → (free ≡ true → o ≡ once)
     → (f && (s && o)) ≡ (spare && (used && (free && once)))
 four-tests spare used true once f s o u e a d = rw (e, a, u, d refl)
-four-tests spare used false once f s o u e a d = rw (e, u) (and-false spare)
+four-tests spare used false once f s o u e a d = rw (e, u) (sym (and-false spare))
 
 module _ (s : List ℕ) (k i : ℕ) (t : List ℕ) (u : Walked) (size : T (isQueueLength (length s))) (first : i ≡ next s 0) (walked : Walks s true i k noneSeen t u) where
   abbrev R : ℕ

@@ -11,10 +11,6 @@ off a b e = rw e
 pub on : (a b d : Bool) → a ≡ true → d ≡ b → d ≡ (a && b)
 on a b d e f = rw e f
 
-pub and-true : (b : Bool) → (b && true) ≡ b
-and-true true = refl
-and-true false = refl
-
 pub swapped : (a b c : Bool) → (a && (b && c)) ≡ (b && (a && c))
 swapped true b c = refl
 swapped false true c = refl

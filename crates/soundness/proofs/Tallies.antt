@@ -10,11 +10,12 @@ use lib.ListN.{length, getD, set, length-set, length-replicate}
 use lib.Seq.{getD-set-same, getD-set-other}
 use Rattle.modular.specs.Search.{allBelow}
 use Rattle.modular.proofs.Search.{same-test, all-at, all-of}
+use Rattle.code.proofs.Distance.{equal-or-not}
 use Rattle.sheet.specs.Lists.{zeros, bit, count}
 use Rattle.sheet.specs.Layout.{next}
 use Rattle.sheet.specs.Chains.{chain}
 use Rattle.sheet.specs.Sound.{eachOnce}
-use Rattle.sheet.proofs.Counts.{same-or-not, bit-same, bit-other, count-append}
+use Rattle.sheet.proofs.Counts.{bit-same, bit-other, count-append}
 use Rattle.sheet.proofs.Format.{getD-zeros}
 use Rattle.soundness.specs.Tally.{tallied, AtMost}
 use Rattle.soundness.proofs.Walks.{tally-one}
@@ -29,7 +30,7 @@ met t c i h =
     let there : getD (set t c (getD t c 0 + 1)) i 0 ≡ getD t c 0 + 1 = ap (λ (x : ℕ). getD (set t c (getD t c 0 + 1)) x 0) e ∙ getD-set-same t c (getD t c 0 + 1) 0 k in
     omega (arith, bit-same e))
     (λ (d : i ≢ c). omega (arith, bit-other d, getD-set-other t c i (getD t c 0 + 1) 0 d))
-    (same-or-not i c)
+    (equal-or-not i c)
 
 tally-count : (l t : List ℕ) (i : ℕ) → i < length t → getD (tallied t l) i 0 ≡ getD t i 0 + count i l
 tally-count [] t i h = omega arith

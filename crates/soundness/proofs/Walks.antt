@@ -2,7 +2,7 @@
 -- Assumes nothing.
 use mathlib.Core.Path.{_≡_, refl, sym, ap, ap₂, subst, _∙_}
 use mathlib.Core.Logic.{_≢_, ⊎-elim}
-use mathlib.Core.Bool.{Bool, true, false, _&&_}
+use mathlib.Core.Bool.{Bool, true, false, _&&_, and-true}
 use mathlib.Core.List.{List, [], _∷_}
 use Prim.Native.Nat.{ℕ, zero, suc, _+_, _-_, _≤_, _<_}
 use native.Mathlib.Numerals.{add-one}
@@ -11,16 +11,15 @@ use lib.Dec.{T, eqb, leb, leb→le}
 use lib.ListN.{length, getD, take, set}
 use borrow.Author.Tests.{ne-eqb, le-leb, lt-leb}
 use Rattle.modular.specs.Search.{allBelow}
-use Rattle.modular.proofs.Search.{and-left, and-right, and-intro, same-test, all-at, all-of, le-or-lt}
+use Rattle.modular.proofs.Search.{and-left, and-right, and-intro, same-test, all-at, all-of, le-or-lt, holds}
 use Rattle.sheet.specs.Lists.{all, lastOf}
 use Rattle.sheet.specs.Layout.{capacity, next, body}
 use Rattle.sheet.specs.Chains.{chain, ends}
 use Rattle.sheet.specs.Sound.{isBody, isCell, isList}
-use Rattle.cells.proofs.Conditions.{holds}
 use Rattle.soundness.specs.declared.lists.Walked.{Walked}
 use Rattle.soundness.specs.Tally.{tallied, AtMost}
 use Rattle.soundness.specs.Walked.{goOn, Walks}
-use Rattle.soundness.proofs.Conditions.{and-true, swapped, no-truth}
+use Rattle.soundness.proofs.Conditions.{swapped, no-truth}
 
 -- A list stops at 0, and goes on from every other cell.
 chain-stop : (s : List ℕ) (n i : ℕ) → i ≡ 0 → chain s n i ≡ []

@@ -1,6 +1,6 @@
 -- What a reading prints is small: the place has at most two digits, the symbol and the symbols of the messages one.
 -- Assumes nothing.
-use mathlib.Core.Path.{_≡_, sym, subst}
+use mathlib.Core.Path.{_≡_}
 use mathlib.Core.Bool.{Bool, true, false, _&&_}
 use mathlib.Core.List.{List, [], _∷_}
 use Prim.Native.Nat.{ℕ, zero, suc, _+_, _≤_, _<_, zero-le}
@@ -11,7 +11,7 @@ use lib.ListN.{length, drop, set}
 use lib.Seq.{getD-drop}
 use borrow.Author.Tests.{ltb-true}
 use Rattle.modular.specs.Search.{allBelow}
-use Rattle.modular.proofs.Search.{and-left, and-right, all-at, least-le}
+use Rattle.modular.proofs.Search.{and-left, and-right, all-at, least-le, holds}
 use Rattle.modular.proofs.Residue.{minus-below}
 use Rattle.code.specs.Parameters.{Parameters, messageLength, codewordLength}
 use Rattle.code.specs.Component.{symbolsBelow, message, inCode}
@@ -117,12 +117,9 @@ decode-small i u k l =
     cases (isProfile i)
     (λ e.
     cases (eqb (length u) (codewordLength (profile i)) && eqb k (messageLength (profile i)) && eqb l (messageLength (profile i)))
-    (λ f. cases (symbolsBelow (profile i .q) u) (λ g. rw (e, decodeAnswer, f, g) (full (is-true e) (is-true f))) (λ g. rw (e, decodeAnswer, f, g) (lit≤ tt)))
+    (λ f. cases (symbolsBelow (profile i .q) u) (λ g. rw (e, decodeAnswer, f, g) (full (holds _ e) (holds _ f))) (λ g. rw (e, decodeAnswer, f, g) (lit≤ tt)))
     (λ f. rw (e, decodeAnswer, f) (lit≤ tt))) (λ e. rw (e, decodeAnswer) (lit≤ tt))
   where
-    is-true : {b : Bool} → b ≡ true → T b
-    is-true e = subst T (sym e) tt
-
     full : T (isProfile i) → T (eqb (length u) (codewordLength (profile i)) && eqb k (messageLength (profile i)) && eqb l (messageLength (profile i)))
         → Small (answered (reading (profile i) u))
     full a b =

@@ -1,11 +1,11 @@
--- Sums that grow by one symbol at a time, and what every other symbol of a word is.
+-- Sums that grow by one symbol at a time, zeros, and how long every other symbol of a word is.
 -- Assumes nothing.
 use mathlib.Core.Path.{_≡_, refl}
 use mathlib.Core.Bool.{Bool, true, false}
 use mathlib.Core.List.{List, [], _∷_}
 use Prim.Native.Nat.{ℕ, zero, suc, _+_, _*_, _≤_, zero-le}
 use native.Mathlib.Omega.{arith}
-use lib.ListN.{length, getD, take}
+use lib.ListN.{length, getD, take, replicate}
 use Rattle.modular.specs.Sum.{weight, dot}
 use Rattle.code.specs.Codeword.{alternate}
 
@@ -22,10 +22,11 @@ weight-take (suc i) [] = refl
 weight-take zero (x ∷ xs) = omega arith
 weight-take (suc i) (x ∷ xs) = omega (arith, weight-take i xs)
 
--- a word's weight is that of its odd positions and that of its even ones
-pub weight-alternate : (c : List ℕ) → weight (alternate true c) + weight (alternate false c) ≡ weight c
-weight-alternate [] = refl
-weight-alternate (x ∷ c) = omega (arith, weight-alternate c)
+-- every symbol of an array of zeros, and past its end
+pub zeros-at : (m k : ℕ) → getD {A = ℕ} (replicate m 0) k 0 ≡ 0
+zeros-at zero k = refl
+zeros-at (suc m) zero = refl
+zeros-at (suc m) (suc k) = zeros-at m k
 
 pub length-alternate : (b : Bool) (k : ℕ) (c : List ℕ) → length c ≤ 2 * k → length (alternate b c) ≤ k
 length-alternate b k [] h = zero-le

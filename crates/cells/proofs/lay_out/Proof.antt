@@ -15,8 +15,8 @@ use Rattle.sheet.specs.Operations.{linked, formatted, formatAnswer, formatQueue
 use Rattle.sheet.proofs.Lists.{size-of}
 use Rattle.sheet.proofs.Format.{length-linked}
 use Rattle.sheet.proofs.Rule.{same-capacity}
-use Rattle.cells.proofs.Conditions.{holds}
 use borrow.Author.Needs.{needs}
+use Rattle.modular.proofs.Search.{holds}
 use Rattle.cells.proofs.lay_out.Statement.{statement}
 use Rattle.cells.proofs.lay_out.Tie as tie
 

@@ -7,10 +7,10 @@ use native.Mathlib.Omega.{arith}
 use lib.ListN.{length, set}
 use denote.Ref.{now}
 use Rattle.sheet.specs.Operations.{shown}
-use Rattle.cells.proofs.Conditions.{holds}
 use Rattle.cells.proofs.Bytes.{part, copied-same}
 use Rattle.cells.proofs.Cells.{fits, fits-both, shows, keeps, cell-shown}
 use borrow.Author.Needs.{needs}
+use Rattle.modular.proofs.Search.{holds}
 use Rattle.cells.proofs.show.Statement.{statement}
 use Rattle.cells.proofs.show.Tie as tie
 

@@ -10,11 +10,10 @@ use lib.Dec.{eqb, leb, leb→le}
 use lib.ListN.{length}
 use denote.Ref.{now}
 use borrow.Author.Tests.{eq-eqb, ne-eqb}
-use Rattle.modular.proofs.Search.{and-right}
+use Rattle.modular.proofs.Search.{and-right, holds}
 use Rattle.sheet.specs.Operations.{showRefusal, cellOf, peekAnswer, peekOutput}
 use Rattle.sheet.proofs.Answers.{on-sound, showing}
 use Rattle.cells.specs.Cells.{shownAt}
-use Rattle.cells.proofs.Conditions.{holds}
 use Rattle.cells.proofs.Cells.{shows}
 use Rattle.queue.proofs.Conditions.{refuses, admits, kept, wrote}
 use Rattle.queue.proofs.Checking.{Told, told-sound, told-unsound, found-is, found-at}

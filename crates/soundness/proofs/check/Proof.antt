@@ -10,8 +10,8 @@ use borrow.Author.Tests.{not-true, not-false}
 use Rattle.sheet.specs.Layout.{isQueueLength}
 use Rattle.soundness.specs.declared.Checked.the-variants.{Sound}
 use Rattle.soundness.specs.Checked.{checked}
-use Rattle.cells.proofs.Conditions.{holds}
 use borrow.Author.Needs.{needs}
+use Rattle.modular.proofs.Search.{holds}
 use Rattle.soundness.proofs.check.Statement.{statement}
 use Rattle.soundness.proofs.check.Tie as tie
 

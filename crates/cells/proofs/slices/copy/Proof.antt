@@ -7,8 +7,7 @@ use native.Mathlib.Omega.{arith}
 use lib.Dec.{ltb, ltb→lt}
 use lib.ListN.{length, getD, take, drop, set, length-set}
 use denote.Ref.{now}
-use Rattle.cells.proofs.Conditions.{both}
-use Rattle.cells.proofs.Bytes.{copy-more, copy-over}
+use Rattle.cells.proofs.Bytes.{copy-more, copy-over, both}
 use Rattle.cells.proofs.slices.copy.Statement.{statement}
 use Rattle.cells.proofs.slices.copy.Tie as tie
 

@@ -1,7 +1,7 @@
 -- `decoder::residue::add` meets its contract: a sum of two symbols is below twice q.
 -- Assumes nothing.
 use native.Mathlib.Omega.{arith}
-use Rattle.decoder.proofs.Bytes.{kept, wrapped}
+use Rattle.modular.proofs.Residue.{kept, wrapped}
 use borrow.Author.Needs.{needs}
 use Rattle.decoder.proofs.residue.add.Statement.{statement}
 use Rattle.decoder.proofs.residue.add.Tie as tie

@@ -1,0 +1,41 @@
+-- What the steps of decoding answer.
+-- Assumes nothing.
+use mathlib.Core.Path.{_≡_}
+use mathlib.Core.Bool.{Bool, true, false}
+use mathlib.Core.List.{List}
+use Prim.Native.Nat.{ℕ}
+use lib.Dec.{T}
+use Rattle.code.specs.Parameters.{Parameters}
+use Rattle.code.specs.Codeword.{received}
+use Rattle.code.specs.Reading.{clean, corrected, unreadable}
+use Rattle.code.specs.Operations.{answered}
+use Rattle.decoding.specs.Syndromes.{nearSyndromes}
+use Rattle.decoding.specs.Decoded.{Sums, readBy, decodedBalanced}
+use Rattle.profiles.specs.declared.row.Row.{Row}
+use Rattle.profiles.specs.Row.{parameters}
+use Rattle.symbols.specs.Syndromes.{part}
+use Rattle.decoder.specs.declared.totals.Totals.{Totals}
+use Rattle.decoder.specs.declared.reader.Decoded.{Decoded}
+use Rattle.decoder.specs.declared.reader.Decoded.the-variants.{Clean, Corrected, Unreadable, Refused}
+use Rattle.decoder.specs.Totals.{sumsOf}
+use Rattle.decoder.specs.Decode.{Answers}
+
+-- the parity whose check symbol alone disagrees, by whether each agrees; 2 for neither
+abbrev pub wrongParity : Bool → Bool → ℕ
+wrongParity true true = 2
+wrongParity true false = 1
+wrongParity false true = 0
+wrongParity false false = 2
+
+-- r is what a balanced body with the sums s is read as: its components are then near codewords
+abbrev pub Judged : Parameters → Sums → Decoded → Type 0
+Judged p s Clean = T (nearSyndromes p (s .first) (s .second)) × ((v : List ℕ) → decodedBalanced p s v ≡ readBy p clean 0 0 v (s .first) (s .second))
+Judged p s (Corrected i y) =
+    T (nearSyndromes p (s .first) (s .second)) × ((v : List ℕ) → decodedBalanced p s v ≡ readBy p corrected i y v (s .first) (s .second))
+Judged p s Unreadable = (v : List ℕ) → decodedBalanced p s v ≡ unreadable
+Judged p s (Refused k) = ⊥
+
+-- r and the outputs are the answer to any balanced word that has the sums s and the components in x
+pub record BalancedAnswers (t : Row) (s : Totals) (x : List ℕ) (r : Decoded) (first first′ second second′ : List ℕ) : Type 0 where
+  pub to : (v : List ℕ) → ((b : Bool) → part b (t .n) x ≡ received (parameters t) b v)
+      → Answers (answered (decodedBalanced (parameters t) (sumsOf t s) v)) r first first′ second second′
