@@ -2,7 +2,7 @@
 -- Assumes nothing.
 use mathlib.Core.Path.{_≡_, sym, ap, ap₂, subst, subst₂, _∙_}
 use mathlib.Core.Logic.{_⊎_, inl, inr, _≢_}
-use mathlib.Core.Bool.{true}
+use mathlib.Core.Bool.{true, false}
 use mathlib.Core.List.{List, [], _∷_, head-eq-of-cons-eq}
 use Prim.Native.Nat.{ℕ, suc, _+_, _*_, _%_, _≤_, _<_}
 use native.Mathlib.Nat.{suc-inj, zero-add, pos-of-ne-zero}
@@ -15,10 +15,10 @@ use Rattle.modular.specs.Residue.{Congruent, Invertible, minus}
 use Rattle.modular.proofs.Residue.{of-eq, same, symm, _then_, add, scale, small, cancel, minus-add, minus-below, prime-inverse}
 use Rattle.modular.proofs.Sum.{dot-set, dot-one, weight-set}
 use Rattle.code.specs.Parameters.{Parameters, Sized, balancedLength, delta}
-use Rattle.code.specs.Codeword.{alternate, alpha, beta, withChecks, body, codeword}
+use Rattle.code.specs.Codeword.{alternate, alpha, beta, withChecks, body, received, codeword}
 use Rattle.code.specs.Reading.{distance}
 use Rattle.code.specs.Claims.{ApartByUnits, DifferencesInvertible, Apart}
-use Rattle.code.proofs.Weights.{double, spread, dot-alternate}
+use Rattle.code.proofs.Weights.{double, spread, part, dot-alternate}
 use Rattle.code.proofs.Columns.{q-positive}
 use Rattle.code.proofs.Moves.{Move, Near, kept, told, no-move}
 use Rattle.code.proofs.Distance.{equal-or-not, Differing, differing, TwoApart, two-apart, distance-zero, distance-sym, distance-append}
@@ -92,7 +92,7 @@ not-one w w′ l k e =
 
 -- nor in two, where they have components near the code and the same check symbol α, and the difference has an inverse
 not-two : (p : Parameters) → Sized p → (w w′ : List ℕ) → length w ≡ suc (double (p .n)) → length w′ ≡ suc (double (p .n)) → weight w ≡ weight w′
-    → Near p w → Near p w′ → alpha (p .q) w ≡ alpha (p .q) w′
+    → Near p (part (p .q) true w) (part (p .q) false w) → Near p (part (p .q) true w′) (part (p .q) false w′) → alpha (p .q) w ≡ alpha (p .q) w′
     → ((i : ℕ) → i < length w → getD w i 0 ≢ getD w′ i 0 → Invertible (p .q) (minus (p .q) (getD w′ i 0) (getD w i 0))) → TwoApart w w′ → ⊥
 not-two p s w w′ l l′ k a a′ c f t =
     moved (t .i) (t .j) (t .i-within) (t .j-within) (t .distinct) (f (t .i) (t .i-within) (t .unequal)) (t .changed)
@@ -113,7 +113,7 @@ not-two p s w w′ l l′ k a a′ c f t =
             (move (p .q) (q-positive p s) w i j (getD w′ i 0) (getD w′ j 0) hi hj ne (ap weight z ∙ sym k))
 
 pub apart-by-units : ApartByUnits
-unfolding withChecks
+unfolding withChecks received
 apart-by-units p s u v hu hv f d = sym (go (equal-or-not (distance w w′) 0))
   where
     lu : Lawful p u
@@ -140,16 +140,17 @@ apart-by-units p s u v hu hv f d = sym (go (equal-or-not (distance w w′) 0))
     checks : List ℕ → List ℕ
     checks x = alpha (p .q) x ∷ beta (p .q) x ∷ []
 
-    apart : distance w w′ + distance (checks w) (checks w′) ≤ 2
-    apart =
-        subst (λ (x : ℕ). x ≤ 2)
-        (distance-sym u v ∙ ap₂ distance (lv .checks) (lu .checks) ∙ distance-append w w′ (checks w) (checks w′) (long ∙ sym long′)) d
+    total : distance u v ≡ distance w w′ + distance (checks w) (checks w′)
+    total = distance-sym u v ∙ ap₂ distance (lv .checks) (lu .checks) ∙ distance-append w w′ (checks w) (checks w′) (long ∙ sym long′)
 
-    invertible : (i : ℕ) → i < length w → getD w i 0 ≢ getD w′ i 0 → Invertible (p .q) (minus (p .q) (getD w′ i 0) (getD w i 0))
-    invertible i h n =
+    apart : distance w w′ + distance (checks w) (checks w′) ≤ 2
+    apart = subst (λ (x : ℕ). x ≤ 2) total d
+
+    invertible : distance u v ≡ 2 → (i : ℕ) → i < length w → getD w i 0 ≢ getD w′ i 0 → Invertible (p .q) (minus (p .q) (getD w′ i 0) (getD w i 0))
+    invertible two i h n =
         let k : i < balancedLength p = subst (λ (x : ℕ). i < x) long h in
         subst₂ (λ (x y : ℕ). Invertible (p .q) (minus (p .q) x y)) (sym (body-at p u i k)) (sym (body-at p v i k))
-        (f i (λ x. n (body-at p v i k ∙ sym x ∙ sym (body-at p u i k))))
+        (f two i (λ x. n (body-at p v i k ∙ sym x ∙ sym (body-at p u i k))))
 
     go : (distance w w′ ≡ 0) ⊎ (distance w w′ ≢ 0) → v ≡ u
     go (inl z) = lv .checks ∙ ap (withChecks (p .q)) (distance-zero w w′ z) ∙ sym (lu .checks)
@@ -159,7 +160,7 @@ apart-by-units p s u v hu hv f d = sym (go (equal-or-not (distance w w′) 0))
         let none : distance (checks w) (checks w′) ≡ 0 = omega (arith, apart) in
         absurd
         (not-two p s w w′ (long ∙ balanced-length p) (long′ ∙ balanced-length p) weights (lv .near) (lu .near)
-        (head-eq-of-cons-eq (distance-zero (checks w) (checks w′) none)) invertible (two-apart w w′ (long ∙ sym long′) two))
+        (head-eq-of-cons-eq (distance-zero (checks w) (checks w′) none)) (invertible (omega (arith, total))) (two-apart w w′ (long ∙ sym long′) two))
 
 pub differences-invertible : DifferencesInvertible
 differences-invertible q h a b ha hb n = prime-inverse h (minus q a b) (pos-of-ne-zero (λ e. n (equal e))) (minus-below q a b positive)
@@ -172,7 +173,7 @@ differences-invertible q h a b ha hb n = prime-inverse h (minus q a b) (pos-of-n
 
 pub apart : Apart
 apart p s h u v hu hv d =
-    apart-by-units p s u v hu hv (λ i n. differences-invertible (p .q) h (getD u i 0) (getD v i 0) (below u hu i) (below v hv i) n) d
+    apart-by-units p s u v hu hv (λ _ i n. differences-invertible (p .q) h (getD u i 0) (getD v i 0) (below u hu i) (below v hv i) n) d
   where
     below : (x : List ℕ) → T (codeword p x) → (i : ℕ) → getD x i 0 < p .q
     below x hx i = symbol-below (p .q) (q-positive p s) x (lawful p (q-positive p s) x hx .below) i

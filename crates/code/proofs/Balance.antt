@@ -1,93 +1,18 @@
--- As v rises and s falls the weight falls by at most 1 a step, it comes back to where it was, and its mean is the balancing value: so some
--- choice has that value, and the search finds the earliest.
+-- The walk: of any word, raised by s and by 1 more from an index on, the weight falls by at most 1 a step as the index rises and s falls, it comes back
+-- to where it was, and its mean is half of the highest: so some step has that weight.
 -- Assumes nothing.
 use mathlib.Core.Path.{_≡_, refl, sym, ap, ap₂, _∙_}
-use mathlib.Core.Logic.{_≢_, inl, inr, ⊎-elim}
+use mathlib.Core.Logic.{_≢_, ⊎-elim}
 use mathlib.Core.List.{List, [], _∷_}
 use Prim.Native.Nat.{ℕ, zero, suc, _+_, _-_, _*_, _%_, _≤_, _<_, zero-le, suc-le-suc}
 use native.Mathlib.Nat.{zero-add, suc-add, add-zero, add-suc, zero-mul, add-mod-right, suc-mod, mod-le, mod-eq-of-lt, le-of-suc-le-suc, not-suc-le-zero, le-refl, lt-of-not-le, not-le-of-lt}
 use native.Mathlib.Omega.{arith}
-use lib.Dec.{T, eqb→eq, eqb-refl, ltb→lt}
-use lib.ListN.{length, getD, length-set}
-use Rattle.modular.specs.Search.{least, anyBelow}
+use lib.ListN.{length, getD}
 use Rattle.modular.specs.Sum.{weight}
-use Rattle.modular.specs.Residue.{Congruent}
-use Rattle.modular.proofs.Search.{le-or-lt, least-hit, least-miss, any-of}
-use Rattle.modular.proofs.Residue.{_then_, of-eq, same, symm, reduce, add}
-use Rattle.code.specs.Parameters.{balancingValue}
-use Rattle.code.specs.Balance.{addAt, integrate, chosen, balances, earliestS, earliestV, balanced}
-use Rattle.code.specs.Claims.{Before, BalanceExists}
+use Rattle.modular.proofs.Search.{le-or-lt}
+use Rattle.code.specs.Balance.{shifted, shiftedFrom}
 
--- s added mod q to every symbol
-abbrev pub shifted : ℕ → ℕ → List ℕ → List ℕ
-shifted q s [] = []
-shifted q s (a ∷ d) = (a + s) % q ∷ shifted q s d
-
--- and 1 more from index i on
-abbrev pub shiftedFrom : ℕ → ℕ → ℕ → List ℕ → List ℕ
-shiftedFrom q s zero d = shifted q (suc s) d
-shiftedFrom q s (suc i) [] = []
-shiftedFrom q s (suc i) (a ∷ d) = (a + s) % q ∷ shiftedFrom q s i d
-
--- A choice shifts the integrated word.
-
--- where n is m + s mod q, it is m's remainder + s
-offset : {q n : ℕ} (m s : ℕ) → Congruent q n (m + s) → Congruent q n (m % q + s)
-offset {q} m s h = h then add (symm (reduce q m)) (same s)
-
--- the same symbol added to both leaves them s apart
-offset-next : {q n : ℕ} (m s x : ℕ) → Congruent q n (m + s) → Congruent q (n % q + x) (m % q + x + s)
-offset-next {q} {n} m s x h =
-    let e : m % q + s + x ≡ m % q + x + s = omega arith in
-    add (reduce q n then offset m s h) (same x) then of-eq e
-
--- or s + 1, with 1 more added to one
-offset-one : {q : ℕ} (m n s x : ℕ) → Congruent q (n + x) (m + s) → Congruent q (n + (x + 1) % q) (m + suc s)
-offset-one {q} m n s x h =
-    let e : n + (x + 1) ≡ n + x + 1 = omega arith in
-    let f : m + s + 1 ≡ m + suc s = omega arith in
-    add (same n) (reduce q (x + 1)) then of-eq e then add h (same 1) then of-eq f
-
--- the first sums are s apart, since s is added to the first symbol
-offset-first : (q x s : ℕ) → Congruent q (0 + (x + s) % q) (0 + x + s)
-offset-first q x s =
-    let e : 0 + (x + s) ≡ 0 + x + s = omega arith in
-    add (same 0) (reduce q (x + s)) then of-eq e
-
--- sums that start s apart stay so
-integrate-shifted : {q n : ℕ} (m s : ℕ) (x : List ℕ) → Congruent q n (m + s)
-    → n % q ∷ integrate q (n % q) x ≡ shifted q s (m % q ∷ integrate q (m % q) x)
-integrate-shifted m s [] h = ap (λ (a : ℕ). a ∷ []) (offset m s h .same)
-integrate-shifted {q} m s (x ∷ xs) h = ap₂ _∷_ (offset m s h .same) (integrate-shifted (m % q + x) s xs (offset-next m s x h))
-
--- and are s + 1 apart from the index on at which 1 is added
-integrate-shifted-from : {q n : ℕ} (m s : ℕ) (x : List ℕ) (i : ℕ) → i < length x → Congruent q n (m + s)
-    → n % q ∷ integrate q (n % q) (addAt q x i 1) ≡ shiftedFrom q s (suc i) (m % q ∷ integrate q (m % q) x)
-integrate-shifted-from m s [] i l h = absurd (not-suc-le-zero l)
-integrate-shifted-from {q} {n} m s (x ∷ xs) zero l h =
-    ap₂ _∷_ (offset m s h .same) (integrate-shifted (m % q + x) (suc s) xs (offset-one (m % q + x) (n % q) s x (offset-next m s x h)))
-integrate-shifted-from {q} m s (x ∷ xs) (suc i) l h =
-    ap₂ _∷_ (offset m s h .same) (integrate-shifted-from (m % q + x) s xs i (le-of-suc-le-suc l) (offset-next m s x h))
-
-pub chosen-shifted : (q : ℕ) (x : List ℕ) (s i : ℕ) → i < length x → chosen q x s (suc i) ≡ shiftedFrom q s i (integrate q 0 x)
-unfolding chosen
-chosen-shifted q [] s i l = absurd (not-suc-le-zero l)
-chosen-shifted q (x ∷ xs) s zero l =
-    integrate-shifted (0 + x) (suc s) xs (offset-one (0 + x) 0 s ((x + s) % q) (offset-first q x s))
-chosen-shifted q (x ∷ xs) s (suc i) l =
-    let e : suc (suc i) - 1 ≡ suc i = omega arith in
-    ap (λ (j : ℕ). integrate q 0 (addAt q ((x + s) % q ∷ xs) j 1)) e
-    ∙ integrate-shifted-from (0 + x) s xs i (le-of-suc-le-suc l) (offset-first q x s)
-
-pub length-integrate : (q a : ℕ) (x : List ℕ) → length (integrate q a x) ≡ length x
-length-integrate q a [] = refl
-length-integrate q a (x ∷ xs) = ap suc (length-integrate q ((a + x) % q) xs)
-
-pub length-chosen : (q : ℕ) (x : List ℕ) (s v : ℕ) → length (chosen q x s v) ≡ length x
-unfolding chosen
-length-chosen q x s v = length-integrate q 0 (addAt q (addAt q x 0 s) (v - 1) 1) ∙ simp length-set
-
--- The weight from choice to choice.
+-- The weight from step to step.
 
 -- past the last index nothing more is added
 pub shifted-end : (q s : ℕ) (d : List ℕ) → shiftedFrom q s (length d) d ≡ shifted q s d
@@ -194,59 +119,9 @@ module _ (f : ℕ → ℕ) (q w : ℕ) (step : (s : ℕ) → s < q → w ≤ f (
       (le-or-lt w (f 0))
 
 -- so the choices do not all miss it
-choices-meet : (q w : ℕ) (d : List ℕ) → 1 ≤ q → 1 ≤ length d → length d * (q - 1) ≡ 2 * w
+pub choices-meet : (q w : ℕ) (d : List ℕ) → 1 ≤ q → 1 ≤ length d → length d * (q - 1) ≡ 2 * w
     → ((s i : ℕ) → s < q → i < length d → weight (shiftedFrom q s i d) ≢ w) → ⊥
 choices-meet q w d levels some middle miss =
     meets-mean (λ s. weight (shifted q s d)) q w
     (λ s l h. rw shifted-end at (stays-above q w s d (λ i. miss s i l) h (length d) (le-refl (length d))))
     (ap weight (shifted-all q d)) levels (mean-weight q w d levels middle) (λ s l. miss s 0 l some)
-
--- The search.
-
-pub balances-of : (q : ℕ) (x : List ℕ) (s v : ℕ) → weight (chosen q x s v) ≡ balancingValue q (length x) → T (balances q x s v)
-unfolding balances
-balances-of q x s v e = rw e (eqb-refl (balancingValue q (length x)))
-
--- no choice before the earliest balances
-pub no-earlier : (q : ℕ) (x : List ℕ) (s v : ℕ) → 1 ≤ v → v ≤ length x → Before s v (earliestS q x) (earliestV q x)
-    → weight (chosen q x s v) ≢ balancingValue q (length x)
-unfolding earliestS earliestV
-no-earlier q x s zero one l b e = absurd (not-suc-le-zero one)
-no-earlier q x s (suc i) one l (inl b) e =
-    least-miss (λ t. anyBelow (λ j. balances q x t (suc j)) (length x)) q s b
-    (any-of (λ j. balances q x s (suc j)) (length x) i l (balances-of q x s (suc i) e))
-no-earlier q x s (suc i) one l (inr b) e =
-    least-miss (λ j. balances q x (earliestS q x) (suc j)) (length x) i (le-of-suc-le-suc (b .1)) (rw (b .0) at (balances-of q x s (suc i) e))
-
-module _ (q : ℕ) (x : List ℕ) (levels : 1 ≤ q) (some : 1 ≤ length x) (even : length x * (q - 1) % 2 ≡ 0) where
-  pub s-found : earliestS q x < q
-  unfolding balancingValue
-  s-found =
-      let w : ℕ = balancingValue q (length x) in
-      let e : length (integrate q 0 x) ≡ length x = length-integrate q 0 x in
-      let middle : length x * (q - 1) ≡ 2 * w = omega arith in
-      lt-of-not-le (λ (h : q ≤ earliestS q x). choices-meet q w (integrate q 0 x) levels (rw e some) (rw e middle) (λ s i l j k.
-      no-earlier q x s (suc i) (suc-le-suc zero-le) (rw e at j) (inl (omega arith)) (ap weight (chosen-shifted q x s i (rw e at j)) ∙ k)))
-
-  pub v-found : earliestV q x ≤ length x
-  unfolding earliestS earliestV
-  v-found =
-      ltb→lt (least (λ i. balances q x (earliestS q x) (suc i)) (length x)) (length x)
-      (least-hit (λ s. anyBelow (λ i. balances q x s (suc i)) (length x)) q s-found)
-
-  pub found : weight (balanced q x) ≡ balancingValue q (length x)
-  unfolding balances earliestV balanced
-  found =
-      eqb→eq (weight (balanced q x)) (balancingValue q (length x))
-      (least-hit (λ i. balances q x (earliestS q x) (suc i)) (length x) v-found)
-
-pub balance-exists : BalanceExists
-unfolding earliestV
-balance-exists q x levels some even =
-    record {
-      s-below = s-found q x levels some even;
-      v-from = suc-le-suc zero-le;
-      v-upto = v-found q x levels some even;
-      balances = found q x levels some even;
-      first = no-earlier q x;
-    }

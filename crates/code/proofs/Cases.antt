@@ -8,9 +8,10 @@ use Rattle.code.specs.Balance.{chosen, balances, earliestS, earliestV, b
 use Rattle.code.specs.Codeword.{alpha, beta, withChecks, interleaved, encoded, body, received, nearCode, restored, isBalanced, hasChecks, hasComponents, codeword, carried}
 use Rattle.code.specs.Reading.{changedAt, sentAt, nearReading, reading}
 use Rattle.code.specs.Profiles.{profile}
+use Rattle.code.specs.Operations.{decodeAnswer}
 use Rattle.code.specs.Cases.{AllHold, starred}
 
 pub starred-hold : AllHold starred
-unfolding minus balancingValue delta syndrome inCode isCheck message candidate component chosen balances earliestS earliestV balanced alpha beta withChecks interleaved encoded body received nearCode restored isBalanced hasChecks hasComponents codeword carried changedAt sentAt nearReading reading profile
+unfolding minus balancingValue delta syndrome inCode isCheck message candidate component chosen balances earliestS earliestV balanced alpha beta withChecks interleaved encoded body received nearCode restored isBalanced hasChecks hasComponents codeword carried changedAt sentAt nearReading reading profile decodeAnswer
 starred-hold =
     ((refl, refl, refl, refl), (refl, (refl, (refl, (refl, (refl, ((refl, refl, refl), (refl, (refl, (refl, (refl, tt)))))))))))

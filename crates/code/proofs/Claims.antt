@@ -1,13 +1,14 @@
 -- Every claim of specs/Claims.antt, proved.
 -- Assumes nothing.
 use Rattle.code.specs.Claims.{Claims}
-use Rattle.code.proofs.Balance.{balance-exists}
+use Rattle.code.proofs.Choice.{balance-exists}
 use Rattle.code.proofs.Pair.{balance-of-pair}
 use Rattle.code.proofs.Component.{one-component}
-use Rattle.code.proofs.Encoded.{encoded-carries}
+use Rattle.code.proofs.Encoded.{choice-carries, encoded-carries}
 use Rattle.code.proofs.Restored.{one-pair}
+use Rattle.code.proofs.Parity.{parity-sums}
 use Rattle.code.proofs.Apart.{apart-by-units, differences-invertible, apart}
-use Rattle.code.proofs.Reading.{reading-corrects}
+use Rattle.code.proofs.Reading.{near-is-one, reading-is, reading-corrects}
 use Rattle.code.proofs.Profiles.{profiles-fit}
 use Rattle.code.proofs.Cases.{starred-hold}
 
@@ -17,11 +18,15 @@ claims =
       balance-exists = balance-exists;
       balance-of-pair = balance-of-pair;
       one-component = one-component;
+      choice-carries = choice-carries;
       encoded-carries = encoded-carries;
       one-pair = one-pair;
+      parity-sums = parity-sums;
       apart-by-units = apart-by-units;
       differences-invertible = differences-invertible;
       apart = apart;
+      near-is-one = near-is-one;
+      reading-is = reading-is;
       reading-corrects = reading-corrects;
       profiles-fit = profiles-fit;
       starred-hold = starred-hold;

@@ -17,27 +17,28 @@ use Rattle.code.specs.Component.{checkRow}
 use Rattle.code.proofs.Weights.{cut, cut-below, cut-past, later}
 
 -- the last row is all 1
-pub last-row : (q r i : ℕ) → checkRow q r (r - 1) i ≡ 1
-last-row q r i = getD-at (digits q (r - 1) (suc i)) 1 [] 0 (r - 1) (length-digits q (r - 1) (suc i))
+pub last-row : (p : Parameters) (i : ℕ) → checkRow p (p .r - 1) i ≡ 1
+last-row p i = getD-at (digits (p .q) (p .r - 1) (suc i)) 1 [] 0 (p .r - 1) (length-digits (p .q) (p .r - 1) (suc i))
 
 -- the other rows are the digits
-pub digit-row : (q r j i : ℕ) → j < r - 1 → checkRow q r j i ≡ getD (digits q (r - 1) (suc i)) j 0
-digit-row q r j i h =
-    List·getD-append (digits q (r - 1) (suc i)) (1 ∷ []) 0 j (subst (λ (k : ℕ). j < k) (sym (length-digits q (r - 1) (suc i))) h)
+pub digit-row : (p : Parameters) (j i : ℕ) → j < p .r - 1 → checkRow p j i ≡ getD (digits (p .q) (p .r - 1) (suc i)) j 0
+digit-row p j i h =
+    let d = digits (p .q) (p .r - 1) (suc i) in
+    List·getD-append d (1 ∷ []) 0 j (subst (λ (k : ℕ). j < k) (sym (length-digits (p .q) (p .r - 1) (suc i))) h)
 
 -- column a + 1, and zeros past the last column: row j
 abbrev pub entry : Parameters → ℕ → ℕ → ℕ
-entry p j = cut (p .n) (checkRow (p .q) (p .r) j)
+entry p j = cut (p .n) (checkRow p j)
 
-pub entry-in : (p : Parameters) (j a : ℕ) → a < p .n → entry p j a ≡ checkRow (p .q) (p .r) j a
-entry-in p j a h = cut-below (p .n) (checkRow (p .q) (p .r) j) a h
+pub entry-in : (p : Parameters) (j a : ℕ) → a < p .n → entry p j a ≡ checkRow p j a
+entry-in p j a h = cut-below (p .n) (checkRow p j) a h
 
 pub entry-out : (p : Parameters) (j a : ℕ) → p .n ≤ a → entry p j a ≡ 0
-entry-out p j a h = cut-past (p .n) (checkRow (p .q) (p .r) j) a h
+entry-out p j a h = cut-past (p .n) (checkRow p j) a h
 
 -- the last row
 pub entry-last : (p : Parameters) (a : ℕ) → a < p .n → entry p (p .r - 1) a ≡ 1
-entry-last p a h = entry-in p (p .r - 1) a h ∙ last-row (p .q) (p .r) a
+entry-last p a h = entry-in p (p .r - 1) a h ∙ last-row p a
 
 module _ (p : Parameters) (s : Sized p) where
   pub q-positive : 1 ≤ p .q
@@ -56,14 +57,14 @@ module _ (p : Parameters) (s : Sized p) where
       go (suc (suc r)) h = suc-le-suc (suc-le-suc zero-le)
 
   pub columns-differ : (a c : ℕ) → a < p .n → c < p .n
-      → ((j : ℕ) → j < p .r → Congruent (p .q) (checkRow (p .q) (p .r) j a) (checkRow (p .q) (p .r) j c)) → a ≡ c
+      → ((j : ℕ) → j < p .r → Congruent (p .q) (checkRow p j a) (checkRow p j c)) → a ≡ c
   columns-differ a c ha hc e =
       suc-inj
       (digits-injective (p .q) (p .r - 1) (suc a) (suc c) q-positive (le-trans (suc-le-suc ha) (s .columns)) (le-trans (suc-le-suc hc) (s .columns))
       (λ d l.
       let k : d < p .r = omega arith in
       small (digits-below (p .q) (p .r - 1) (suc a) d q-positive) (digits-below (p .q) (p .r - 1) (suc c) d q-positive)
-      (of-eq (sym (digit-row (p .q) (p .r) d a l)) then e d k then of-eq (digit-row (p .q) (p .r) d c l))))
+      (of-eq (sym (digit-row p d a l)) then e d k then of-eq (digit-row p d c l))))
 
   pub one-not-zero : Congruent (p .q) 1 0 → ⊥
   one-not-zero h = let e : _≡_ {A = ℕ} 1 0 = small {q = p .q} (omega (arith, s .levels)) q-positive h in omega arith

@@ -22,17 +22,17 @@ use Rattle.modular.proofs.Sum.{dot-agree, dot-set-one, dot-set-zero}
 use Rattle.modular.proofs.Residue.{of-eq, same, symm, _then_, add, mul, small, cancel, minus-below, minus-add}
 use Rattle.modular.proofs.Digits.{digits-below, digits-onto}
 use Rattle.code.specs.Parameters.{Parameters, Sized, messageLength}
-use Rattle.code.specs.Component.{symbolsBelow, isWord, inCode, keep, message, merge, candidate, component}
+use Rattle.code.specs.Component.{symbolsBelow, Below, isWord, inCode, checkAt, keep, message, merge, candidate, component}
 use Rattle.code.specs.Claims.{Holding, OneComponent}
 use Rattle.code.proofs.Symbols.{symbol-below, symbols-below, symbols-set}
 use Rattle.code.proofs.Syndrome.{code-zero, zero-code}
 use Rattle.code.proofs.Columns.{q-positive}
-use Rattle.code.proofs.Merge.{Below, opposite, word-length, word-below, word-of, below-keep, below-merge, count, count-not, length-keep, length-merge, merge-keep, keep-merge, keep-at, keep-set}
-use Rattle.code.proofs.Reduced.{check, place, reduced, Vanish, place-below, check-place, place-check, reduced-same, reduced-other, check-count, reduced-rows, rows-reduced}
+use Rattle.code.proofs.Merge.{opposite, word-length, word-below, word-of, below-keep, below-merge, count, count-not, length-keep, length-merge, merge-keep, keep-merge, keep-at, keep-set}
+use Rattle.code.proofs.Reduced.{place, reduced, Vanish, place-below, check-place, place-check, reduced-same, reduced-other, check-count, reduced-rows, rows-reduced}
 
 module _ (p : Parameters) (s : Sized p) where
   -- words whose reduced sums vanish and that agree off the check positions agree mod q there too
-  determined : (c d : List ℕ) → length c ≡ p .n → length d ≡ p .n → ((i : ℕ) → (T (check p i) → ⊥) → getD c i 0 ≡ getD d i 0)
+  determined : (c d : List ℕ) → length c ≡ p .n → length d ≡ p .n → ((i : ℕ) → (T (checkAt p i) → ⊥) → getD c i 0 ≡ getD d i 0)
       → Vanish p (p .r) c → Vanish p (p .r) d → (k : ℕ) → k < p .r
       → Congruent (p .q) (getD c (place p k) 0) (getD d (place p k) 0)
   determined c d l m e u v k h =
@@ -55,7 +55,7 @@ module _ (p : Parameters) (s : Sized p) where
       inside : i < length d
       inside = rw m (place-below p s k h)
 
-      off : (j : ℕ) → j ≢ i → T (check p j) ⊎ (T (check p j) → ⊥) → Congruent (p .q) (f j * getD c j 0) (f j * getD d j 0)
+      off : (j : ℕ) → j ≢ i → T (checkAt p j) ⊎ (T (checkAt p j) → ⊥) → Congruent (p .q) (f j * getD c j 0) (f j * getD d j 0)
       off j n (inl t) =
           let (l, b, y) = check-place p s j t in
           let z : Congruent (p .q) (f j) 0 = of-eq (ap f y) then reduced-other p s k l h b (λ g. n (y ∙ ap (place p) (sym g))) in
@@ -66,13 +66,13 @@ module _ (p : Parameters) (s : Sized p) where
       term j n =
           elim (ℕ-discrete j i) [
             | yes y ↦ rw y (of-eq (ap (λ (z : ℕ). f i * z) (sym (getD-set-same d i (getD c i 0) 0 inside))))
-            | no y ↦ off j y (decide (check p j)) then of-eq (ap (λ (z : ℕ). f j * z) (sym (getD-set-other d i j (getD c i 0) 0 y)))
+            | no y ↦ off j y (decide (checkAt p j)) then of-eq (ap (λ (z : ℕ). f j * z) (sym (getD-set-other d i j (getD c i 0) 0 y)))
           ]
 
   pub unique : {a c d : List ℕ} → Holding p a c → Holding p a d → c ≡ d
   unfolding message
   unique {a} {c} {d} h g =
-      ext-getD 0 c d (size c h ∙ sym (size d g)) (λ i l. at i (decide (check p i)))
+      ext-getD 0 c d (size c h ∙ sym (size d g)) (λ i l. at i (decide (checkAt p i)))
     where
       size : (w : List ℕ) → Holding p a w → length w ≡ p .n
       size w k = word-length (p .q) (p .n) w (k .word)
@@ -83,10 +83,10 @@ module _ (p : Parameters) (s : Sized p) where
       sums : (w : List ℕ) → Holding p a w → Vanish p (p .r) w
       sums w k = reduced-rows p s w (code-zero p w (k .code))
 
-      off : (i : ℕ) → (T (check p i) → ⊥) → getD c i 0 ≡ getD d i 0
-      off i t = keep-at (opposite (check p)) c d (size c h ∙ sym (size d g)) (h .holds ∙ sym (g .holds)) i (not-T (check p i) t)
+      off : (i : ℕ) → (T (checkAt p i) → ⊥) → getD c i 0 ≡ getD d i 0
+      off i t = keep-at (opposite (checkAt p)) c d (size c h ∙ sym (size d g)) (h .holds ∙ sym (g .holds)) i (not-T (checkAt p i) t)
 
-      at : (i : ℕ) → T (check p i) ⊎ (T (check p i) → ⊥) → getD c i 0 ≡ getD d i 0
+      at : (i : ℕ) → T (checkAt p i) ⊎ (T (checkAt p i) → ⊥) → getD c i 0 ≡ getD d i 0
       at i (inl t) =
           let (k, l, e) = check-place p s i t in
           small (below c h i) (below d g i) (rw e (determined c d (size c h) (size d g) off (sums c h) (sums d g) k l))
@@ -97,13 +97,13 @@ record Solution (p : Parameters) (a : List ℕ) (k : ℕ) : Type 0 where
   solution : List ℕ
   size : length solution ≡ p .n
   below : T (symbolsBelow (p .q) solution)
-  holds : message (p .q) (p .r) solution ≡ a
+  holds : message p solution ≡ a
   sums : Vanish p k solution
 
 module _ (p : Parameters) (s : Sized p) (a : List ℕ) (w : T (isWord (p .q) (messageLength p) a)) where
   -- as many symbols as there are positions without a check symbol
-  pub message-fits : length a ≡ count (opposite (check p)) (p .n)
-  message-fits = omega (arith, word-length (p .q) (messageLength p) a w, check-count p s, count-not (check p) (p .n))
+  pub message-fits : length a ≡ count (opposite (checkAt p)) (p .n)
+  message-fits = omega (arith, word-length (p .q) (messageLength p) a w, check-count p s, count-not (checkAt p) (p .n))
 
   message-below : Below (p .q) a
   message-below = word-below (p .q) (messageLength p) a (q-positive p s) w
@@ -113,10 +113,10 @@ module _ (p : Parameters) (s : Sized p) (a : List ℕ) (w : T (isWord (p .q) (me
   unfolding message
   merged e h =
       record {
-        solution = merge (check p) (p .n) e a;
-        size = length-merge (check p) (p .n) e a;
-        below = symbols-below (p .q) (merge (check p) (p .n) e a) (λ i l. below-merge (p .q) (check p) (p .n) e a h message-below i);
-        holds = keep-merge (check p) (p .n) e a message-fits;
+        solution = merge (checkAt p) (p .n) e a;
+        size = length-merge (checkAt p) (p .n) e a;
+        below = symbols-below (p .q) (merge (checkAt p) (p .n) e a) (λ i l. below-merge (p .q) (checkAt p) (p .n) e a h message-below i);
+        holds = keep-merge (checkAt p) (p .n) e a message-fits;
         sums = λ k l. absurd (not-suc-le-zero l);
       }
 
@@ -128,7 +128,7 @@ module _ (p : Parameters) (s : Sized p) (a : List ℕ) (w : T (isWord (p .q) (me
         solution = x;
         size = length-set c i y ∙ b .size;
         below = symbols-set (p .q) c i y (minus-below (p .q) (getD c i 0) (dot (reduced p k) c) (q-positive p s)) (b .below);
-        holds = keep-set (opposite (check p)) c i y (λ n. T-not (check p i) n (place-check p s k h)) ∙ b .holds;
+        holds = keep-set (opposite (checkAt p)) c i y (λ n. T-not (checkAt p i) n (place-check p s k h)) ∙ b .holds;
         sums = λ l m. sum l m (ℕ-discrete l k);
       }
     where
@@ -166,25 +166,25 @@ module _ (p : Parameters) (s : Sized p) (a : List ℕ) (w : T (isWord (p .q) (me
   solve (suc k) h = step k h (solve k (le-of-suc-le h))
 
   -- the check symbols of that word are the digits of an e that the search comes to
-  found : (e : ℕ) × (e < p .q ^ p .r) × T (inCode (p .q) (p .r) (candidate p a e))
+  found : (e : ℕ) × (e < p .q ^ p .r) × T (inCode p (candidate p a e))
   unfolding message candidate
   found =
       let b : Solution p a (p .r) = solve (p .r) (le-refl (p .r)) in
       let c : List ℕ = b .solution in
-      let l : List ℕ = keep (check p) c in
-      let n : length l ≡ p .r = length-keep (check p) c ∙ ap (count (check p)) (b .size) ∙ check-count p s in
-      let (e, m, d) = digits-onto (p .q) l (λ i o. below-keep (p .q) (check p) c (symbol-below (p .q) (q-positive p s) c (b .below)) i) in
+      let l : List ℕ = keep (checkAt p) c in
+      let n : length l ≡ p .r = length-keep (checkAt p) c ∙ ap (count (checkAt p)) (b .size) ∙ check-count p s in
+      let (e, m, d) = digits-onto (p .q) l (λ i o. below-keep (p .q) (checkAt p) c (symbol-below (p .q) (q-positive p s) c (b .below)) i) in
       let f : digits (p .q) (p .r) e ≡ l = rw n at d in
-      let g : merge (check p) (p .n) (digits (p .q) (p .r) e) a ≡ c =
-      ap (λ (u : List ℕ). merge (check p) (p .n) u a) f
-      ∙ ap₂ (λ (o : ℕ) (u : List ℕ). merge (check p) o l u) (sym (b .size)) (sym (b .holds))
-      ∙ merge-keep (check p) c in
+      let g : merge (checkAt p) (p .n) (digits (p .q) (p .r) e) a ≡ c =
+      ap (λ (u : List ℕ). merge (checkAt p) (p .n) u a) f
+      ∙ ap₂ (λ (o : ℕ) (u : List ℕ). merge (checkAt p) o l u) (sym (b .size)) (sym (b .holds))
+      ∙ merge-keep (checkAt p) c in
       (e, rw n at m, rw g (zero-code p c (rows-reduced p s c (b .sums))))
 
   pub component-holding : Holding p a (component p a)
   unfolding message candidate component merged
   component-holding =
-      let t : ℕ → Bool = λ e. inCode (p .q) (p .r) (candidate p a e) in
+      let t : ℕ → Bool = λ e. inCode p (candidate p a e) in
       let (e, l, h) = found in
       let d : List ℕ = digits (p .q) (p .r) (least t (p .q ^ p .r)) in
       let b : Solution p a 0 = merged d (λ i. digits-below (p .q) (p .r) (least t (p .q ^ p .r)) i (q-positive p s)) in

@@ -5,7 +5,7 @@ use mathlib.Core.Path.{_≡_, sym, ap, ap₂, subst, _∙_}
 use mathlib.Core.Logic.{_⊎_, inl, inr}
 use mathlib.Core.Bool.{Bool, true, false, _&&_}
 use mathlib.Core.List.{List, [], _∷_}
-use Prim.Native.Nat.{ℕ, zero, suc, _+_, _-_, _%_, _≤_, _<_}
+use Prim.Native.Nat.{ℕ, zero, suc, _+_, _%_, _≤_, _<_}
 use native.Mathlib.Nat.{add-comm, mod-lt, not-suc-le-zero, le-of-suc-le-suc}
 use native.Mathlib.Omega.{arith}
 use lib.Dec.{T, eqb, ltb, lt→ltb}
@@ -16,16 +16,16 @@ use Rattle.modular.specs.Residue.{minus}
 use Rattle.modular.proofs.Search.{and-left, and-right, and-intro}
 use Rattle.code.specs.Parameters.{Parameters, Sized, balancedLength, balancingValue}
 use Rattle.code.specs.Component.{symbolsBelow, inCode, message, component}
-use Rattle.code.specs.Balance.{interleave, addAt, difference, chosen, earliestS, earliestV, balanced}
+use Rattle.code.specs.Balance.{interleave, addAt, difference, withZero, zeroIndex, addOne, differences, chosen, earliestS, earliestV, balanced}
 use Rattle.code.specs.Codeword.{alternate, alpha, beta, withChecks, interleaved, encoded, body, received, lowered, restored, carried}
-use Rattle.code.specs.Claims.{Balanced, Holding, Encodes, EncodedCarries}
+use Rattle.code.specs.Claims.{Tried, Holding, Encodes, ChoiceCarries, EncodedCarries}
 use Rattle.code.proofs.Weights.{double, double-is, part}
 use Rattle.code.proofs.Syndrome.{Zero, ColumnOf, code-zero, lowered-column}
 use Rattle.code.proofs.Columns.{q-positive}
 use Rattle.code.proofs.Moves.{Column, Near, neither, first, second, parity}
 use Rattle.code.proofs.Symbols.{symbol-below, symbols-set, symbols-append}
 use Rattle.code.proofs.Lawful.{codeword-of, body-of}
-use Rattle.code.proofs.Balance.{length-chosen}
+use Rattle.code.proofs.Choice.{length-chosen}
 use Rattle.code.proofs.Pair.{length-component, length-interleave, length-interleaved, balance-of-pair}
 use Rattle.code.proofs.Component.{component-holding}
 use Rattle.code.proofs.Restored.{restored-zero, restored-column}
@@ -51,6 +51,10 @@ symbols-interleave q (c ∷ x) (d ∷ y) a b =
 
 symbols-raised : (q : ℕ) → 1 ≤ q → (c : List ℕ) (i e : ℕ) → T (symbolsBelow q c) → T (symbolsBelow q (addAt q c i e))
 symbols-raised q h c i e b = symbols-set q c i ((getD c i 0 + e) % q) (mod-lt (getD c i 0 + e) h) b
+
+symbols-one : (p : Parameters) → 1 ≤ p .q → (c : List ℕ) (v : ℕ) → T (symbolsBelow (p .q) c) → T (symbolsBelow (p .q) (addOne p c v))
+symbols-one p h c zero b = b
+symbols-one p h c (suc i) b = symbols-raised (p .q) h c i 1 b
 
 -- a word's components are c and d, or those with 1 added to a symbol of one of them
 data Sent (q : ℕ) (c d : List ℕ) (z : List ℕ) : Type 0 where
@@ -86,13 +90,11 @@ raise-sent q c d t e l = go (parity t .0) (parity t .1)
         ∙ ap₂ (λ (a : List ℕ) (y : ℕ). set a k ((y + 1) % q)) two (second-at z k ∙ ap (λ (a : List ℕ). getD a k 0) two)))
 
 -- so for a choice: 1 added to the symbol in front of the components changes none of them
-choice-sent : (q : ℕ) (c d : List ℕ) (s v : ℕ) → length c ≡ length d → 1 ≤ v → v ≤ length (0 ∷ interleave c d)
-    → Sent q c d (drop 1 (addAt q (addAt q (0 ∷ interleave c d) 0 s) (v - 1) 1))
-choice-sent q c d s zero e h l = absurd (not-suc-le-zero h)
-choice-sent q c d s (suc zero) e h l = as-made (alternate-first c d e) (alternate-second c d e)
-choice-sent q c d s (suc (suc t)) e h l =
-    let k : suc (suc t) - 1 ≡ suc t = omega arith in
-    subst (λ (j : ℕ). Sent q c d (drop 1 (addAt q ((0 + s) % q ∷ interleave c d) j 1))) (sym k) (raise-sent q c d t e (le-of-suc-le-suc l))
+choice-sent : (p : Parameters) (c d : List ℕ) (s v : ℕ) → length c ≡ length d → Tried p (length (withZero p (interleave c d))) v
+    → Sent (p .q) c d (drop 1 (addOne p (addAt (p .q) (withZero p (interleave c d)) 0 s) v))
+choice-sent p c d s zero e h = absurd (not-suc-le-zero (h .0))
+choice-sent p c d s (suc zero) e h = as-made (alternate-first c d e) (alternate-second c d e)
+choice-sent p c d s (suc (suc t)) e h = raise-sent (p .q) c d t e (le-of-suc-le-suc (h .1))
 
 word-below : {p : Parameters} {a c : List ℕ} → Holding p a c → T (symbolsBelow (p .q) c)
 word-below {p} {a} {c} h = and-right (eqb (length c) (p .n)) (symbolsBelow (p .q) c) (h .word)
@@ -105,7 +107,7 @@ module _ (p : Parameters) (s : Sized p) {a c : List ℕ} (h : Holding p a c) (k 
   raised-column : ColumnOf p (addAt (p .q) c k 1) k
   raised-column =
       lowered-column p (q-positive p s) (addAt (p .q) c k 1) k raised-long
-      (subst (λ (x : List ℕ). T (inCode (p .q) (p .r) x)) (sym (lowered-raised (p .q) (q-positive p s) c k (word-below h) l)) (h .code))
+      (subst (λ (x : List ℕ). T (inCode p x)) (sym (lowered-raised (p .q) (q-positive p s) c k (word-below h) l)) (h .code))
 
   raised-restored : length c ≡ p .n → restored p (addAt (p .q) c k 1) ≡ c
   raised-restored n =
@@ -113,53 +115,45 @@ module _ (p : Parameters) (s : Sized p) {a c : List ℕ} (h : Holding p a c) (k 
       ∙ lowered-raised (p .q) (q-positive p s) c k (word-below h) l
 
 -- the word that is integrated
-abbrev precoded : Parameters → List ℕ → List ℕ → List ℕ
-precoded p a b =
-    addAt (p .q) (addAt (p .q) (interleaved p a b) 0 (earliestS (p .q) (interleaved p a b))) (earliestV (p .q) (interleaved p a b) - 1) 1
+abbrev precoded : Parameters → List ℕ → List ℕ → ℕ → ℕ → List ℕ
+precoded p a b t v = let x = interleaved p a b in addOne p (addAt (p .q) x (zeroIndex p x) t) v
 
-module _ (p : Parameters) (s : Sized p) (a b : List ℕ) (ha : Holding p a (component p a)) (hb : Holding p b (component p b)) where
-  precoded-below : T (symbolsBelow (p .q) (precoded p a b))
+module _ (p : Parameters) (s : Sized p) (a b : List ℕ) (ha : Holding p a (component p a)) (hb : Holding p b (component p b)) (t v : ℕ)
+    (tried : Tried p (balancedLength p) v) (weighs : weight (chosen p (interleaved p a b) t v) ≡ balancingValue (p .q) (balancedLength p)) where
+  precoded-below : T (symbolsBelow (p .q) (precoded p a b t v))
   unfolding interleaved
   precoded-below =
-      symbols-raised (p .q) (q-positive p s) (addAt (p .q) (interleaved p a b) 0 (earliestS (p .q) (interleaved p a b)))
-      (earliestV (p .q) (interleaved p a b) - 1) 1
-      (symbols-raised (p .q) (q-positive p s) (interleaved p a b) 0 (earliestS (p .q) (interleaved p a b))
+      symbols-one p (q-positive p s) (addAt (p .q) (interleaved p a b) 0 t) v
+      (symbols-raised (p .q) (q-positive p s) (interleaved p a b) 0 t
       (and-intro (ltb 0 (p .q)) (symbolsBelow (p .q) (interleave (component p a) (component p b))) (lt→ltb 0 (p .q) (q-positive p s))
       (symbols-interleave (p .q) (component p a) (component p b) (word-below ha) (word-below hb))))
 
   -- w, which differencing takes back to what was integrated
   abbrev w : List ℕ
-  w = balanced (p .q) (interleaved p a b)
+  w = chosen p (interleaved p a b) t v
 
-  differenced : difference (p .q) 0 w ≡ precoded p a b
-  unfolding balanced chosen
-  differenced = difference-integrate (p .q) (q-positive p s) 0 (precoded p a b) precoded-below
+  differenced : difference (p .q) 0 w ≡ precoded p a b t v
+  unfolding chosen
+  differenced = difference-integrate (p .q) (q-positive p s) 0 (precoded p a b t v) precoded-below
 
   long : length w ≡ balancedLength p
-  unfolding balanced
-  long = length-chosen (p .q) (interleaved p a b) (earliestS (p .q) (interleaved p a b)) (earliestV (p .q) (interleaved p a b)) ∙ length-interleaved p a b
-
-  found : Balanced (p .q) (interleaved p a b)
-  found = balance-of-pair p s a b .1
-
-  weighs : weight w ≡ balancingValue (p .q) (balancedLength p)
-  weighs = found .balances ∙ ap (balancingValue (p .q)) (length-interleaved p a b)
+  long = length-chosen p (interleaved p a b) t v ∙ length-interleaved p a b
 
   below : T (symbolsBelow (p .q) (withChecks (p .q) w))
-  unfolding withChecks alpha beta balanced chosen
+  unfolding withChecks alpha beta chosen
   below =
-      symbols-append (p .q) w (alpha (p .q) w ∷ beta (p .q) w ∷ []) (integrate-below (p .q) (q-positive p s) 0 (precoded p a b))
+      symbols-append (p .q) w (alpha (p .q) w ∷ beta (p .q) w ∷ []) (integrate-below (p .q) (q-positive p s) 0 (precoded p a b t v))
       (and-intro (ltb (alpha (p .q) w) (p .q)) (ltb (beta (p .q) w) (p .q) && true) (lt→ltb (alpha (p .q) w) (p .q) (mod-lt _ (q-positive p s)))
       (and-intro (ltb (beta (p .q) w) (p .q)) true (lt→ltb (beta (p .q) w) (p .q) (mod-lt _ (q-positive p s))) tt))
 
-  sent : Sent (p .q) (component p a) (component p b) (drop 1 (difference (p .q) 0 w))
+  sent : Sent (p .q) (component p a) (component p b) (differences p w)
   unfolding interleaved
   sent =
       subst (λ (z : List ℕ). Sent (p .q) (component p a) (component p b) (drop 1 z)) (sym differenced)
-      (choice-sent (p .q) (component p a) (component p b) (earliestS (p .q) (interleaved p a b)) (earliestV (p .q) (interleaved p a b))
-      (length-component p a ∙ sym (length-component p b)) (found .v-from) (found .v-upto))
+      (choice-sent p (component p a) (component p b) t v
+      (length-component p a ∙ sym (length-component p b)) (rw (length-interleaved p a b) tried))
 
-  near : Near p w
+  near : Near p (part (p .q) true w) (part (p .q) false w)
   near = go sent
     where
       zero : {e c : List ℕ} (b : Bool) → Holding p e c → part (p .q) b w ≡ c → Zero p (part (p .q) b w)
@@ -168,7 +162,8 @@ module _ (p : Parameters) (s : Sized p) (a b : List ℕ) (ha : Holding p a (comp
       column : {e c : List ℕ} (b : Bool) → Holding p e c → (k : ℕ) → k < length c → part (p .q) b w ≡ addAt (p .q) c k 1 → Column p (part (p .q) b w)
       column b h k l x = subst (Column p) (sym x) (k, raised-long p s h k l, raised-column p s h k l)
 
-      go : Sent (p .q) (component p a) (component p b) (drop 1 (difference (p .q) 0 w)) → Near p w
+      go : Sent (p .q) (component p a) (component p b) (differences p w)
+          → Near p (part (p .q) true w) (part (p .q) false w)
       go (as-made e f) = neither (zero true ha e) (zero false hb f)
       go (first-raised k l e f) = first (column true ha k l e) (zero false hb f)
       go (second-raised k l e f) = second (zero true ha e) (column false hb k l f)
@@ -180,7 +175,7 @@ module _ (p : Parameters) (s : Sized p) (a b : List ℕ) (ha : Holding p a (comp
       made : {e c : List ℕ} → Holding p e c → length c ≡ p .n → restored p c ≡ c
       made {c = c} h n = restored-zero p s c n (code-zero p c (h .code))
 
-      go : Sent (p .q) (component p a) (component p b) (drop 1 (difference (p .q) 0 w))
+      go : Sent (p .q) (component p a) (component p b) (differences p w)
           → (restored p (part (p .q) true w) ≡ component p a) × (restored p (part (p .q) false w) ≡ component p b)
       go (as-made e f) = (ap (restored p) e ∙ made ha (length-component p a), ap (restored p) f ∙ made hb (length-component p b))
       go (first-raised k l e f) =
@@ -188,27 +183,33 @@ module _ (p : Parameters) (s : Sized p) (a b : List ℕ) (ha : Holding p a (comp
       go (second-raised k l e f) =
           (ap (restored p) e ∙ made ha (length-component p a), ap (restored p) f ∙ raised-restored p s hb k l (length-component p b))
 
-  here : body p (encoded p a b) ≡ w
-  unfolding encoded
+  here : body p (withChecks (p .q) w) ≡ w
   here = body-of p w long
 
-  encodes : Encodes p a b
-  unfolding encoded carried received
+  encodes : Encodes p (withChecks (p .q) w) a b
+  unfolding carried received
   encodes =
       record {
         lawful = codeword-of p (q-positive p s) w long below weighs near;
         first =
-            ap (λ (x : List ℕ). message (p .q) (p .r) (restored p (part (p .q) true x))) here
-            ∙ ap (message (p .q) (p .r)) (restored-made .0)
+            ap (λ (x : List ℕ). message p (restored p (part (p .q) true x))) here
+            ∙ ap (message p) (restored-made .0)
             ∙ ha .holds;
         second =
-            ap (λ (x : List ℕ). message (p .q) (p .r) (restored p (part (p .q) false x))) here
-            ∙ ap (message (p .q) (p .r)) (restored-made .1)
+            ap (λ (x : List ℕ). message p (restored p (part (p .q) false x))) here
+            ∙ ap (message p) (restored-made .1)
             ∙ hb .holds;
         checks =
             ap (λ (x : List ℕ). alpha (p .q) x + beta (p .q) x) here
             ∙ checks-balanced (p .q) w (s .odd) (omega (arith, long, s .second)) (weighs ∙ ap (balancingValue (p .q)) (sym long));
       }
 
+pub choice-carries : ChoiceCarries
+choice-carries p s a b ha hb t v tried weighs = encodes p s a b (component-holding p s a ha) (component-holding p s b hb) t v tried weighs
+
 pub encoded-carries : EncodedCarries
-encoded-carries p s a b ha hb = encodes p s a b (component-holding p s a ha) (component-holding p s b hb)
+unfolding encoded balanced
+encoded-carries p s a b ha hb =
+    let (e, found) = balance-of-pair p s a b in
+    choice-carries p s a b ha hb (earliestS p (interleaved p a b)) (earliestV p (interleaved p a b))
+    (rw e at (found .v-tried)) (found .balances ∙ ap (balancingValue (p .q)) e)

@@ -14,7 +14,8 @@ use Rattle.modular.specs.Sum.{weight}
 use Rattle.modular.proofs.Search.{eq-test, and-left, and-right, and-intro, and-four, and-parts, or-cases, or-left, or-right}
 use Rattle.code.specs.Parameters.{Parameters, balancedLength, codewordLength, balancingValue}
 use Rattle.code.specs.Component.{symbolsBelow, isWord, inCode}
-use Rattle.code.specs.Codeword.{alpha, beta, withChecks, body, received, nearCode, isBalanced, hasChecks, hasComponents, codeword}
+use Rattle.code.specs.Balance.{differences}
+use Rattle.code.specs.Codeword.{alternate, alpha, beta, withChecks, body, received, nearCode, isBalanced, hasChecks, hasComponents, codeword}
 use Rattle.code.proofs.Weights.{double, double-is}
 use Rattle.code.proofs.Syndrome.{code-zero, zero-code, near-cases, zero-near, column-near}
 use Rattle.code.proofs.Moves.{Near, neither, first, second}
@@ -24,7 +25,7 @@ pub record Lawful (p : Parameters) (u : List ℕ) : Type 0 where
   pub below : T (symbolsBelow (p .q) u)
   pub weighs : weight (body p u) ≡ balancingValue (p .q) (balancedLength p)
   pub checks : u ≡ withChecks (p .q) (body p u)
-  pub near : Near p (body p u)
+  pub near : Near p (received p true u) (received p false u)
 
 pub length-body : (p : Parameters) (u : List ℕ) → length u ≡ codewordLength p → length (body p u) ≡ balancedLength p
 unfolding body
@@ -39,9 +40,9 @@ body-at p u i h = getD-take (balancedLength p) u i 0 h
 pub balanced-length : (p : Parameters) → balancedLength p ≡ suc (double (p .n))
 balanced-length p = omega (arith, double-is (p .n))
 
-components-near : (p : Parameters) → 1 ≤ p .q → (u : List ℕ) → T (hasComponents p u) → Near p (body p u)
-unfolding hasComponents received
-components-near p h u k = ⊎-elim left right (or-cases (inCode (p .q) (p .r) a && nearCode p b) (nearCode p a && inCode (p .q) (p .r) b) k)
+components-near : (p : Parameters) → 1 ≤ p .q → (u : List ℕ) → T (hasComponents p u) → Near p (received p true u) (received p false u)
+unfolding hasComponents
+components-near p h u k = ⊎-elim left right (or-cases (inCode p a && nearCode p b) (nearCode p a && inCode p b) k)
   where
     a : List ℕ
     a = received p true u
@@ -49,18 +50,18 @@ components-near p h u k = ⊎-elim left right (or-cases (inCode (p .q) (p .r) a 
     b : List ℕ
     b = received p false u
 
-    left : T (inCode (p .q) (p .r) a && nearCode p b) → Near p (body p u)
+    left : T (inCode p a && nearCode p b) → Near p a b
     left l =
-        let z = code-zero p a (and-left (inCode (p .q) (p .r) a) (nearCode p b) l) in
-        ⊎-elim (λ y. neither z y) (λ c. second z c) (near-cases p h b (and-right (inCode (p .q) (p .r) a) (nearCode p b) l))
+        let z = code-zero p a (and-left (inCode p a) (nearCode p b) l) in
+        ⊎-elim (λ y. neither z y) (λ c. second z c) (near-cases p h b (and-right (inCode p a) (nearCode p b) l))
 
-    right : T (nearCode p a && inCode (p .q) (p .r) b) → Near p (body p u)
+    right : T (nearCode p a && inCode p b) → Near p a b
     right l =
-        let z = code-zero p b (and-right (nearCode p a) (inCode (p .q) (p .r) b) l) in
-        ⊎-elim (λ y. neither y z) (λ c. first c z) (near-cases p h a (and-left (nearCode p a) (inCode (p .q) (p .r) b) l))
+        let z = code-zero p b (and-right (nearCode p a) (inCode p b) l) in
+        ⊎-elim (λ y. neither y z) (λ c. first c z) (near-cases p h a (and-left (nearCode p a) (inCode p b) l))
 
-near-components : (p : Parameters) → 1 ≤ p .q → (u : List ℕ) → Near p (body p u) → T (hasComponents p u)
-unfolding hasComponents received
+near-components : (p : Parameters) → 1 ≤ p .q → (u : List ℕ) → Near p (received p true u) (received p false u) → T (hasComponents p u)
+unfolding hasComponents
 near-components p h u k = go k
   where
     a : List ℕ
@@ -69,15 +70,15 @@ near-components p h u k = go k
     b : List ℕ
     b = received p false u
 
-    left : T (inCode (p .q) (p .r) a) → T (nearCode p b) → T (hasComponents p u)
-    left x y = or-left (inCode (p .q) (p .r) a && nearCode p b) _ (and-intro (inCode (p .q) (p .r) a) (nearCode p b) x y)
+    left : T (inCode p a) → T (nearCode p b) → T (hasComponents p u)
+    left x y = or-left (inCode p a && nearCode p b) _ (and-intro (inCode p a) (nearCode p b) x y)
 
-    go : Near p (body p u) → T (hasComponents p u)
+    go : Near p a b → T (hasComponents p u)
     go (neither x y) = left (zero-code p a x) (zero-near p b y)
     go (second x c) = left (zero-code p a x) (column-near p h b (c .0) (c .1) (c .2))
     go (first c y) =
-        or-right (inCode (p .q) (p .r) a && nearCode p b) _
-        (and-intro (nearCode p a) (inCode (p .q) (p .r) b) (column-near p h a (c .0) (c .1) (c .2)) (zero-code p b y))
+        or-right (inCode p a && nearCode p b) _
+        (and-intro (nearCode p a) (inCode p b) (column-near p h a (c .0) (c .1) (c .2)) (zero-code p b y))
 
 -- the last two symbols of a word of N
 two-last : (m : ℕ) (u : List ℕ) → length u ≡ m + 2 → u ≡ take m u ++ (getD u m 0 ∷ getD u (m + 1) 0 ∷ [])
@@ -124,13 +125,14 @@ body-of p w e = take-at w (alpha (p .q) w ∷ beta (p .q) w ∷ []) (balancedLen
 
 -- a word of m symbols that balances, with its check symbols, is a codeword where its components are near the code
 pub codeword-of : (p : Parameters) → 1 ≤ p .q → (w : List ℕ) → length w ≡ balancedLength p → T (symbolsBelow (p .q) (withChecks (p .q) w))
-    → weight w ≡ balancingValue (p .q) (balancedLength p) → Near p w → T (codeword p (withChecks (p .q) w))
-unfolding codeword isBalanced hasChecks withChecks
+    → weight w ≡ balancingValue (p .q) (balancedLength p)
+    → Near p (alternate true (differences p w)) (alternate false (differences p w)) → T (codeword p (withChecks (p .q) w))
+unfolding codeword isBalanced hasChecks withChecks received
 codeword-of p h w e b k z =
     and-four (isWord (p .q) (codewordLength p) u) (isBalanced p u) (hasChecks p u) (hasComponents p u) word (eq-test (ap weight here ∙ k))
     (and-intro (eqb (getD u (balancedLength p) 0) (alpha (p .q) (body p u))) (eqb (getD u (balancedLength p + 1) 0) (beta (p .q) (body p u)))
     (eq-test (first-check ∙ ap (alpha (p .q)) (sym here))) (eq-test (second-check ∙ ap (beta (p .q)) (sym here))))
-    (near-components p h u (subst (Near p) (sym here) z))
+    (near-components p h u (subst (λ (x : List ℕ). Near p (alternate true (differences p x)) (alternate false (differences p x))) (sym here) z))
   where
     u : List ℕ
     u = w ++ (alpha (p .q) w ∷ beta (p .q) w ∷ [])

@@ -1,3 +1,5 @@
+-- Orders of refusals
+pub mod Refusal
 -- Words and their symbols
 pub mod Symbols
 pub mod Merge
@@ -5,6 +7,7 @@ pub mod Distance
 pub mod Alternate
 -- Why a balance can always be found
 pub mod Balance
+pub mod Choice
 pub mod Pair
 -- The component code
 pub mod Weights
@@ -15,7 +18,9 @@ pub mod Component
 -- Why one bad symbol is never taken for another pair
 pub mod Moves
 pub mod Lawful
+pub mod Parity
 pub mod Apart
+pub mod Found
 pub mod Reading
 -- The pair that a codeword carries
 pub mod Restored

@@ -12,7 +12,7 @@ use lib.Arith.{lt-of-le-ne}
 use lib.ListN.{length, getD, drop, set}
 use lib.Seq.{getD-drop}
 use Rattle.modular.proofs.Search.{and-intro, and-left, and-right, same-test}
-use Rattle.code.specs.Component.{symbolsBelow, isWord, keep, merge}
+use Rattle.code.specs.Component.{symbolsBelow, Below, isWord, keep, merge}
 use Rattle.code.proofs.Symbols.{symbol-below}
 
 -- a test is true or false
@@ -29,10 +29,6 @@ abbrev pub opposite : (ℕ → Bool) → ℕ → Bool
 opposite t i = not (t i)
 
 -- Symbols below q.
-
--- every symbol is below q; past the end they are 0
-abbrev pub Below : ℕ → List ℕ → Type 0
-Below q c = (i : ℕ) → getD c i 0 < q
 
 pub word-length : (q n : ℕ) (c : List ℕ) → T (isWord q n c) → length c ≡ n
 word-length q n c h = eqb→eq (length c) n (and-left (eqb (length c) n) (symbolsBelow q c) h)

@@ -22,16 +22,17 @@ use Rattle.code.proofs.Columns.{q-positive, last-row, last-below, one-n
 pub record Move (q : ℕ) (w w′ : List ℕ) (e i j : ℕ) : Type 0 where
   pub sums : (f : ℕ → ℕ) → Congruent q (dot f w′ + f j * e) (dot f w + f i * e)
 
--- a sum that both words share has the same weight at both indices, where e has an inverse
+-- what is the same before and after has the same weight at both indices, where e has an inverse
+same-weight : {q e x x′ a a′ : ℕ} → Invertible q e → Congruent q (x′ + a′ * e) (x + a * e) → Congruent q x x′ → Congruent q a′ a
+same-weight {q} {e} {x} {x′} {a} {a′} u m k =
+    let c : x′ + a′ * e ≡ a′ * e + x′ = omega arith in
+    let d : x + a * e ≡ a * e + x = omega arith in
+    cancel-unit u
+    (of-eq (mul-comm e a′) then cancel x′ (of-eq (sym c) then m then of-eq d then add (same (a * e)) k) then of-eq (mul-comm a e))
+
 pub kept : {q : ℕ} {w w′ : List ℕ} {e i j : ℕ} → Move q w w′ e i j → Invertible q e → (f : ℕ → ℕ) → Congruent q (dot f w) (dot f w′)
     → Congruent q (f j) (f i)
-kept {q} {w} {w′} {e} {i} {j} m u f k =
-    let a : dot f w′ + f j * e ≡ f j * e + dot f w′ = omega arith in
-    let b : dot f w + f i * e ≡ f i * e + dot f w = omega arith in
-    cancel-unit u
-    (of-eq (mul-comm e (f j))
-    then cancel (dot f w′) (of-eq (sym a) then m .sums f then of-eq b then add (same (f i * e)) k)
-    then of-eq (mul-comm (f i) e))
+kept m u f k = same-weight u (m .sums f) k
 
 -- (q - 1) times a number cancels
 pub cancel-pred : (q a b : ℕ) → 1 ≤ q → Congruent q ((q - 1) * a) ((q - 1) * b) → Congruent q a b
@@ -47,19 +48,19 @@ pub parity : (t : ℕ) → (a : ℕ) × ((t ≡ double a) ⊎ (t ≡ suc (double
 parity zero = (0, inl refl)
 parity (suc t) = let (a, c) = parity t in ⊎-elim (λ (x : t ≡ double a). (a, inr (ap suc x))) (λ (x : t ≡ suc (double a)). (suc a, inl (ap suc x))) c
 
--- a component of w: in code, or with the column of one of its symbols for a syndrome
+-- a component with the column of one of its symbols for a syndrome
 abbrev pub Column : Parameters → List ℕ → Type 0
 Column p c = (i : ℕ) × (i < length c) × ColumnOf p c i
 
--- the components of w: both in code, or one of them and the other with a column for a syndrome
-pub data Near (p : Parameters) (w : List ℕ) : Type 0 where
-  neither : Zero p (part (p .q) true w) → Zero p (part (p .q) false w) → Near p w
-  first : Column p (part (p .q) true w) → Zero p (part (p .q) false w) → Near p w
-  second : Zero p (part (p .q) true w) → Column p (part (p .q) false w) → Near p w
+-- two components: both in code, or one of them and the other with a column for a syndrome
+pub data Near (p : Parameters) (c d : List ℕ) : Type 0 where
+  neither : Zero p c → Zero p d → Near p c d
+  first : Column p c → Zero p d → Near p c d
+  second : Zero p c → Column p d → Near p c d
 
 -- the weight of row k of component b at index t
 abbrev pub rowWeight : Parameters → Bool → ℕ → ℕ → ℕ
-rowWeight p b k = checkWeight (p .q) (p .n) b (checkRow (p .q) (p .r) k)
+rowWeight p b k = checkWeight (p .q) (p .n) b (checkRow p k)
 
 -- the weight of the last row
 abbrev pub lastWeight : Parameters → Bool → ℕ → ℕ
@@ -72,73 +73,106 @@ pub record Told (p : Parameters) (i j : ℕ) : Type 0 where
   pub last : Congruent (p .q) (lastWeight p true j + lastWeight p false j) (lastWeight p true i + lastWeight p false i)
       → Congruent (p .q) (lastWeight p true j) (lastWeight p true i)
 
-module _ (p : Parameters) (s : Sized p) {w w′ : List ℕ} {e i j : ℕ} (m : Move (p .q) w w′ e i j) (u : Invertible (p .q) e)
-    (l : length w ≡ suc (double (p .n))) (l′ : length w′ ≡ suc (double (p .n))) (t : Told p i j) where
-  row-is : (b : Bool) (k : ℕ) (v : List ℕ) → length v ≡ suc (double (p .n))
-      → Congruent (p .q) (dot (checkRow (p .q) (p .r) k) (part (p .q) b v)) (dot (rowWeight p b k) v)
-  row-is b k v h = dot-part (p .q) (p .n) (q-positive p s) b (checkRow (p .q) (p .r) k) v h
+-- every row is 0, and the last row is 1, as a column's is
+abbrev pub ZeroRows : Parameters → (ℕ → ℕ) → Type 0
+ZeroRows p x = (k : ℕ) → k < p .r → Congruent (p .q) (x k) 0
 
-  -- no component is in code in both words
-  not-both : (b : Bool) → Zero p (part (p .q) b w) → Zero p (part (p .q) b w′) → ⊥
-  not-both b z z′ =
-      t .differ b (λ k h. kept m u (rowWeight p b k) (symm (row-is b k w l) then z k h then symm (z′ k h) then row-is b k w′ l′))
+abbrev pub LastOne : Parameters → (ℕ → ℕ) → Type 0
+LastOne p x = Congruent (p .q) (x (p .r - 1)) 1
 
-  -- the last row's sum of component b
-  last-sum : (b : Bool) (v : List ℕ) → ℕ
-  last-sum b v = dot (checkRow (p .q) (p .r) (p .r - 1)) (part (p .q) b v)
+-- the rows of two syndromes, the first component's (true) and the second's: both zero, or one of them and the other with a last row 1
+pub data NearRows (p : Parameters) (x : Bool → ℕ → ℕ) : Type 0 where
+  neither : ZeroRows p (x true) → ZeroRows p (x false) → NearRows p x
+  first : LastOne p (x true) → ZeroRows p (x false) → NearRows p x
+  second : ZeroRows p (x true) → LastOne p (x false) → NearRows p x
 
-  zero-last : (b : Bool) (v : List ℕ) → Zero p (part (p .q) b v) → Congruent (p .q) (last-sum b v) 0
-  unfolding last-sum
-  zero-last b v z = z (p .r - 1) (last-below p s)
+-- the rows x′ are the rows x with e added mod q at index i of the word and taken mod q at index j
+pub record Shift (p : Parameters) (x x′ : Bool → ℕ → ℕ) (e i j : ℕ) : Type 0 where
+  pub rows : (b : Bool) (k : ℕ) → k < p .r → Congruent (p .q) (x′ b k + rowWeight p b k j * e) (x b k + rowWeight p b k i * e)
 
-  column-last : (b : Bool) (v : List ℕ) → Column p (part (p .q) b v) → Congruent (p .q) (last-sum b v) 1
-  unfolding last-sum
-  column-last b v c = c .2 (p .r - 1) (last-below p s) then of-eq (last-row (p .q) (p .r) (c .0))
+-- the argument on syndromes alone
+module _ (p : Parameters) (s : Sized p) {x x′ : Bool → ℕ → ℕ} {e i j : ℕ} (m : Shift p x x′ e i j) (u : Invertible (p .q) e) (t : Told p i j) where
+  -- no syndrome is zero before and after
+  not-both : (b : Bool) → ZeroRows p (x b) → ZeroRows p (x′ b) → ⊥
+  not-both b z z′ = t .differ b (λ k h. same-weight u (m .rows b k h) (z k h then symm (z′ k h)))
 
-  last-move : (b : Bool) → Congruent (p .q) (last-sum b w′ + lastWeight p b j * e) (last-sum b w + lastWeight p b i * e)
-  unfolding last-sum
-  last-move b =
-      add (row-is b (p .r - 1) w′ l′) (same (lastWeight p b j * e)) then m .sums (lastWeight p b)
-      then add (symm (row-is b (p .r - 1) w l)) (same (lastWeight p b i * e))
+  zero-last : (y : ℕ → ℕ) → ZeroRows p y → Congruent (p .q) (y (p .r - 1)) 0
+  zero-last y z = z (p .r - 1) (last-below p s)
 
-  -- where one component has a column and the other zero, in both words, the last rows do not move
-  last-kept : Congruent (p .q) (last-sum true w + last-sum false w) 1 → Congruent (p .q) (last-sum true w′ + last-sum false w′) 1
-      → Congruent (p .q) (last-sum true w′) (last-sum true w)
+  -- where one syndrome is a column and the other zero, before and after, the last rows do not move
+  last-kept : Congruent (p .q) (x true (p .r - 1) + x false (p .r - 1)) 1 → Congruent (p .q) (x′ true (p .r - 1) + x′ false (p .r - 1)) 1
+      → Congruent (p .q) (x′ true (p .r - 1)) (x true (p .r - 1))
   last-kept h h′ =
-      let x : ℕ = last-sum true w in
-      let y : ℕ = last-sum false w in
-      let x′ : ℕ = last-sum true w′ in
-      let y′ : ℕ = last-sum false w′ in
+      let y : ℕ = x true (p .r - 1) in
+      let z : ℕ = x false (p .r - 1) in
+      let y′ : ℕ = x′ true (p .r - 1) in
+      let z′ : ℕ = x′ false (p .r - 1) in
       let a : ℕ = lastWeight p true i in
       let b : ℕ = lastWeight p false i in
       let a′ : ℕ = lastWeight p true j in
       let b′ : ℕ = lastWeight p false j in
-      let lhs : e * (a′ + b′) + (x′ + y′) ≡ x′ + a′ * e + (y′ + b′ * e) = omega arith in
-      let rhs : x + a * e + (y + b * e) ≡ e * (a + b) + (x + y) = omega arith in
+      let lhs : e * (a′ + b′) + (y′ + z′) ≡ y′ + a′ * e + (z′ + b′ * e) = omega arith in
+      let rhs : y + a * e + (z + b * e) ≡ e * (a + b) + (y + z) = omega arith in
+      let move : (c : Bool) → Congruent (p .q) (x′ c (p .r - 1) + lastWeight p c j * e) (x c (p .r - 1) + lastWeight p c i * e) =
+      λ c. m .rows c (p .r - 1) (last-below p s) in
       let moved : Congruent (p .q) (e * (a′ + b′) + 1) (e * (a + b) + 1) =
-      add (same (e * (a′ + b′))) (symm h′) then of-eq lhs then add (last-move true) (last-move false) then of-eq rhs
-      then add (same (e * (a + b))) h in
+      add (same (e * (a′ + b′))) (symm h′) then of-eq lhs then add (move true) (move false) then of-eq rhs then add (same (e * (a + b))) h in
       let equal : Congruent (p .q) a′ a = t .last (cancel-unit u (cancel 1 moved)) in
-      cancel (a′ * e) (last-move true then add (same x) (symm (mul equal (same e))))
+      cancel (a′ * e) (move true then add (same y) (symm (mul equal (same e))))
 
-  pub no-move : Near p w → Near p w′ → ⊥
-  no-move (neither a b) (neither c d) = not-both true a c
-  no-move (neither a b) (first c d) = not-both false b d
-  no-move (neither a b) (second c d) = not-both true a c
-  no-move (first a b) (neither c d) = not-both false b d
-  no-move (first a b) (first c d) = not-both false b d
-  no-move (first a b) (second c d) =
+  pub no-shift : NearRows p x → NearRows p x′ → ⊥
+  no-shift (neither a b) (neither c d) = not-both true a c
+  no-shift (neither a b) (first c d) = not-both false b d
+  no-shift (neither a b) (second c d) = not-both true a c
+  no-shift (first a b) (neither c d) = not-both false b d
+  no-shift (first a b) (first c d) = not-both false b d
+  no-shift (first a b) (second c d) =
       one-not-zero p s
-      (symm (column-last true w a)
-      then symm (last-kept (add (column-last true w a) (zero-last false w b)) (add (zero-last true w′ c) (column-last false w′ d)))
-      then zero-last true w′ c)
-  no-move (second a b) (neither c d) = not-both true a c
-  no-move (second a b) (first c d) =
+      (symm a
+      then symm (last-kept (add a (zero-last (x false) b)) (add (zero-last (x′ true) c) d))
+      then zero-last (x′ true) c)
+  no-shift (second a b) (neither c d) = not-both true a c
+  no-shift (second a b) (first c d) =
       one-not-zero p s
-      (symm (column-last true w′ c)
-      then last-kept (add (zero-last true w a) (column-last false w b)) (add (column-last true w′ c) (zero-last false w′ d))
-      then zero-last true w a)
-  no-move (second a b) (second c d) = not-both true a c
+      (symm c
+      then last-kept (add (zero-last (x true) a) b) (add c (zero-last (x′ false) d))
+      then zero-last (x true) a)
+  no-shift (second a b) (second c d) = not-both true a c
+
+-- the rows of two components
+abbrev rowsOf : Parameters → (Bool → List ℕ) → Bool → ℕ → ℕ
+rowsOf p c b k = dot (checkRow p k) (c b)
+
+near-rows : (p : Parameters) → Sized p → (c : Bool → List ℕ) → Near p (c true) (c false) → NearRows p (rowsOf p c)
+near-rows p s c h = go h
+  where
+    last : (b : Bool) → Column p (c b) → LastOne p (rowsOf p c b)
+    last b a = a .2 (p .r - 1) (last-below p s) then of-eq (last-row p (a .0))
+
+    go : Near p (c true) (c false) → NearRows p (rowsOf p c)
+    go (neither a b) = neither a b
+    go (first a b) = first (last true a) b
+    go (second a b) = second a (last false b)
+
+-- the components of the word w, as differencing gives them
+abbrev partsOf : Parameters → List ℕ → Bool → List ℕ
+partsOf p w b = part (p .q) b w
+
+pub no-move : (p : Parameters) → Sized p → {w w′ : List ℕ} {e i j : ℕ} → Move (p .q) w w′ e i j → Invertible (p .q) e
+    → length w ≡ suc (double (p .n)) → length w′ ≡ suc (double (p .n)) → Told p i j
+    → Near p (part (p .q) true w) (part (p .q) false w) → Near p (part (p .q) true w′) (part (p .q) false w′) → ⊥
+no-move p s {w} {w′} {e} {i} {j} m u l l′ t a a′ = no-shift p s shift u t (near-rows p s (partsOf p w) a) (near-rows p s (partsOf p w′) a′)
+  where
+    row-is : (b : Bool) (k : ℕ) (v : List ℕ) → length v ≡ suc (double (p .n)) → Congruent (p .q) (rowsOf p (partsOf p v) b k) (dot (rowWeight p b k) v)
+    row-is b k v h = dot-part (p .q) (p .n) (q-positive p s) b (checkRow p k) v h
+
+    shift : Shift p (rowsOf p (partsOf p w)) (rowsOf p (partsOf p w′)) e i j
+    shift =
+        record {
+          rows = λ b k h.
+              add (row-is b k w′ l′) (same (rowWeight p b k j * e)) then m .sums (rowWeight p b k)
+              then add (symm (row-is b k w l)) (same (rowWeight p b k i * e));
+        }
 
 module _ (p : Parameters) (s : Sized p) where
   -- two indices at even positions
@@ -154,8 +188,8 @@ module _ (p : Parameters) (s : Sized p) where
       factor false x = (p .q - 1) * x
 
       at : (b : Bool) (k x : ℕ) → rowWeight p b k (suc (double x)) ≡ factor b (entry p k x)
-      at true k x = weight-first-even (p .q) (p .n) (checkRow (p .q) (p .r) k) x
-      at false k x = weight-second-even (p .q) (p .n) (checkRow (p .q) (p .r) k) x
+      at true k x = weight-first-even (p .q) (p .n) (checkRow p k) x
+      at false k x = weight-second-even (p .q) (p .n) (checkRow p k) x
 
       unfactor : (b : Bool) (x y : ℕ) → Congruent (p .q) (factor b x) (factor b y) → Congruent (p .q) x y
       unfactor true x y h = h
@@ -196,10 +230,10 @@ module _ (p : Parameters) (s : Sized p) where
   told-odd a c ha hc ne = record { differ = λ b e. ne (sym (differ b e)); last = λ e. go (eq-or-lt-of-le ha) (eq-or-lt-of-le hc) e }
     where
       first-is : (k x : ℕ) → rowWeight p true k (double x) ≡ (p .q - 1) * entry p k x
-      first-is k x = weight-first-odd (p .q) (p .n) (checkRow (p .q) (p .r) k) x
+      first-is k x = weight-first-odd (p .q) (p .n) (checkRow p k) x
 
       second-is : (k x : ℕ) → rowWeight p false k (double x) ≡ later (entry p k) x
-      second-is k x = weight-second-odd (p .q) (p .n) (checkRow (p .q) (p .r) k) x
+      second-is k x = weight-second-odd (p .q) (p .n) (checkRow p k) x
 
       total-is : (x : ℕ) → lastWeight p true (double x) + lastWeight p false (double x) ≡ total x
       total-is x = ap₂ (λ (y z : ℕ). y + z) (first-is (p .r - 1) x) (second-is (p .r - 1) x)

@@ -10,12 +10,12 @@ use Rattle.code.specs.Component.{checkAt, candidate, component}
 use Rattle.code.specs.Balance.{interleave}
 use Rattle.code.specs.Codeword.{interleaved}
 use Rattle.code.specs.Claims.{BalanceOfPair}
-use Rattle.code.proofs.Balance.{balance-exists}
+use Rattle.code.proofs.Choice.{balance-exists}
 use Rattle.code.proofs.Merge.{length-merge}
 
 pub length-component : (p : Parameters) (a : List ℕ) → length (component p a) ≡ p .n
 unfolding component candidate
-length-component p a = length-merge (checkAt (p .q) (p .r)) (p .n) _ a
+length-component p a = length-merge (checkAt p) (p .n) _ a
 
 pub length-interleave : (x y : List ℕ) → length x ≡ length y → length (interleave x y) ≡ 2 * length x
 length-interleave [] y h = refl
@@ -40,4 +40,4 @@ module _ (p : Parameters) (a b : List ℕ) where
 pub balance-of-pair : BalanceOfPair
 balance-of-pair p sized a b =
     let e : length (interleaved p a b) ≡ balancedLength p = length-interleaved p a b in
-    (e, balance-exists (p .q) (interleaved p a b) (omega arith) (omega arith) (even-interleaved p a b sized))
+    (e, balance-exists p (interleaved p a b) (omega arith) (omega arith) (even-interleaved p a b sized))

@@ -2,15 +2,17 @@
 -- Assumes nothing.
 use mathlib.Core.Path.{_≡_, refl, sym, subst}
 use mathlib.Core.Logic.{⊎-elim}
-use mathlib.Core.Bool.{Bool, not, _&&_, _||_}
+use mathlib.Core.Bool.{Bool, false, not, _&&_, _||_}
 use Prim.Native.Nat.{ℕ, zero, suc, _-_, _%_, _^_, _≤_, _<_}
 use native.Mathlib.Nat.{not-le-of-lt}
-use lib.Dec.{T, leb, ltb, eqb, leb→le, ltb→lt, eqb→eq, T-not}
+use native.Mathlib.Omega.{arith}
+use lib.ListN.{length, List·getD-eq-default}
+use lib.Dec.{T, leb, ltb, eqb, leb→le, ltb→lt, eqb→eq, le→leb, T-not}
 use Rattle.modular.specs.Search.{allBelow}
 use Rattle.modular.specs.Residue.{Prime}
-use Rattle.modular.proofs.Search.{and-left, and-right, and-parts, or-cases, all-at}
+use Rattle.modular.proofs.Search.{and-intro, and-left, and-right, and-parts, or-cases, le-or-lt, all-at}
 use Rattle.code.specs.Parameters.{Parameters, Sized, balancingValue, delta}
-use Rattle.code.specs.Profiles.{isProfile, profile, derivedRow}
+use Rattle.code.specs.Profiles.{row, profiles, isProfile, profile, derivedRow}
 use Rattle.code.specs.Claims.{ProfilesFit}
 
 -- no number from 2 up to q - 1 divides q
@@ -47,11 +49,29 @@ sized p h = from (and-parts (eqb (p .q % 2) 1) (leb 3 (p .q)) (ltb (p .n) (p .q 
           highest = leb→le _ _ (and-right (leb 2 (p .n)) (leb (p .q ^ (p .r - 2)) (p .n)) (t .3));
         }
 
--- the test of profile i + 1
-fits : ℕ → Bool
-fits i = isSized (profile (suc i)) && isPrime (profile (suc i) .q)
+-- a test that passes for the number of each row passes for every profile's number
+pub every-profile : (t : ℕ → Bool) → T (allBelow (λ j. t (suc j)) (length profiles)) → (i : ℕ) → T (isProfile i) → T (t i)
+every-profile t h zero k = absurd k
+every-profile t h (suc j) k =
+    all-at (λ j. t (suc j)) (length profiles) h j
+    (leb→le (suc j) (length profiles) (and-right (leb 1 (suc j)) (leb (suc j) (length profiles)) k))
 
-all-fit : T (allBelow fits 4)
+-- a number that is no profile's has zeros for parameters
+pub no-profile : (i : ℕ) → isProfile i ≡ false → profile i ≡ row 0 0 0
+unfolding profile
+no-profile zero e = refl
+no-profile (suc i) e = ⊎-elim (λ (h : length profiles ≤ i). List·getD-eq-default profiles (row 0 0 0) h) (λ h. absurd (past h)) (le-or-lt (length profiles) i)
+  where
+    past : i < length profiles → ⊥
+    past h =
+        let from : T (leb 1 (suc i)) = le→leb 1 (suc i) (omega arith) in
+        let upto : T (leb (suc i) (length profiles)) = le→leb (suc i) (length profiles) h in
+        subst T e (and-intro (leb 1 (suc i)) (leb (suc i) (length profiles)) from upto)
+
+fits : ℕ → Bool
+fits i = isSized (profile i) && isPrime (profile i .q)
+
+all-fit : T (allBelow (λ j. fits (suc j)) (length profiles))
 unfolding fits profile
 all-fit = tt
 
@@ -60,9 +80,8 @@ unfolding fits profile derivedRow balancingValue delta
 profiles-fit = (row-fits, refl)
   where
     row-fits : (i : ℕ) → T (isProfile i) → Sized (profile i) × Prime (profile i .q)
-    row-fits zero h = absurd h
-    row-fits (suc i) h =
-        let f : T (fits i) = all-at fits 4 all-fit i (leb→le (suc i) 4 (and-right (leb 1 (suc i)) (leb (suc i) 4) h)) in (
-          sized (profile (suc i)) (and-left (isSized (profile (suc i))) (isPrime (profile (suc i) .q)) f),
-          prime (profile (suc i) .q) (and-right (isSized (profile (suc i))) (isPrime (profile (suc i) .q)) f),
-        )
+    row-fits i h =
+        let f : T (fits i) = every-profile fits all-fit i h in
+        let s : Bool = isSized (profile i) in
+        let p : Bool = isPrime (profile i .q) in
+        (sized (profile i) (and-left s p f), prime (profile i .q) (and-right s p f))

@@ -1,37 +1,39 @@
--- Demand 3 of the reading: at most one codeword lies within one position of a word, since two such would differ in at most two; so the search
--- finds that one, at the position changed.
+-- At most one codeword is near a word, since two such would differ in at most two positions; so the search finds that one, at the position
+-- in which it differs, and demand 3 follows.
 -- Assumes nothing.
 use mathlib.Core.Path.{_≡_, refl, sym, ap, subst, _∙_}
-use mathlib.Core.Logic.{⊎-elim, _≢_}
+use mathlib.Core.Logic.{⊎-elim, _≢_, _↔_}
 use mathlib.Core.Bool.{true, false}
 use mathlib.Core.List.{List}
 use Prim.Native.Nat.{ℕ, _+_, _≤_, _<_}
-use native.Mathlib.Nat.{ne-of-lt, not-suc-le-zero, le-of-suc-le-suc}
+use native.Mathlib.Nat.{ne-of-lt, not-le-of-lt, le-of-suc-le-suc}
 use native.Mathlib.Omega.{arith}
-use lib.Dec.{T, ltb, eqb, eqb→eq}
+use lib.Dec.{T, ltb}
 use lib.ListN.{length, getD, set, length-set}
 use lib.Seq.{getD-set-same, getD-set-other, set-set, set-getD}
 use borrow.Author.Tests.{lt-ltb, le-ltb}
 use Rattle.modular.specs.Search.{anyBelow}
 use Rattle.modular.specs.Residue.{Prime}
-use Rattle.modular.proofs.Search.{passes, fails, and-left, le-or-lt, le-of-not-lt, least-hit, least-is, any-of, any-at}
+use Rattle.modular.proofs.Search.{passes, fails, le-of-not-lt, least-hit, least-is, any-of, any-at}
 use Rattle.code.specs.Parameters.{Parameters, Sized, codewordLength}
-use Rattle.code.specs.Component.{symbolsBelow, isWord}
+use Rattle.code.specs.Component.{isWord}
 use Rattle.code.specs.Codeword.{codeword}
-use Rattle.code.specs.Reading.{distance, Kind, read, unreadable, clean, corrected, readAs, changedAt, sentAt, nearReading, reading}
-use Rattle.code.specs.Claims.{ReadingCorrects}
+use Rattle.code.specs.Reading.{distance, Finding, correctionAt, read, unreadable, clean, corrected, findingOf, readAs, changedAt, sentAt, nearReading, reading}
+use Rattle.code.specs.Claims.{NearCodeword, OneNear, NearIsOne, Reads, ReadingIs, ReadingCorrects}
 use Rattle.code.proofs.Columns.{q-positive}
-use Rattle.code.proofs.Symbols.{symbol-below}
+use Rattle.code.proofs.Symbols.{symbol-below, symbols-set}
 use Rattle.code.proofs.Distance.{distance-self, distance-sym, distance-set, triangle, one-apart}
+use Rattle.code.proofs.Merge.{word-length, word-of}
+use Rattle.code.proofs.Found.{found-clean, found-at, found-sent}
 use Rattle.code.proofs.Lawful.{lawful}
 use Rattle.code.proofs.Apart.{apart}
 
-never : {k : Kind} {i y : ℕ} {a b : List ℕ} → read k i y a b ≡ unreadable → ⊥
+never : {f : Finding} {a b : List ℕ} → read f a b ≡ unreadable → ⊥
 never e = let z : _≡_ {A = ℕ} 0 1 = cc in omega arith
 
 -- the reading by its two tests
 module _ (p : Parameters) (u : List ℕ) where
-  reads-clean : codeword p u ≡ true → reading p u ≡ readAs p clean 0 0 u
+  reads-clean : codeword p u ≡ true → reading p u ≡ readAs p clean u
   unfolding reading
   reads-clean e = rw (e, reading)
 
@@ -40,7 +42,7 @@ module _ (p : Parameters) (u : List ℕ) where
   reads-near e = rw (e, reading)
 
   near-found : (i y : ℕ) (v : List ℕ) → changedAt p u ≡ i → i < length u → sentAt p u i ≡ y → set u i y ≡ v
-      → nearReading p u ≡ readAs p corrected (i + 1) y v
+      → nearReading p u ≡ readAs p (corrected (correctionAt i (getD u i 0) y)) v
   unfolding nearReading
   near-found i y v a l b c =
       let t : ltb (changedAt p u) (length u) ≡ true = ap (λ (x : ℕ). ltb x (length u)) a ∙ lt-ltb i (length u) l in
@@ -52,117 +54,145 @@ module _ (p : Parameters) (u : List ℕ) where
       let t : ltb (changedAt p u) (length u) ≡ false = le-ltb (changedAt p u) (length u) l in
       rw (t, nearReading)
 
-module _ (p : Parameters) (s : Sized p) (prime : Prime (p .q)) where
-  long : (u : List ℕ) → T (codeword p u) → length u ≡ codewordLength p
-  long u h = lawful p (q-positive p s) u h .long
+-- two codewords near one word differ in at most two positions
+pub near-is-one : NearIsOne
+near-is-one p s prime v word u w a b =
+    let c = lawful p (q-positive p s) u (a .lawful) in
+    let d = lawful p (q-positive p s) w (b .lawful) in
+    let n : length v ≡ codewordLength p = word-length (p .q) (codewordLength p) v word in
+    let both = triangle u v w (c .long ∙ sym n) (n ∙ sym (d .long)) in
+    apart p s prime u w (a .lawful) (b .lawful) (omega (arith, both, a .close, b .close, distance-sym v w))
 
-  below : (u : List ℕ) → T (codeword p u) → (i : ℕ) → getD u i 0 < p .q
-  below u h i = symbol-below (p .q) (q-positive p s) u (lawful p (q-positive p s) u h .below) i
+-- What is read where at most one codeword is near.
+module _ (p : Parameters) (s : Sized p) (one : OneNear p) (v : List ℕ) (word : T (isWord (p .q) (codewordLength p) v)) where
+  long : length v ≡ codewordLength p
+  long = word-length (p .q) (codewordLength p) v word
 
-  -- two codewords near one word are equal
-  one-near : (u v w : List ℕ) → T (codeword p u) → T (codeword p w) → length v ≡ length u → distance u v ≤ 1 → distance v w ≤ 1 → u ≡ w
-  one-near u v w hu hw l a b =
-      apart p s prime u w hu hw (omega (arith, triangle u v w (sym l) (l ∙ long u hu ∙ sym (long w hw))))
+  pub near-self : T (codeword p v) → NearCodeword p v v
+  near-self h = record { lawful = h; close = omega (arith, distance-self v) }
 
-  unchanged : (u : List ℕ) → T (codeword p u) → reading p u ≡ readAs p clean 0 0 u
-  unchanged u h = reads-clean p u (passes h)
+  pub near-set : (i y : ℕ) → T (codeword p (set v i y)) → NearCodeword p v (set v i y)
+  near-set i y h = record { lawful = h; close = omega (arith, distance-sym v (set v i y), distance-set v i y) }
 
-  module _ (u : List ℕ) (h : T (codeword p u)) (i y : ℕ) (l : i < codewordLength p) (ne : y ≢ getD u i 0) where
-    within : i < length u
-    within = subst (λ (x : ℕ). i < x) (sym (long u h)) l
+  -- u, the codeword near v, is v with the symbol at index i as it was sent
+  module _ (u : List ℕ) (near : NearCodeword p v u) (i : ℕ) (l : i < length v) (ne : getD u i 0 ≢ getD v i 0) (back : set v i (getD u i 0) ≡ u) where
+    is-sent : (j x : ℕ) → T (codeword p (set v j x)) → u ≡ set v j x
+    is-sent j x k = one v word u (set v j x) near (near-set j x k)
 
-    -- a codeword one position from the changed word is u
-    is-sent : (j x : ℕ) → T (codeword p (set (set u i y) j x)) → u ≡ set (set u i y) j x
-    is-sent j x k =
-        one-near u (set u i y) (set (set u i y) j x) h k (length-set u i y) (distance-set u i y) (distance-set (set u i y) j x)
+    undoes : T (codeword p (set v i (getD u i 0)))
+    undoes = subst (λ (x : List ℕ). T (codeword p x)) (sym back) (near .lawful)
 
-    changed-here : getD (set u i y) i 0 ≡ y
-    changed-here = getD-set-same u i y 0 within
+    not-codeword : T (codeword p v) → ⊥
+    not-codeword k = ne (ap (λ (x : List ℕ). getD x i 0) (one v word u v near (near-self k)))
 
-    undone : set (set u i y) i (getD u i 0) ≡ u
-    undone = set-set u i y (getD u i 0) ∙ set-getD u i 0
-
-    undoes : T (codeword p (set (set u i y) i (getD u i 0)))
-    undoes = subst (λ (x : List ℕ). T (codeword p x)) (sym undone) h
-
-    not-codeword : T (codeword p (set u i y)) → ⊥
-    not-codeword k =
-        let e : u ≡ set u i y = one-near u u (set u i y) h k refl (omega (arith, distance-self u)) (distance-set u i y) in
-        ne (sym changed-here ∙ ap (λ (x : List ℕ). getD x i 0) (sym e))
+    below : getD u i 0 < p .q
+    below = symbol-below (p .q) (q-positive p s) u (lawful p (q-positive p s) u (near .lawful) .below) i
 
     -- no index before i will do, and no symbol before the one sent
-    not-before : (j : ℕ) → j < i → T (anyBelow (λ x. codeword p (set (set u i y) j x)) (p .q)) → ⊥
+    not-before : (j : ℕ) → j < i → T (anyBelow (λ x. codeword p (set v j x)) (p .q)) → ⊥
     not-before j b k =
-        let (x, _, c) = any-at (λ x. codeword p (set (set u i y) j x)) (p .q) k in
-        ne
-        (sym changed-here
-        ∙ sym (getD-set-other (set u i y) j i x 0 (λ (e : i ≡ j). ne-of-lt b (sym e)))
-        ∙ ap (λ (z : List ℕ). getD z i 0) (sym (is-sent j x c)))
+        let (x, _, c) = any-at (λ x. codeword p (set v j x)) (p .q) k in
+        ne (ap (λ (z : List ℕ). getD z i 0) (is-sent j x c) ∙ getD-set-other v j i x 0 (λ (e : i ≡ j). ne-of-lt b (sym e)))
 
-    not-below : (x : ℕ) → x < getD u i 0 → T (codeword p (set (set u i y) i x)) → ⊥
-    not-below x b k =
-        ne-of-lt b
-        (sym (getD-set-same (set u i y) i x 0 (subst (λ (z : ℕ). i < z) (sym (length-set u i y)) within))
-        ∙ ap (λ (z : List ℕ). getD z i 0) (sym (is-sent i x k)))
+    not-below : (x : ℕ) → x < getD u i 0 → T (codeword p (set v i x)) → ⊥
+    not-below x b k = ne-of-lt b (sym (ap (λ (z : List ℕ). getD z i 0) (is-sent i x k) ∙ getD-set-same v i x 0 l))
 
-    position : changedAt p (set u i y) ≡ i
+    position : changedAt p v ≡ i
     unfolding changedAt
     position =
-        least-is (λ j. anyBelow (λ x. codeword p (set (set u i y) j x)) (p .q)) (length (set u i y)) i
-        (subst (λ (z : ℕ). i < z) (sym (length-set u i y)) within)
-        (any-of (λ x. codeword p (set (set u i y) i x)) (p .q) (getD u i 0) (below u h i) undoes) not-before
+        least-is (λ j. anyBelow (λ x. codeword p (set v j x)) (p .q)) (length v) i l
+        (any-of (λ x. codeword p (set v i x)) (p .q) (getD u i 0) below undoes) not-before
 
-    symbol : sentAt p (set u i y) i ≡ getD u i 0
+    symbol : sentAt p v i ≡ getD u i 0
     unfolding sentAt
-    symbol = least-is (λ x. codeword p (set (set u i y) i x)) (p .q) (getD u i 0) (below u h i) undoes not-below
+    symbol = least-is (λ x. codeword p (set v i x)) (p .q) (getD u i 0) below undoes not-below
 
-    changed : reading p (set u i y) ≡ readAs p corrected (i + 1) (getD u i 0) u
+    changed : reading p v ≡ readAs p (findingOf v u) u
     changed =
-        reads-near p (set u i y) (fails not-codeword)
-        ∙ near-found p (set u i y) i (getD u i 0) u position (subst (λ (z : ℕ). i < z) (sym (length-set u i y)) within) symbol undone
+        let found : findingOf v u ≡ corrected (correctionAt i (getD v i 0) (getD u i 0)) =
+        ap (findingOf v) (sym back) ∙ found-sent v i (getD u i 0) l ne in
+        reads-near p v (fails not-codeword) ∙ near-found p v i (getD u i 0) u position l symbol back
+        ∙ ap (λ (f : Finding). readAs p f u) (sym found)
 
-  others : (u v : List ℕ) → T (codeword p u) → T (codeword p v) → v ≢ u → (i y : ℕ) → 2 ≤ distance v (set u i y)
-  others u v hu hv ne i y =
-      ⊎-elim (λ (a : 2 ≤ distance v (set u i y)). a)
-      (λ (a : distance v (set u i y) < 2).
-      absurd
-      (ne
-      (one-near v (set u i y) u hv hu (length-set u i y ∙ long u hu ∙ sym (long v hv)) (omega arith)
-      (omega (arith, distance-sym u (set u i y), distance-set u i y)))))
-      (le-or-lt 2 (distance v (set u i y)))
-
-  -- a codeword within one position is read
-  near-read : (v : List ℕ) → T (isWord (p .q) (codewordLength p) v) → (u : List ℕ) → T (codeword p u) → distance u v ≤ 1 → reading p v ≢ unreadable
-  near-read v w u h d e =
+  sent : (u : List ℕ) → NearCodeword p v u → reading p v ≡ readAs p (findingOf v u) u
+  sent u near =
       ⊎-elim
-      (λ (k : u ≡ v). never (sym (unchanged v (subst (λ (x : List ℕ). T (codeword p x)) k h)) ∙ e))
+      (λ (e : u ≡ v). rw e (reads-clean p v (passes (subst (λ (x : List ℕ). T (codeword p x)) e (near .lawful))) ∙ ap (λ (f : Finding). readAs p f v) (sym (found-clean v))))
       (λ (c : (i : ℕ) × (i < length u) × (getD u i 0 ≢ getD v i 0) × (set u i (getD v i 0) ≡ v)).
-      never
-      (sym (changed u h (c .0) (getD v (c .0) 0) (subst (λ (x : ℕ). c .0 < x) (long u h) (c .1)) (λ x. c .2 (sym x)))
-      ∙ ap (reading p) (c .3) ∙ e))
-      (one-apart u v (long u h ∙ sym (eqb→eq (length v) (codewordLength p) (and-left (eqb (length v) (codewordLength p)) (symbolsBelow (p .q) v) w))) d)
-
-  -- a word that is not refused has a codeword within one position
-  read-near : (v : List ℕ) → ((u : List ℕ) → T (codeword p u) → 2 ≤ distance u v) → reading p v ≡ unreadable
-  unfolding changedAt
-  read-near v f = reads-near p v (fails apart-from) ∙ near-none p v (le-of-not-lt none)
+      let i : ℕ = c .0 in
+      let back : set v i (getD u i 0) ≡ u =
+      ap (λ (x : List ℕ). set x i (getD u i 0)) (sym (c .3)) ∙ set-set u i (getD v i 0) (getD u i 0) ∙ set-getD u i 0 in
+      changed u near i (subst (λ (x : ℕ). i < x) (same ∙ sym long) (c .1)) (c .2) back)
+      (one-apart u v (same ∙ sym long) (near .close))
     where
-      apart-from : T (codeword p v) → ⊥
-      apart-from k = not-suc-le-zero (subst (λ (x : ℕ). 2 ≤ x) (distance-self v) (f v k))
+      same : length u ≡ codewordLength p
+      same = lawful p (q-positive p s) u (near .lawful) .long
 
-      none : changedAt p v < length v → ⊥
-      none l =
-          let k = any-at (λ y. codeword p (set v (changedAt p v) y)) (p .q) (least-hit (λ i. anyBelow (λ y. codeword p (set v i y)) (p .q)) (length v) l) in
+  none : ((u : List ℕ) → NearCodeword p v u → ⊥) → reading p v ≡ unreadable
+  unfolding changedAt
+  none f = reads-near p v (fails (λ k. f v (near-self k))) ∙ near-none p v (le-of-not-lt unmended)
+    where
+      unmended : changedAt p v < length v → ⊥
+      unmended l =
           let m : ℕ = changedAt p v in
-          let b : 2 ≤ distance (set v m (k .0)) v = f (set v m (k .0)) (k .2) in
-          omega (arith, distance-sym v (set v m (k .0)), distance-set v m (k .0))
+          let (y, _, k) = any-at (λ y. codeword p (set v m y)) (p .q) (least-hit (λ i. anyBelow (λ y. codeword p (set v i y)) (p .q)) (length v) l) in
+          f (set v m y) (near-set m y k)
+
+pub reading-is : ReadingIs
+reading-is p s one v word = record { sent = sent p s one v word; none = none p s one v word }
+
+-- a codeword, and a codeword with a symbol changed, are words of the right length and levels
+module _ (p : Parameters) (s : Sized p) (u : List ℕ) (h : T (codeword p u)) where
+  pub codeword-word : T (isWord (p .q) (codewordLength p) u)
+  codeword-word = let l = lawful p (q-positive p s) u h in word-of (p .q) (codewordLength p) u (l .long) (l .below)
+
+  pub changed-word : (i y : ℕ) → y < p .q → T (isWord (p .q) (codewordLength p) (set u i y))
+  changed-word i y b =
+      let l = lawful p (q-positive p s) u h in
+      word-of (p .q) (codewordLength p) (set u i y) (length-set u i y ∙ l .long) (symbols-set (p .q) u i y b (l .below))
+
+-- Demand 3, where the near codeword is within one position.
+module _ (p : Parameters) (s : Sized p) (prime : Prime (p .q)) where
+  one : OneNear p
+  one = near-is-one p s prime
+
+  reads : (v : List ℕ) → T (isWord (p .q) (codewordLength p) v) → Reads p v
+  reads = reading-is p s one
+
+  near-changed : (u : List ℕ) → T (codeword p u) → (i y : ℕ) → NearCodeword p (set u i y) u
+  near-changed u h i y = record { lawful = h; close = distance-set u i y }
+
+  changed-sent : (u : List ℕ) → T (codeword p u) → (i y : ℕ) → i < codewordLength p → y < p .q → y ≢ getD u i 0
+      → reading p (set u i y) ≡ readAs p (corrected (correctionAt i y (getD u i 0))) u
+  changed-sent u h i y l b ne =
+      let within : i < length u = subst (λ (x : ℕ). i < x) (sym (lawful p (q-positive p s) u h .long)) l in
+      let here : getD (set u i y) i 0 ≡ y = getD-set-same u i y 0 within in
+      let found : findingOf (set u i y) u ≡ corrected (correctionAt i y (getD u i 0)) =
+      found-at (set u i y) u i (subst (λ (x : ℕ). i < x) (sym (length-set u i y)) within) (λ e. ne (sym here ∙ e)) (λ j d. getD-set-other u i j y 0 d)
+      ∙ ap (λ (x : ℕ). corrected (correctionAt i x (getD u i 0))) here in
+      reads (set u i y) (changed-word p s u h i y b) .sent u (near-changed u h i y) ∙ ap (λ (f : Finding). readAs p f u) found
+
+  others : (u v : List ℕ) → T (codeword p u) → T (codeword p v) → v ≢ u → (i y : ℕ) → y < p .q → 2 ≤ distance v (set u i y)
+  others u v hu hv ne i y b =
+      le-of-not-lt
+      (λ (d : distance v (set u i y) < 2).
+      ne (one (set u i y) (changed-word p s u hu i y b) v u (record { lawful = hv; close = le-of-suc-le-suc d }) (near-changed u hu i y)))
+
+  -- a word is refused exactly when no codeword is near it
+  refused : (v : List ℕ) → T (isWord (p .q) (codewordLength p) v) → (reading p v ≡ unreadable) ↔ ((u : List ℕ) → T (codeword p u) → 2 ≤ distance u v)
+  refused v word = (
+    λ e u h. le-of-not-lt (λ d. never (sym (reads v word .sent u (record { lawful = h; close = le-of-suc-le-suc d })) ∙ e)),
+    λ f. reads v word .none (λ u near. not-le-of-lt (f u (near .lawful)) (near .close)),
+  )
 
 pub reading-corrects : ReadingCorrects
 reading-corrects p s prime =
     record {
-      unchanged = unchanged p s prime;
-      changed = λ u h i y l b ne. changed p s prime u h i y l ne;
-      others = λ u v hu hv ne i y l b. others p s prime u v hu hv ne i y;
-      refused = λ v w.
-          ((λ e u h. le-of-not-lt (λ d. near-read p s prime v w u h (le-of-suc-le-suc d) e)), read-near p s prime v);
+      unchanged =
+          λ u h.
+          reads p s prime u (codeword-word p s u h) .sent u (near-self p s (one p s prime) u (codeword-word p s u h) h)
+          ∙ ap (λ (f : Finding). readAs p f u) (found-clean u);
+      changed = changed-sent p s prime;
+      others = λ u v hu hv ne i y l b. others p s prime u v hu hv ne i y b;
+      refused = refused p s prime;
     }

@@ -27,18 +27,10 @@ use Rattle.code.proofs.Syndrome.{Zero}
 use Rattle.code.proofs.Columns.{last-row, digit-row, q-positive, r-large, one-not-zero, last-below}
 use Rattle.code.proofs.Merge.{count, count-image}
 
--- index i holds a check symbol
-abbrev pub check : Parameters → ℕ → Bool
-check p = checkAt (p .q) (p .r)
-
 -- the index of check position k: of 2, then of 1, q, q², ..
 abbrev pub place : Parameters → ℕ → ℕ
 place p zero = 1
 place p (suc j) = p .q ^ j - 1
-
--- row j's entry for the symbol at index i
-abbrev pub row : Parameters → ℕ → ℕ → ℕ
-row p = checkRow (p .q) (p .r)
 
 -- the digit sum of that symbol's column
 abbrev digitSum : Parameters → ℕ → ℕ
@@ -46,12 +38,12 @@ digitSum p i = weight (digits (p .q) (p .r - 1) (suc i))
 
 -- the reduced row of position 2: the digit rows less the last row
 abbrev pub reducedTwo : Parameters → ℕ → ℕ
-reducedTwo p i = digitSum p i + (p .q - 1) * row p (p .r - 1) i
+reducedTwo p i = digitSum p i + (p .q - 1) * checkRow p (p .r - 1) i
 
 -- the reduced row of check position k: for a power of q its row, with what position 2 has there taken away
 abbrev pub reduced : Parameters → ℕ → ℕ → ℕ
 reduced p zero i = reducedTwo p i
-reduced p (suc j) i = row p j i + (p .q - row p j 1) * reducedTwo p i
+reduced p (suc j) i = checkRow p j i + (p .q - checkRow p j 1) * reducedTwo p i
 
 -- the first m reduced sums of c are 0 mod q
 abbrev pub Vanish : Parameters → ℕ → List ℕ → Type 0
@@ -69,7 +61,7 @@ module _ (p : Parameters) (s : Sized p) where
       let l : j ≤ p .r - 2 = omega arith in
       omega (arith, power-position j, pow-le-pow-right (q-positive p s) l)
 
-  pub check-place : (i : ℕ) → T (check p i) → (k : ℕ) × (k < p .r) × (i ≡ place p k)
+  pub check-place : (i : ℕ) → T (checkAt p i) → (k : ℕ) × (k < p .r) × (i ≡ place p k)
   unfolding isCheck
   check-place i h =
       ⊎-elim (λ (e : T (eqb (suc i) 2)). (0, omega (arith, r-large p s), omega (arith, eqb→eq (suc i) 2 e)))
@@ -80,7 +72,7 @@ module _ (p : Parameters) (s : Sized p) where
       power : ℕ → Bool
       power j = eqb (suc i) (p .q ^ j)
 
-  pub place-check : (k : ℕ) → k < p .r → T (check p (place p k))
+  pub place-check : (k : ℕ) → k < p .r → T (checkAt p (place p k))
   unfolding isCheck
   place-check zero h = tt
   place-check (suc j) h =
@@ -91,12 +83,12 @@ module _ (p : Parameters) (s : Sized p) where
 
   -- Their columns.
 
-  row-digit : (j i : ℕ) → suc j < p .r → row p j i ≡ getD (digits (p .q) (p .r - 1) (suc i)) j 0
+  row-digit : (j i : ℕ) → suc j < p .r → checkRow p j i ≡ getD (digits (p .q) (p .r - 1) (suc i)) j 0
   row-digit j i h =
       let l : j < p .r - 1 = omega arith in
-      digit-row (p .q) (p .r) j i l
+      digit-row p j i l
 
-  row-power : (j l : ℕ) → suc j < p .r → row p j (p .q ^ l - 1) ≡ getD (set (replicate (p .r - 1) 0) l 1) j 0
+  row-power : (j l : ℕ) → suc j < p .r → checkRow p j (p .q ^ l - 1) ≡ getD (set (replicate (p .r - 1) 0) l 1) j 0
   row-power j l h =
       let two : 2 ≤ p .q = omega arith in
       row-digit j (p .q ^ l - 1) h
@@ -104,13 +96,13 @@ module _ (p : Parameters) (s : Sized p) where
       ∙ ap (λ (d : List ℕ). getD d j 0) (digits-power (p .q) (p .r - 1) l two)
 
   -- column q^l has 1 in row l
-  pub row-power-same : (l : ℕ) → suc l < p .r → row p l (p .q ^ l - 1) ≡ 1
+  pub row-power-same : (l : ℕ) → suc l < p .r → checkRow p l (p .q ^ l - 1) ≡ 1
   row-power-same l h =
       let k : l < p .r - 1 = omega arith in
       row-power l l h ∙ getD-set-same (replicate (p .r - 1) 0) l 1 0 (rw length-replicate k)
 
   -- and 0 in the other digit rows
-  pub row-power-other : (j l : ℕ) → suc j < p .r → j ≢ l → row p j (p .q ^ l - 1) ≡ 0
+  pub row-power-other : (j l : ℕ) → suc j < p .r → j ≢ l → checkRow p j (p .q ^ l - 1) ≡ 0
   row-power-other j l h d =
       let k : j < p .r - 1 = omega arith in
       row-power j l h ∙ getD-set-other (replicate (p .r - 1) 0) l j 1 0 d ∙ getD-replicate (p .r - 1) j 0 0 k
@@ -121,11 +113,11 @@ module _ (p : Parameters) (s : Sized p) where
       rw e (digits-small (p .q) (p .r - 2) 2 (s .levels))
 
   -- column 2 has 2 in row 0
-  pub row-two-first : row p 0 1 ≡ 2
+  pub row-two-first : checkRow p 0 1 ≡ 2
   row-two-first = row-digit 0 1 (r-large p s) ∙ ap (λ (d : List ℕ). getD d 0 0) digits-two
 
   -- and 0 in the other digit rows
-  pub row-two-other : (j : ℕ) → suc (suc j) < p .r → row p (suc j) 1 ≡ 0
+  pub row-two-other : (j : ℕ) → suc (suc j) < p .r → checkRow p (suc j) 1 ≡ 0
   row-two-other j h =
       let l : j < p .r - 2 = omega arith in
       row-digit (suc j) 1 h ∙ ap (λ (d : List ℕ). getD d (suc j) 0) digits-two ∙ getD-replicate (p .r - 2) j 0 0 l
@@ -146,9 +138,9 @@ module _ (p : Parameters) (s : Sized p) where
       let k : l < p .r - 1 = omega arith in
       reduced-two-at (p .q ^ l - 1) 0 (rw power-position (digit-sum-power (p .q) (p .r - 1) l two k))
 
-  reduced-at-power : (j l : ℕ) → suc l < p .r → Congruent (p .q) (reduced p (suc j) (p .q ^ l - 1)) (row p j (p .q ^ l - 1))
+  reduced-at-power : (j l : ℕ) → suc l < p .r → Congruent (p .q) (reduced p (suc j) (p .q ^ l - 1)) (checkRow p j (p .q ^ l - 1))
   reduced-at-power j l h =
-      simp (mul-zero, add-zero) at (add (same (row p j (p .q ^ l - 1))) (scale (p .q - row p j 1) (two-at-power l h)))
+      simp (mul-zero, add-zero) at (add (same (checkRow p j (p .q ^ l - 1))) (scale (p .q - checkRow p j 1) (two-at-power l h)))
 
   pub reduced-same : (k : ℕ) → k < p .r → Congruent (p .q) (reduced p k (place p k)) 1
   reduced-same zero h = two-at-two
@@ -158,9 +150,9 @@ module _ (p : Parameters) (s : Sized p) where
   reduced-other zero zero h g d = absurd (d refl)
   reduced-other zero (suc l) h g d = two-at-power l g
   reduced-other (suc j) zero h g d =
-      let k : ℕ = p .q - row p j 1 in
-      let e : row p j 1 + k * 1 ≡ 0 + 1 * p .q = omega (arith, row-digit j 1 h, digits-below (p .q) (p .r - 1) 2 j (q-positive p s)) in
-      add (same (row p j 1)) (scale k two-at-two) then of-eq e then multiple (p .q) 0 1
+      let k : ℕ = p .q - checkRow p j 1 in
+      let e : checkRow p j 1 + k * 1 ≡ 0 + 1 * p .q = omega (arith, row-digit j 1 h, digits-below (p .q) (p .r - 1) 2 j (q-positive p s)) in
+      add (same (checkRow p j 1)) (scale k two-at-two) then of-eq e then multiple (p .q) 0 1
   reduced-other (suc j) (suc l) h g d = reduced-at-power j l g then of-eq (row-power-other j l h (λ e. d (ap suc e)))
 
   -- so the check positions differ
@@ -172,31 +164,31 @@ module _ (p : Parameters) (s : Sized p) where
             absurd (one-not-zero p s (symm (reduced-same k h) then of-eq (ap (reduced p k) e) then reduced-other k l h g d))
       ]
 
-  pub check-count : count (check p) (p .n) ≡ p .r
-  check-count = count-image (place p) (p .r) (p .n) (check p) place-below place-injective place-check check-place
+  pub check-count : count (checkAt p) (p .n) ≡ p .r
+  check-count = count-image (place p) (p .r) (p .n) (checkAt p) place-below place-injective place-check check-place
 
   -- The check rows and the reduced rows vanish together.
 
-  digit-sum-vanishes : (c : List ℕ) → ((j : ℕ) → suc j < p .r → Congruent (p .q) (dot (row p j) c) 0)
+  digit-sum-vanishes : (c : List ℕ) → ((j : ℕ) → suc j < p .r → Congruent (p .q) (dot (checkRow p j) c) 0)
       → Congruent (p .q) (dot (digitSum p) c) 0
   digit-sum-vanishes c h = dot-digit-sum (p .q) (p .r - 1) suc c digit
     where
       digit : (j : ℕ) → j < p .r - 1 → Congruent (p .q) (dot (λ i. getD (digits (p .q) (p .r - 1) (suc i)) j 0) c) 0
       digit j l =
           let k : suc j < p .r = omega arith in
-          of-eq (dot-same (λ i. getD (digits (p .q) (p .r - 1) (suc i)) j 0) (row p j) c (λ i m. sym (row-digit j i k))) then h j k
+          of-eq (dot-same (λ i. getD (digits (p .q) (p .r - 1) (suc i)) j 0) (checkRow p j) c (λ i m. sym (row-digit j i k))) then h j k
 
   pub reduced-rows : (c : List ℕ) → Zero p c → Vanish p (p .r) c
   reduced-rows c h = each
     where
       two : Congruent (p .q) (dot (reducedTwo p) c) 0
       two =
-          dot-add-vanishing (digitSum p) (row p (p .r - 1)) (p .q - 1) c (h (p .r - 1) (last-below p s))
+          dot-add-vanishing (digitSum p) (checkRow p (p .r - 1)) (p .q - 1) c (h (p .r - 1) (last-below p s))
           then digit-sum-vanishes c (λ j l. h j (omega arith))
 
       each : Vanish p (p .r) c
       each zero l = two
-      each (suc j) l = dot-add-vanishing (row p j) (reducedTwo p) (p .q - row p j 1) c two then h j (omega arith)
+      each (suc j) l = dot-add-vanishing (checkRow p j) (reducedTwo p) (p .q - checkRow p j 1) c two then h j (omega arith)
 
   pub rows-reduced : (c : List ℕ) → Vanish p (p .r) c → Zero p c
   rows-reduced c h j l =
@@ -205,14 +197,14 @@ module _ (p : Parameters) (s : Sized p) where
       two : Congruent (p .q) (dot (reducedTwo p) c) 0
       two = h 0 (omega (arith, r-large p s))
 
-      digit : (i : ℕ) → suc i < p .r → Congruent (p .q) (dot (row p i) c) 0
-      digit i m = symm (dot-add-vanishing (row p i) (reducedTwo p) (p .q - row p i 1) c two) then h (suc i) m
+      digit : (i : ℕ) → suc i < p .r → Congruent (p .q) (dot (checkRow p i) c) 0
+      digit i m = symm (dot-add-vanishing (checkRow p i) (reducedTwo p) (p .q - checkRow p i 1) c two) then h (suc i) m
 
-      last : Congruent (p .q) (dot (row p (p .r - 1)) c) 0
+      last : Congruent (p .q) (dot (checkRow p (p .r - 1)) c) 0
       last =
           let d : ℕ = dot (digitSum p) c in
-          let x : ℕ = dot (row p (p .r - 1)) c in
+          let x : ℕ = dot (checkRow p (p .r - 1)) c in
           let e : dot (reducedTwo p) c ≡ d + (p .q - 1) * x =
-          dot-add (digitSum p) (λ i. (p .q - 1) * row p (p .r - 1) i) c ∙ ap (λ (y : ℕ). d + y) (dot-scale (p .q - 1) (row p (p .r - 1)) c) in
+          dot-add (digitSum p) (λ i. (p .q - 1) * checkRow p (p .r - 1) i) c ∙ ap (λ (y : ℕ). d + y) (dot-scale (p .q - 1) (checkRow p (p .r - 1)) c) in
           let f : x + dot (reducedTwo p) c ≡ d + x * p .q = omega (arith, times-pred (p .q) x (q-positive p s)) in
           of-eq (sym (add-zero x)) then add (same x) (symm two) then of-eq f then multiple (p .q) d x then digit-sum-vanishes c digit

@@ -22,12 +22,12 @@ use Rattle.code.proofs.Moves.{Column, Near, neither, first, second}
 use Rattle.code.proofs.Lawful.{Lawful, lawful, length-body, balanced-length}
 
 -- the test decides which
-restored-in : (p : Parameters) (c : List ℕ) → inCode (p .q) (p .r) c ≡ true → restored p c ≡ c
+restored-in : (p : Parameters) (c : List ℕ) → inCode p c ≡ true → restored p c ≡ c
 unfolding restored
 restored-in p c e = rw (e, restored)
 
-restored-out : (p : Parameters) (c : List ℕ) (i : ℕ) → inCode (p .q) (p .r) c ≡ false
-    → least (λ j. inCode (p .q) (p .r) (lowered (p .q) c j)) (length c) ≡ i → restored p c ≡ lowered (p .q) c i
+restored-out : (p : Parameters) (c : List ℕ) (i : ℕ) → inCode p c ≡ false
+    → least (λ j. inCode p (lowered (p .q) c j)) (length c) ≡ i → restored p c ≡ lowered (p .q) c i
 unfolding restored
 restored-out p c i e l = rw (e, restored, l)
 
@@ -37,17 +37,17 @@ module _ (p : Parameters) (s : Sized p) (c : List ℕ) (n : length c ≡ p .n) w
 
   -- a column is not zero, and no other symbol has it
   pub restored-column : (i : ℕ) → i < length c → ColumnOf p c i → restored p c ≡ lowered (p .q) c i
-  restored-column i l k = restored-out p c i (fails not-zero) (least-is (λ j. inCode (p .q) (p .r) (lowered (p .q) c j)) (length c) i l (column-lowered p (q-positive p s) c i l k) no-other)
+  restored-column i l k = restored-out p c i (fails not-zero) (least-is (λ j. inCode p (lowered (p .q) c j)) (length c) i l (column-lowered p (q-positive p s) c i l k) no-other)
     where
-      not-zero : T (inCode (p .q) (p .r) c) → ⊥
+      not-zero : T (inCode p c) → ⊥
       not-zero h =
           one-not-zero p s
-          (of-eq (sym (last-row (p .q) (p .r) i)) then symm (k (p .r - 1) (last-below p s)) then code-zero p c h (p .r - 1) (last-below p s))
+          (of-eq (sym (last-row p i)) then symm (k (p .r - 1) (last-below p s)) then code-zero p c h (p .r - 1) (last-below p s))
 
       within : (j : ℕ) → j < length c → j < p .n
       within j h = subst (λ (x : ℕ). j < x) n h
 
-      no-other : (j : ℕ) → j < i → T (inCode (p .q) (p .r) (lowered (p .q) c j)) → ⊥
+      no-other : (j : ℕ) → j < i → T (inCode p (lowered (p .q) c j)) → ⊥
       no-other j b h =
           let m : j < length c = lt-trans b l in
           ne-of-lt b
@@ -58,20 +58,20 @@ module _ (p : Parameters) (s : Sized p) (c : List ℕ) (n : length c ≡ p .n) w
   pub restores-one : (d : List ℕ) → Restores p c d → d ≡ restored p c
   restores-one d r =
       ⊎-elim
-      (λ (e : d ≡ c). e ∙ sym (restored-zero (code-zero p c (subst (λ (x : List ℕ). T (inCode (p .q) (p .r) x)) e (r .code)))))
+      (λ (e : d ≡ c). e ∙ sym (restored-zero (code-zero p c (subst (λ (x : List ℕ). T (inCode p x)) e (r .code)))))
       (λ (h : (i : ℕ) × (i < length c) × (d ≡ lowered (p .q) c i)).
       h .2
-      ∙ sym (restored-column (h .0) (h .1) (lowered-column p (q-positive p s) c (h .0) (h .1) (subst (λ (x : List ℕ). T (inCode (p .q) (p .r) x)) (h .2) (r .code)))))
+      ∙ sym (restored-column (h .0) (h .1) (lowered-column p (q-positive p s) c (h .0) (h .1) (subst (λ (x : List ℕ). T (inCode p x)) (h .2) (r .code)))))
       (r .change)
 
   zero-restores : Zero p c → Restores p c (restored p c)
-  zero-restores z = record { code = subst (λ (x : List ℕ). T (inCode (p .q) (p .r) x)) (sym (restored-zero z)) (zero-code p c z); change = inl (restored-zero z) }
+  zero-restores z = record { code = subst (λ (x : List ℕ). T (inCode p x)) (sym (restored-zero z)) (zero-code p c z); change = inl (restored-zero z) }
 
   column-restores : Column p c → Restores p c (restored p c)
   column-restores k =
       let e : restored p c ≡ lowered (p .q) c (k .0) = restored-column (k .0) (k .1) (k .2) in
       record {
-        code = subst (λ (x : List ℕ). T (inCode (p .q) (p .r) x)) (sym e) (column-lowered p (q-positive p s) c (k .0) (k .1) (k .2));
+        code = subst (λ (x : List ℕ). T (inCode p x)) (sym e) (column-lowered p (q-positive p s) c (k .0) (k .1) (k .2));
         change = inr (k .0, k .1, e);
       }
 
@@ -107,13 +107,13 @@ one-pair p s u h = (carries (l .near), only)
     columns : (b : Bool) → Column p (received p b u) → Restores p (received p b u) (restored p (received p b u))
     columns b k = column-restores p s (received p b u) (long b) k
 
-    carries : Near p (body p u) → Carries p u (carried p true u) (carried p false u)
+    carries : Near p (received p true u) (received p false u) → Carries p u (carried p true u) (carried p false u)
     carries (neither a b) = pair (zeros true a) (zeros false b) (inl (zero true a))
     carries (first a b) = pair (columns true a) (zeros false b) (inr (zero false b))
     carries (second a b) = pair (zeros true a) (columns false b) (inl (zero true a))
 
     only : (a b : List ℕ) → Carries p u a b → (a ≡ carried p true u) × (b ≡ carried p false u)
     only a b c = (
-      sym (c .messages .0) ∙ ap (message (p .q) (p .r)) (restores-one p s (received p true u) (long true) (c .first) (c .restores-first)),
-      sym (c .messages .1) ∙ ap (message (p .q) (p .r)) (restores-one p s (received p false u) (long false) (c .second) (c .restores-second)),
+      sym (c .messages .0) ∙ ap (message p) (restores-one p s (received p true u) (long true) (c .first) (c .restores-first)),
+      sym (c .messages .1) ∙ ap (message p) (restores-one p s (received p false u) (long false) (c .second) (c .restores-second)),
     )

@@ -2,13 +2,13 @@
 -- Assumes nothing.
 use mathlib.Core.Bool.{Bool}
 use mathlib.Core.List.{List, [], _∷_}
-use Prim.Native.Nat.{ℕ, suc, _+_, _-_, _%_}
+use Prim.Native.Nat.{ℕ, zero, suc, _+_, _%_}
 use lib.Dec.{eqb}
-use lib.ListN.{length, getD, set}
+use lib.ListN.{length, getD, drop, set}
 use Rattle.modular.specs.Search.{least, anyBelow}
 use Rattle.modular.specs.Sum.{weight}
 use Rattle.modular.specs.Residue.{minus}
-use Rattle.code.specs.Parameters.{balancingValue}
+use Rattle.code.specs.Parameters.{Parameters, balancingValue}
 
 -- two words symbol by symbol: x1, y1, x2, y2, ..
 abbrev pub interleave : List ℕ → List ℕ → List ℕ
@@ -25,25 +25,61 @@ abbrev pub integrate : ℕ → ℕ → List ℕ → List ℕ
 integrate q a [] = []
 integrate q a (x ∷ xs) = (a + x) % q ∷ integrate q ((a + x) % q) xs
 
+-- s added mod q to every symbol, as a choice's s is to the integrated word's
+abbrev pub shifted : ℕ → ℕ → List ℕ → List ℕ
+shifted q s [] = []
+shifted q s (a ∷ d) = (a + s) % q ∷ shifted q s d
+
+-- s added mod q to every symbol, and 1 more from index i on, as a choice's v adds it
+abbrev pub shiftedFrom : ℕ → ℕ → ℕ → List ℕ → List ℕ
+shiftedFrom q s zero d = shifted q (suc s) d
+shiftedFrom q s (suc i) [] = []
+shiftedFrom q s (suc i) (a ∷ d) = (a + s) % q ∷ shiftedFrom q s i d
+
 -- 01: differencing; a is the symbol before
 abbrev pub difference : ℕ → ℕ → List ℕ → List ℕ
 difference q a [] = []
 difference q a (x ∷ xs) = minus q x a ∷ difference q x xs
 
+-- 01: x of the interleaved halves: the zero that is added to them stands first
+abbrev pub withZero : Parameters → List ℕ → List ℕ
+withZero p x = 0 ∷ x
+
+-- the index in x of that zero, where a choice's s is added
+abbrev pub zeroIndex : Parameters → List ℕ → ℕ
+zeroIndex p x = 0
+
+-- 1 added mod q to xv; v is a position, so 0 names no symbol
+abbrev pub addOne : Parameters → List ℕ → ℕ → List ℕ
+addOne p x zero = x
+addOne p x (suc i) = addAt (p .q) x i 1
+
+-- 01: w of x
+abbrev pub integrated : Parameters → List ℕ → List ℕ
+integrated p x = integrate (p .q) 0 x
+
+-- what differencing w gives, without the symbol where the zero was added
+abbrev pub differences : Parameters → List ℕ → List ℕ
+differences p w = drop 1 (difference (p .q) 0 w)
+
+-- the v that is tried after i others: they rise from 1
+abbrev pub choice : Parameters → ℕ → ℕ
+choice p i = suc i
+
 -- 01: w of the choice s, v: s added to x1 and 1 to xv, and integrated
-unfoldable pub chosen : ℕ → List ℕ → ℕ → ℕ → List ℕ
-chosen q x s v = integrate q 0 (addAt q (addAt q x 0 s) (v - 1) 1)
+unfoldable pub chosen : Parameters → List ℕ → ℕ → ℕ → List ℕ
+chosen p x s v = integrated p (addOne p (addAt (p .q) x (zeroIndex p x) s) v)
 
 -- the choice balances x
-unfoldable pub balances : ℕ → List ℕ → ℕ → ℕ → Bool
-balances q x s v = eqb (weight (chosen q x s v)) (balancingValue q (length x))
+unfoldable pub balances : Parameters → List ℕ → ℕ → ℕ → Bool
+balances p x s v = eqb (weight (chosen p x s v)) (balancingValue (p .q) (length x))
 
--- 01: the choice used, the first that balances: s from 0 upward and, for each s, v from 1 upward
-unfoldable pub earliestS : ℕ → List ℕ → ℕ
-earliestS q x = least (λ s. anyBelow (λ i. balances q x s (suc i)) (length x)) q
+-- 01: the choice used, the first that balances: s from 0 upward and, for each s, v upward
+unfoldable pub earliestS : Parameters → List ℕ → ℕ
+earliestS p x = least (λ s. anyBelow (λ i. balances p x s (choice p i)) (length x)) (p .q)
 
-unfoldable pub earliestV : ℕ → List ℕ → ℕ
-earliestV q x = suc (least (λ i. balances q x (earliestS q x) (suc i)) (length x))
+unfoldable pub earliestV : Parameters → List ℕ → ℕ
+earliestV p x = choice p (least (λ i. balances p x (earliestS p x) (choice p i)) (length x))
 
-unfoldable pub balanced : ℕ → List ℕ → List ℕ
-balanced q x = chosen q x (earliestS q x) (earliestV q x)
+unfoldable pub balanced : Parameters → List ℕ → List ℕ
+balanced p x = chosen p x (earliestS p x) (earliestV p x)

@@ -5,11 +5,13 @@ use mathlib.Core.List.{List, [], _∷_, _++_}
 use Prim.Native.Nat.{ℕ}
 use lib.ListN.{replicate, set}
 use Rattle.modular.specs.Sum.{weight}
+use Rattle.code.specs.Parameters.{Parameters, messageLength}
 use Rattle.code.specs.Component.{component}
 use Rattle.code.specs.Balance.{earliestS, earliestV, balanced}
 use Rattle.code.specs.Codeword.{interleaved, encoded}
-use Rattle.code.specs.Reading.{Reading, read, unreadable, corrected, reading}
-use Rattle.code.specs.Profiles.{profile}
+use Rattle.code.specs.Reading.{Reading, read, corrected, reading}
+use Rattle.code.specs.Profiles.{row, profile}
+use Rattle.code.specs.Operations.{decodeAnswer, report, reportNumber}
 
 pub data Case : Type 0 where
   -- q, x; s, v, w and its weight
@@ -22,16 +24,24 @@ pub data Case : Type 0 where
   checking : ℕ → List ℕ → List ℕ → Case
   -- profile, received word; its reading
   decoding : ℕ → List ℕ → Reading → Case
+  -- profile, received word; the number that refuses it
+  refusing : ℕ → List ℕ → ℕ → Case
+
+-- parameters of q levels, for a case that gives no r and no n: to balancing they do not matter
+abbrev pub levelsOnly : ℕ → Parameters
+levelsOnly q = row q 0 0
 
 abbrev pub Holds : Case → Type 0
-Holds (balancing q x s v w sum) = (earliestS q x ≡ s) × (earliestV q x ≡ v) × (balanced q x ≡ w) × (weight w ≡ sum)
+Holds (balancing q x s v w sum) =
+    (earliestS (levelsOnly q) x ≡ s) × (earliestV (levelsOnly q) x ≡ v) × (balanced (levelsOnly q) x ≡ w) × (weight w ≡ sum)
 Holds (encoding i a b u) = encoded (profile i) a b ≡ u
 Holds (choosing i a b s v u) =
-    (earliestS (profile i .q) (interleaved (profile i) a b) ≡ s)
-    × (earliestV (profile i .q) (interleaved (profile i) a b) ≡ v)
+    (earliestS (profile i) (interleaved (profile i) a b) ≡ s)
+    × (earliestV (profile i) (interleaved (profile i) a b) ≡ v)
     × (encoded (profile i) a b ≡ u)
 Holds (checking i a c) = component (profile i) a ≡ c
 Holds (decoding i u d) = reading (profile i) u ≡ d
+Holds (refusing i u n) = reportNumber (report (decodeAnswer i u (messageLength (profile i)) (messageLength (profile i)))) ≡ n
 
 abbrev pub AllHold : List Case → Type 0
 AllHold [] = Unit {0}
@@ -53,8 +63,8 @@ starred =
     ∷ checking 1 (1 ∷ 0 ∷ 0 ∷ 0 ∷ 0 ∷ []) (1 ∷ 2 ∷ 2 ∷ 1 ∷ 0 ∷ 0 ∷ 0 ∷ 0 ∷ [])
     ∷ checking 1 (0 ∷ 0 ∷ 0 ∷ 0 ∷ 1 ∷ []) (1 ∷ 0 ∷ 1 ∷ 0 ∷ 0 ∷ 0 ∷ 0 ∷ 1 ∷ [])
     ∷ choosing 1 (0 ∷ 0 ∷ 0 ∷ 0 ∷ 1 ∷ []) (zeros 5) 1 3 shown
-    ∷ decoding 1 (set shown 5 2) (read corrected 6 1 (0 ∷ 0 ∷ 0 ∷ 0 ∷ 1 ∷ []) (zeros 5))
-    ∷ decoding 1 (replicate 17 1 ++ (0 ∷ 1 ∷ [])) (read corrected 19 2 (zeros 5) (zeros 5))
-    ∷ decoding 1 (replicate 17 1 ++ (1 ∷ 1 ∷ [])) unreadable
-    ∷ decoding 1 (2 ∷ 2 ∷ replicate 15 1 ++ (0 ∷ 2 ∷ [])) unreadable
+    ∷ decoding 1 (set shown 5 2) (read (corrected (record { position = 6; symbol = 1 })) (0 ∷ 0 ∷ 0 ∷ 0 ∷ 1 ∷ []) (zeros 5))
+    ∷ decoding 1 (replicate 17 1 ++ (0 ∷ 1 ∷ [])) (read (corrected (record { position = 19; symbol = 2 })) (zeros 5) (zeros 5))
+    ∷ refusing 1 (replicate 17 1 ++ (1 ∷ 1 ∷ [])) 4
+    ∷ refusing 1 (2 ∷ 2 ∷ replicate 15 1 ++ (0 ∷ 2 ∷ [])) 4
     ∷ []

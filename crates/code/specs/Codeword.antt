@@ -4,13 +4,13 @@ use mathlib.Core.Bool.{Bool, true, false, _&&_, _||_}
 use mathlib.Core.List.{List, [], _∷_, _++_}
 use Prim.Native.Nat.{ℕ, _+_, _%_}
 use lib.Dec.{eqb}
-use lib.ListN.{length, getD, take, drop, set}
+use lib.ListN.{length, getD, take, set}
 use Rattle.modular.specs.Search.{least, anyBelow}
 use Rattle.modular.specs.Sum.{weight}
 use Rattle.modular.specs.Residue.{minus}
 use Rattle.code.specs.Parameters.{Parameters, balancedLength, codewordLength, balancingValue, delta}
 use Rattle.code.specs.Component.{isWord, inCode, message, component}
-use Rattle.code.specs.Balance.{interleave, difference, balanced}
+use Rattle.code.specs.Balance.{interleave, withZero, differences, balanced}
 
 -- every other symbol, from the first on (true) or from the second (false)
 abbrev pub alternate : Bool → List ℕ → List ℕ
@@ -32,11 +32,11 @@ withChecks q w = w ++ (alpha q w ∷ beta q w ∷ [])
 
 -- 01: x of a pair of user words
 unfoldable pub interleaved : Parameters → List ℕ → List ℕ → List ℕ
-interleaved p a b = 0 ∷ interleave (component p a) (component p b)
+interleaved p a b = withZero p (interleave (component p a) (component p b))
 
 -- 01: line word, the word that the writer makes from a pair
 unfoldable pub encoded : Parameters → List ℕ → List ℕ → List ℕ
-encoded p a b = withChecks (p .q) (balanced (p .q) (interleaved p a b))
+encoded p a b = withChecks (p .q) (balanced p (interleaved p a b))
 
 -- w of a received word
 unfoldable pub body : Parameters → List ℕ → List ℕ
@@ -44,7 +44,7 @@ body p u = take (balancedLength p) u
 
 -- 01: the halves obtained by differencing w (dropping the first): the first half (true) and the second (false)
 unfoldable pub received : Parameters → Bool → List ℕ → List ℕ
-received p b u = alternate b (drop 1 (difference (p .q) 0 (body p u)))
+received p b u = alternate b (differences p (body p u))
 
 -- 1 taken mod q from the symbol at index i
 abbrev pub lowered : ℕ → List ℕ → ℕ → List ℕ
@@ -52,13 +52,13 @@ lowered q c i = set c i (minus q (getD c i 0) 1)
 
 -- in code, or so when 1 is taken mod q from one symbol
 unfoldable pub nearCode : Parameters → List ℕ → Bool
-nearCode p c = inCode (p .q) (p .r) c || anyBelow (λ i. inCode (p .q) (p .r) (lowered (p .q) c i)) (length c)
+nearCode p c = inCode p c || anyBelow (λ i. inCode p (lowered (p .q) c i)) (length c)
 
 -- the half so restored
 unfoldable pub restored : Parameters → List ℕ → List ℕ
 restored p c =
-    elim (inCode (p .q) (p .r) c)
-    [ true ↦ c | false ↦ lowered (p .q) c (least (λ i. inCode (p .q) (p .r) (lowered (p .q) c i)) (length c)) ]
+    elim (inCode p c)
+    [ true ↦ c | false ↦ lowered (p .q) c (least (λ i. inCode p (lowered (p .q) c i)) (length c)) ]
 
 -- w has weight middle
 unfoldable pub isBalanced : Parameters → List ℕ → Bool
@@ -73,8 +73,8 @@ hasChecks p u =
 -- at least one half is in code, and the other is too or becomes so
 unfoldable pub hasComponents : Parameters → List ℕ → Bool
 hasComponents p u =
-    inCode (p .q) (p .r) (received p true u) && nearCode p (received p false u)
-    || nearCode p (received p true u) && inCode (p .q) (p .r) (received p false u)
+    inCode p (received p true u) && nearCode p (received p false u)
+    || nearCode p (received p true u) && inCode p (received p false u)
 
 -- 01: lawful word
 unfoldable pub codeword : Parameters → List ℕ → Bool
@@ -82,4 +82,4 @@ codeword p u = isWord (p .q) (codewordLength p) u && isBalanced p u && hasChecks
 
 -- 01: the pair that a lawful word carries
 unfoldable pub carried : Parameters → Bool → List ℕ → List ℕ
-carried p b u = message (p .q) (p .r) (restored p (received p b u))
+carried p b u = message p (restored p (received p b u))

@@ -1,4 +1,5 @@
 pub mod Parameters
+pub mod Refusal
 pub mod Component
 pub mod Balance
 pub mod Codeword

@@ -2,9 +2,9 @@
 -- Assumes nothing.
 use mathlib.Core.Bool.{Bool, _&&_}
 use mathlib.Core.List.{List, [], _∷_}
-use Prim.Native.Nat.{ℕ, _-_}
+use Prim.Native.Nat.{ℕ}
 use lib.Dec.{leb}
-use lib.ListN.{getD}
+use lib.ListN.{length, getD}
 use Rattle.code.specs.Parameters.{Parameters, messageLength, balancedLength, codewordLength, balancingValue, delta}
 
 -- q, r, n of a row
@@ -16,11 +16,11 @@ profiles = row 3 3 8 ∷ row 3 4 26 ∷ row 5 3 24 ∷ row 7 3 48 ∷ []
 
 -- the number is a profile's
 abbrev pub isProfile : ℕ → Bool
-isProfile i = leb 1 i && leb i 4
+isProfile i = leb 1 i && leb i (length profiles)
 
--- the parameters of profile i
+-- the parameters of profile i; zeros where the number is no profile's, as 0 is
 unfoldable pub profile : ℕ → Parameters
-profile i = getD profiles (i - 1) (row 0 0 0)
+profile i = getD (row 0 0 0 ∷ profiles) i (row 0 0 0)
 
 -- 01's table, whole: profile, q, r, n, k, m, N, middle, δ
 abbrev pub table : List (List ℕ)

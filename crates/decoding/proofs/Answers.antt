@@ -10,17 +10,17 @@ use lib.Dec.{T, eqb, eqb→eq}
 use lib.ListN.{length, getD, set}
 use lib.Seq.{getD-set-same, set-set, set-getD}
 use Rattle.modular.specs.Sum.{weight}
-use Rattle.modular.specs.Residue.{Prime}
 use Rattle.modular.proofs.Search.{eq-test, and-four, and-parts, and-left, and-right, and-intro, le-of-not-lt}
 use Rattle.code.specs.Parameters.{Parameters, Sized, codewordLength}
 use Rattle.code.specs.Component.{isWord}
 use Rattle.code.specs.Codeword.{body, isBalanced, hasChecks, hasComponents, codeword}
-use Rattle.code.specs.Reading.{distance, clean, corrected, unreadable, readAs, reading}
-use Rattle.code.specs.Claims.{Corrects}
+use Rattle.code.specs.Reading.{distance, correctionAt, Finding, clean, corrected, unreadable, readAs, reading}
+use Rattle.code.specs.Claims.{OneNear, Reads}
 use Rattle.code.proofs.Columns.{q-positive}
 use Rattle.code.proofs.Merge.{word-length, word-below}
 use Rattle.code.proofs.Distance.{one-apart}
-use Rattle.code.proofs.Reading.{reading-corrects}
+use Rattle.code.proofs.Found.{found-clean, found-sent}
+use Rattle.code.proofs.Reading.{near-self, near-set, reading-is}
 use Rattle.decoding.specs.Decoded.{checkSymbol, checkIndex, target}
 
 -- what the test of a codeword asks
@@ -50,29 +50,25 @@ module _ (p : Parameters) (u : List ℕ) where
       and-four (isWord (p .q) (codewordLength p) u) (isBalanced p u) (hasChecks p u) (hasComponents p u) (t .word) (eq-test (t .weighs))
       (and-intro (right true) (right false) (eq-test (sym (t .checks true))) (eq-test (sym (t .checks false)))) (t .near)
 
-module _ (p : Parameters) (s : Sized p) (prime : Prime (p .q)) (v : List ℕ) (w : T (isWord (p .q) (codewordLength p) v)) where
-  law : Corrects p
-  law = reading-corrects p s prime
+module _ (p : Parameters) (s : Sized p) (one : OneNear p) (v : List ℕ) (w : T (isWord (p .q) (codewordLength p) v)) where
+  law : Reads p v
+  law = reading-is p s one v w
 
   long : length v ≡ codewordLength p
   long = word-length (p .q) (codewordLength p) v w
 
-  pub reads-sent : T (codeword p v) → reading p v ≡ readAs p clean 0 0 v
-  reads-sent h = law .unchanged v h
+  pub reads-sent : T (codeword p v) → reading p v ≡ readAs p clean v
+  reads-sent h = law .sent v (near-self p s one v w h) ∙ ap (λ (f : Finding). readAs p f v) (found-clean v)
 
   pub reads-changed : (i y : ℕ) → i < codewordLength p → y ≢ getD v i 0 → T (codeword p (set v i y))
-      → reading p v ≡ readAs p corrected (i + 1) y (set v i y)
+      → reading p v ≡ readAs p (corrected (correctionAt i (getD v i 0) y)) (set v i y)
   reads-changed i y l ne h =
-      let x : ℕ = getD v i 0 in
-      let e : getD (set v i y) i 0 ≡ y = getD-set-same v i y 0 (subst (λ (k : ℕ). i < k) (sym long) l) in
-      let back : set (set v i y) i x ≡ v = set-set v i y x ∙ set-getD v i 0 in
-      ap (reading p) (sym back)
-      ∙ law .changed (set v i y) h i x l (word-below (p .q) (codewordLength p) v (q-positive p s) w i) (λ k. ne (sym (k ∙ e)))
-      ∙ ap (λ (z : ℕ). readAs p corrected (i + 1) z (set v i y)) e
+      law .sent (set v i y) (near-set p s one v w i y h)
+      ∙ ap (λ (f : Finding). readAs p f (set v i y)) (found-sent v i y (subst (λ (k : ℕ). i < k) (sym long) l) ne)
 
   pub reads-none : (T (codeword p v) → ⊥) → ((i y : ℕ) → i < codewordLength p → y < p .q → y ≢ getD v i 0 → T (codeword p (set v i y)) → ⊥)
       → reading p v ≡ unreadable
-  reads-none f g = law .refused v w .1 (λ u h. le-of-not-lt (λ (d : distance u v < 2). near u h (le-of-suc-le-suc d)))
+  reads-none f g = law .none (λ u n. near u (n .lawful) (n .close))
     where
       near : (u : List ℕ) → T (codeword p u) → distance u v ≤ 1 → ⊥
       near u h d =

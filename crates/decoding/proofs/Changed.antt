@@ -20,11 +20,12 @@ use Rattle.code.proofs.Weights.{double, double-is, times-pred}
 use Rattle.code.proofs.Columns.{q-positive}
 use Rattle.code.proofs.Moves.{parity}
 use Rattle.code.proofs.Lawful.{length-body, balanced-length, body-at}
-use Rattle.decoding.specs.Syndromes.{index, movedFirst, movedSecond}
-use Rattle.decoding.specs.Decoded.{checkSymbol, checkIndex, Sums, sums, target, lack, nearAfter, places}
+use Rattle.decoding.specs.Syndromes.{index}
+use Rattle.decoding.specs.Decoded.{checkSymbol, checkIndex, Sums, sums, update, movedSums, target, lack, nearAfter, places}
+use Rattle.decoding.proofs.Tests.{both}
 use Rattle.decoding.proofs.Near.{Rows, rows}
 use Rattle.decoding.proofs.Components.{components-test}
-use Rattle.decoding.proofs.Moved.{index-odd, index-even, Gain, moved-first, moved-second}
+use Rattle.decoding.proofs.Moved.{index-odd, index-even, Gain, moved-side}
 use Rattle.decoding.proofs.Checks.{check-gained, check-kept}
 
 -- Indices.
@@ -117,45 +118,58 @@ pub lack-below : (p : Parameters) (s : Sums) → 1 ≤ p .q → lack p s < p .q
 unfolding lack
 lack-below p s h = mod-lt (target p + (p .q - 1) * s .weighs) h
 
--- y in place of the symbol at index k of the parity b balances the body
-module _ (p : Parameters) (s : Sized p) {v : List ℕ} (n : length v ≡ codewordLength p) {t : Sums} (m : Summed p v t) (b : Bool) (k y : ℕ)
-    (l : k < places p b) (e : y + t .weighs ≡ getD v (index b k) 0 + target p) where
+pub update-here : (b : Bool) (y : ℕ) (f : Bool → ℕ) → update b y f b ≡ y
+update-here true y f = refl
+update-here false y f = refl
+
+pub update-other : (b : Bool) (y : ℕ) (f : Bool → ℕ) → update b y f (not b) ≡ f (not b)
+update-other true y f = refl
+update-other false y f = refl
+
+-- y, which is e more mod q, in place of the symbol at index k of the parity b moves the sums
+module _ (p : Parameters) (s : Sized p) {v : List ℕ} (n : length v ≡ codewordLength p) {t : Sums} (m : Summed p v t) (b : Bool) (k y e a : ℕ)
+    (l : k < places p b) (small : e ≤ p .q) (gained : Congruent (p .q) (getD v (index b k) 0 + e) y)
+    (weighed : y + t .weighs ≡ getD v (index b k) 0 + a) where
   within : index b k < balancedLength p
   within = index-within p b k l
 
-  gain : Gain p (body p v) b k y (lack p t)
-  gain =
+  raised : Gain p (body p v) b k y e
+  raised =
       let h : length (body p v) ≡ balancedLength p = length-body p v n in
-      record {
-        long = h ∙ balanced-length p;
-        within = rw h within;
-        small = le-of-lt (lack-below p t (q-positive p s));
-        gained = rw (body-at p v (index b k) within) (lack-gained p t (getD v (index b k) 0) y (q-positive p s) e);
-      }
+      record { long = h ∙ balanced-length p; within = rw h within; small = small; gained = rw (body-at p v (index b k) within) gained }
 
   here : body p (set v (index b k) y) ≡ set (body p v) (index b k) y
   here = body-set p v (index b k) y within
 
-  pub changed-weight : weight (body p (set v (index b k) y)) ≡ target p
-  changed-weight =
-      omega (arith, ap weight here, weight-set (body p v) (index b k) y (gain .within), body-at p v (index b k) within, m .weighs)
+  pub summed-moved : Summed p (set v (index b k) y) (movedSums p b k e a t)
+  unfolding received
+  summed-moved =
+      record {
+        weighs = omega (arith, ap weight here, weight-set (body p v) (index b k) y (raised .within), body-at p v (index b k) within, m .weighs);
+        asked =
+            both b (λ c. update b ((t .asked b + e) % p .q) (t .asked) c ≡ checkSymbol (p .q) c (body p (set v (index b k) y)))
+            (update-here b _ (t .asked) ∙ ap (λ (x : ℕ). (x + e) % p .q) (m .asked b)
+            ∙ sym (ap (checkSymbol (p .q) b) here ∙ check-gained b (body p v) k y e (raised .within) (raised .gained)))
+            (update-other b _ (t .asked) ∙ m .asked (not b) ∙ sym (ap (checkSymbol (p .q) (not b)) here ∙ check-kept (p .q) b (body p v) k y));
+        arrived = λ c. m .arrived c ∙ sym (checks-kept p v c (index b k) y within);
+        first = rw here (moved-side (q-positive p s) true b raised (m .first));
+        second = rw here (moved-side (q-positive p s) false b raised (m .second));
+      }
+
+-- y in place of the symbol at index k of the parity b balances the body
+module _ (p : Parameters) (s : Sized p) {v : List ℕ} (n : length v ≡ codewordLength p) {t : Sums} (m : Summed p v t) (b : Bool) (k y : ℕ)
+    (l : k < places p b) (e : y + t .weighs ≡ getD v (index b k) 0 + target p) where
+  pub changed : Summed p (set v (index b k) y) (movedSums p b k (lack p t) (target p) t)
+  changed =
+      summed-moved p s n m b k y (lack p t) (target p) l (le-of-lt (lack-below p t (q-positive p s)))
+      (lack-gained p t (getD v (index b k) 0) y (q-positive p s) e) e
 
   pub changed-check : checkSymbol (p .q) b (body p (set v (index b k) y)) ≡ (t .asked b + lack p t) % p .q
-  changed-check =
-      ap (checkSymbol (p .q) b) here ∙ check-gained b (body p v) k y (lack p t) (gain .within) (gain .gained)
-      ∙ ap (λ (x : ℕ). (x + lack p t) % p .q) (sym (m .asked b))
+  changed-check = sym (changed .asked b) ∙ update-here b _ (t .asked)
 
   pub kept-check : checkSymbol (p .q) (not b) (body p (set v (index b k) y)) ≡ t .asked (not b)
-  kept-check = ap (checkSymbol (p .q) (not b)) here ∙ check-kept (p .q) b (body p v) k y ∙ sym (m .asked (not b))
-
-  pub changed-first : Rows p (received p true (set v (index b k) y)) (movedFirst p b k (lack p t) (t .first))
-  unfolding received
-  changed-first = rw here (moved-first (q-positive p s) b gain (m .first))
-
-  pub changed-second : Rows p (received p false (set v (index b k) y)) (movedSecond p b k (lack p t) (t .second))
-  unfolding received
-  changed-second = rw here (moved-second (q-positive p s) b gain (m .second))
+  kept-check = sym (changed .asked (not b)) ∙ update-other b _ (t .asked)
 
   pub changed-near : nearAfter p t b k ≡ hasComponents p (set v (index b k) y)
   unfolding nearAfter
-  changed-near = components-test p s (set v (index b k) y) (length-set v (index b k) y ∙ n) changed-first changed-second
+  changed-near = components-test p s (set v (index b k) y) (length-set v (index b k) y ∙ n) (changed .first) (changed .second)

@@ -11,7 +11,7 @@ use Rattle.modular.proofs.Search.{and-left, and-right, or-cases, or-left}
 use Rattle.code.specs.Parameters.{Parameters, Sized, codewordLength}
 use Rattle.code.specs.Component.{message}
 use Rattle.code.specs.Codeword.{body, received, nearCode, hasComponents, carried}
-use Rattle.code.specs.Reading.{Kind, read, readAs}
+use Rattle.code.specs.Reading.{Finding, read, readAs}
 use Rattle.code.proofs.Weights.{length-part}
 use Rattle.code.proofs.Lawful.{length-body, balanced-length}
 use Rattle.decoding.specs.Syndromes.{zeroSyndrome, columnSyndrome, nearSyndrome, nearSyndromes, restoredBy}
@@ -48,9 +48,9 @@ near-parts p S S′ t =
 
 module _ (p : Parameters) (s : Sized p) (u : List ℕ) (l : length u ≡ codewordLength p) where
   pub carried-by : (b : Bool) {S : List ℕ} → Rows p (received p b u) S → T (nearSyndrome p S)
-      → message (p .q) (p .r) (restoredBy p S (received p b u)) ≡ carried p b u
+      → message p (restoredBy p S (received p b u)) ≡ carried p b u
   unfolding carried
-  carried-by b w t = ap (message (p .q) (p .r)) (restored-by p s w (length-received p b u l) t)
+  carried-by b w t = ap (message p) (restored-by p s w (length-received p b u l) t)
 
   module _ {S S′ : List ℕ} (w : Rows p (received p true u) S) (w′ : Rows p (received p false u) S′) where
     pub components-test : nearSyndromes p S S′ ≡ hasComponents p u
@@ -60,8 +60,8 @@ module _ (p : Parameters) (s : Sized p) (u : List ℕ) (l : length u ≡ codewor
         let n′ : nearSyndrome p S′ ≡ nearCode p (received p false u) = near-test p s w′ (length-received p false u l) in
         rw (zero-test w, zero-test w′, n, n′) refl
 
-    pub read-by : (k : Kind) (i y : ℕ) → T (nearSyndromes p S S′) → readBy p k i y u S S′ ≡ readAs p k i y u
+    pub read-by : (f : Finding) → T (nearSyndromes p S S′) → readBy p f u S S′ ≡ readAs p f u
     unfolding readBy
-    read-by k i y t =
+    read-by f t =
         let (n, n′) = near-parts p S S′ t in
-        ap₂ (λ (a b : List ℕ). read k i y a b) (carried-by true w n) (carried-by false w′ n′)
+        ap₂ (λ (a b : List ℕ). read f a b) (carried-by true w n) (carried-by false w′ n′)

@@ -25,7 +25,7 @@ use Rattle.decoding.specs.Syndromes.{index}
 use Rattle.decoding.specs.Decoded.{checkSymbol, checkIndex, Sums, target, lack, balancingSymbol, inRange, offByLack, nearAfter, fits, places}
 use Rattle.decoding.proofs.Tests.{and-three, three-parts, both}
 use Rattle.decoding.proofs.Answers.{Tests, codeword-tests, tests-codeword}
-use Rattle.decoding.proofs.Changed.{index-within, body-set, checks-kept, Summed, lack-gained, changed-weight, changed-check, kept-check, changed-near}
+use Rattle.decoding.proofs.Changed.{index-within, body-set, checks-kept, Summed, lack-gained, changed, changed-check, kept-check, changed-near}
 
 -- what the test says: y is the symbol that balances in place of x
 pub record Fit (p : Parameters) (s : Sums) (b : Bool) (k x y : ℕ) : Type 0 where
@@ -72,7 +72,7 @@ module _ (p : Parameters) (s : Sized p) {v : List ℕ} (w : T (isWord (p .q) (co
       tests-codeword p (set v (index b k) y)
       (record {
         word = word-set p v (index b k) y w (f .below);
-        weighs = changed-weight p s long m b k y l (f .balances);
+        weighs = sym (changed p s long m b k y l (f .balances) .weighs);
         checks =
             both b (λ c. checkSymbol (p .q) c (body p (set v (index b k) y)) ≡ getD (set v (index b k) y) (checkIndex p c) 0)
             (changed-check p s long m b k y l (f .balances) ∙ f .check ∙ arrived-is b)

@@ -16,7 +16,7 @@ use Rattle.code.specs.Component.{checkRow, syndrome}
 use Rattle.code.proofs.Weights.{double, double-is, later, part, dot-part, times-pred, weight-first-odd, weight-second-odd, weight-first-even, weight-second-even}
 use Rattle.code.proofs.Columns.{entry}
 use Rattle.code.proofs.Moves.{rowWeight}
-use Rattle.decoding.specs.Syndromes.{columnEntry, moved, index, movedFirst, movedSecond}
+use Rattle.decoding.specs.Syndromes.{columnEntry, moved, index, columnOf, times, movedOf}
 use Rattle.decoding.proofs.Value.{tabulate-at, length-tabulate}
 use Rattle.decoding.proofs.Near.{Rows, rows-congruent}
 
@@ -49,7 +49,7 @@ entry-is p j (suc a) = refl
 
 -- the rows of a component that gains g times column a
 moved-rows : {p : Parameters} {c S : List ℕ} (d : List ℕ) (g a : ℕ) → Rows p c S
-    → ((j : ℕ) → j < p .r → Congruent (p .q) (dot (checkRow (p .q) (p .r) j) d) (dot (checkRow (p .q) (p .r) j) c + g * columnEntry p j a))
+    → ((j : ℕ) → j < p .r → Congruent (p .q) (dot (checkRow p j) d) (dot (checkRow p j) c + g * columnEntry p j a))
     → Rows p d (moved p g a S)
 unfolding moved syndrome
 moved-rows {p} {c} {S} d g a w h =
@@ -75,7 +75,7 @@ module _ {p : Parameters} (h : 1 ≤ p .q) {w : List ℕ} {b : Bool} {k y e : �
   moved-by c g a f r =
       moved-rows (part (p .q) c (set w (index b k) y)) g a r
       (λ j l.
-      let row : ℕ → ℕ = checkRow (p .q) (p .r) j in
+      let row : ℕ → ℕ = checkRow p j in
       dot-part (p .q) (p .n) h c row (set w (index b k) y) (length-set w (index b k) y ∙ m .long)
       then dot-gain (rowWeight p c j) w (index b k) y e (m .within) (m .gained)
       then add (symm (dot-part (p .q) (p .n) h c row w (m .long))) (f j))
@@ -84,28 +84,20 @@ module _ {p : Parameters} (h : 1 ≤ p .q) {w : List ℕ} {b : Bool} {k y e : �
 weight-at : (p : Parameters) (c : Bool) (j : ℕ) {i i′ x : ℕ} (e : ℕ) → i ≡ i′ → rowWeight p c j i′ ≡ x → rowWeight p c j i * e ≡ x * e
 weight-at p c j e f g = ap (λ (i : ℕ). rowWeight p c j i * e) f ∙ ap (λ (x : ℕ). x * e) g
 
-pub moved-first : {p : Parameters} → 1 ≤ p .q → {w S : List ℕ} (b : Bool) {k y e : ℕ} → Gain p w b k y e → Rows p (part (p .q) true w) S
-    → Rows p (part (p .q) true (set w (index b k) y)) (movedFirst p b k e S)
-unfolding movedFirst
-moved-first {p} h true {k} {y} {e} m r =
-    moved-by h m true (p .q - e) (suc k)
-    (λ j. of-eq (weight-at p true j e (index-odd k) (weight-first-odd (p .q) (p .n) (checkRow (p .q) (p .r) j) k)) then less (p .q) (entry p j k) e h (m .small))
-    r
-moved-first {p} h false {k} {y} {e} m r =
-    moved-by h m true e (suc k)
-    (λ j. of-eq (weight-at p true j e (index-even k) (weight-first-even (p .q) (p .n) (checkRow (p .q) (p .r) j) k) ∙ mul-comm (entry p j k) e)) r
-
-pub moved-second : {p : Parameters} → 1 ≤ p .q → {w S : List ℕ} (b : Bool) {k y e : ℕ} → Gain p w b k y e → Rows p (part (p .q) false w) S
-    → Rows p (part (p .q) false (set w (index b k) y)) (movedSecond p b k e S)
-unfolding movedSecond
-moved-second {p} h true {k} {y} {e} m r =
-    moved-by h m false e k
-    (λ j.
+pub weight-times : (p : Parameters) → 1 ≤ p .q → (c b : Bool) (k e j : ℕ) → e ≤ p .q
+    → Congruent (p .q) (rowWeight p c j (index b k) * e) (times p c b e * columnEntry p j (columnOf c b k))
+weight-times p h true true k e j l =
+    of-eq (weight-at p true j e (index-odd k) (weight-first-odd (p .q) (p .n) (checkRow p j) k)) then less (p .q) (entry p j k) e h l
+weight-times p h true false k e j l =
+    of-eq (weight-at p true j e (index-even k) (weight-first-even (p .q) (p .n) (checkRow p j) k) ∙ mul-comm (entry p j k) e)
+weight-times p h false true k e j l =
     of-eq
-    (weight-at p false j e (index-odd k) (weight-second-odd (p .q) (p .n) (checkRow (p .q) (p .r) j) k ∙ sym (entry-is p j k))
-    ∙ mul-comm (columnEntry p j k) e))
-    r
-moved-second {p} h false {k} {y} {e} m r =
-    moved-by h m false (p .q - e) (suc k)
-    (λ j. of-eq (weight-at p false j e (index-even k) (weight-second-even (p .q) (p .n) (checkRow (p .q) (p .r) j) k)) then less (p .q) (entry p j k) e h (m .small))
-    r
+    (weight-at p false j e (index-odd k) (weight-second-odd (p .q) (p .n) (checkRow p j) k ∙ sym (entry-is p j k))
+    ∙ mul-comm (columnEntry p j k) e)
+weight-times p h false false k e j l =
+    of-eq (weight-at p false j e (index-even k) (weight-second-even (p .q) (p .n) (checkRow p j) k)) then less (p .q) (entry p j k) e h l
+
+pub moved-side : {p : Parameters} → 1 ≤ p .q → {w S : List ℕ} (c b : Bool) {k y e : ℕ} → Gain p w b k y e → Rows p (part (p .q) c w) S
+    → Rows p (part (p .q) c (set w (index b k) y)) (movedOf p c b k e S)
+unfolding movedOf
+moved-side {p} h c b {k} {y} {e} m r = moved-by h m c (times p c b e) (columnOf c b k) (λ j. weight-times p h c b k e j (m .small)) r

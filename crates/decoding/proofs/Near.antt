@@ -30,34 +30,34 @@ use Rattle.decoding.proofs.Value.{tabulate-at, length-tabulate, Digits,
 -- the list begins with the syndrome of c
 pub record Rows (p : Parameters) (c S : List ℕ) : Type 0 where
   pub long : p .r ≤ length S
-  pub at : (j : ℕ) → j < p .r → getD S j 0 ≡ syndrome (p .q) (p .r) c j
+  pub at : (j : ℕ) → j < p .r → getD S j 0 ≡ syndrome p c j
 
 pub rows : (p : Parameters) (c : List ℕ) → Rows p c (syndromes p c)
 rows p c =
     record {
       long = rw length-tabulate (le-refl (p .r));
-      at = λ j h. tabulate-at (syndrome (p .q) (p .r) c) (p .r) j h;
+      at = λ j h. tabulate-at (syndrome p c) (p .r) j h;
     }
 
 -- a row is a sum mod q
 pub rows-congruent : {p : Parameters} {c S : List ℕ} → Rows p c S → (j : ℕ) → j < p .r
-    → Congruent (p .q) (getD S j 0) (dot (checkRow (p .q) (p .r) j) c)
+    → Congruent (p .q) (getD S j 0) (dot (checkRow p j) c)
 unfolding syndrome
-rows-congruent {p} {c} w j h = of-eq (w .at j h) then reduce (p .q) (dot (checkRow (p .q) (p .r) j) c)
+rows-congruent {p} {c} w j h = of-eq (w .at j h) then reduce (p .q) (dot (checkRow p j) c)
 
 pub rows-below : {p : Parameters} {c S : List ℕ} → 1 ≤ p .q → Rows p c S → (j : ℕ) → j < p .r → getD S j 0 < p .q
 unfolding syndrome
-rows-below {p} {c} l w j h = rw (w .at j h) (mod-lt (dot (checkRow (p .q) (p .r) j) c) l)
+rows-below {p} {c} l w j h = rw (w .at j h) (mod-lt (dot (checkRow p j) c) l)
 
 -- rows that are equal are zero together
 pub all-zero : (f g : ℕ → ℕ) (k : ℕ) → ((j : ℕ) → j < k → f j ≡ g j) → T (allBelow (λ j. eqb (f j) 0) k) → T (allBelow (λ j. eqb (g j) 0) k)
 all-zero f g k e t = all-of (λ j. eqb (g j) 0) k (λ j h. subst (λ (x : ℕ). T (eqb x 0)) (e j h) (all-at (λ j. eqb (f j) 0) k t j h))
 
-pub zero-test : {p : Parameters} {c S : List ℕ} → Rows p c S → zeroSyndrome p S ≡ inCode (p .q) (p .r) c
+pub zero-test : {p : Parameters} {c S : List ℕ} → Rows p c S → zeroSyndrome p S ≡ inCode p c
 unfolding zeroSyndrome inCode
 zero-test {p} {c} {S} w =
     let f : ℕ → ℕ = λ j. getD S j 0 in
-    let g : ℕ → ℕ = syndrome (p .q) (p .r) c in
+    let g : ℕ → ℕ = syndrome p c in
     same-test _ _ (all-zero f g (p .r) (w .at)) (all-zero g f (p .r) (λ j h. sym (w .at j h)))
 
 -- what the test of a column says
@@ -106,35 +106,35 @@ module _ (p : Parameters) (s : Sized p) {c S : List ℕ} (w : Rows p c S) where
       is : suc i ≡ columnPosition p S
       is = omega (arith, named p S t .some)
 
-      go : (j ≡ p .r - 1) ⊎ (j < p .r - 1) → getD S j 0 ≡ checkRow (p .q) (p .r) j i
-      go (inl e) = ap (λ (x : ℕ). getD S x 0) e ∙ named p S t .last ∙ sym (last-row (p .q) (p .r) i) ∙ ap (λ (x : ℕ). checkRow (p .q) (p .r) x i) (sym e)
+      go : (j ≡ p .r - 1) ⊎ (j < p .r - 1) → getD S j 0 ≡ checkRow p j i
+      go (inl e) = ap (λ (x : ℕ). getD S x 0) e ∙ named p S t .last ∙ sym (last-row p i) ∙ ap (λ (x : ℕ). checkRow p x i) (sym e)
       go (inr l) =
           sym (digits-value (p .q) (p .r - 1) S row-digits j l)
           ∙ ap (λ (x : ℕ). getD (digits (p .q) (p .r - 1) x) j 0) (sym is)
-          ∙ sym (digit-row (p .q) (p .r) j i l)
+          ∙ sym (digit-row p j i l)
 
   -- and where it is a column it names that column's position
   module _ (i : ℕ) (l : i < p .n) (k : ColumnOf p c i) where
-    entry-below : (j : ℕ) → j < p .r → checkRow (p .q) (p .r) j i < p .q
+    entry-below : (j : ℕ) → j < p .r → checkRow p j i < p .q
     entry-below j h = go (row-cases j h)
       where
-        go : (j ≡ p .r - 1) ⊎ (j < p .r - 1) → checkRow (p .q) (p .r) j i < p .q
-        go (inl e) = rw (e, last-row (p .q) (p .r) i) (omega (arith, s .levels))
-        go (inr m) = rw (digit-row (p .q) (p .r) j i m) (digits-below (p .q) (p .r - 1) (suc i) j (q-positive p s))
+        go : (j ≡ p .r - 1) ⊎ (j < p .r - 1) → checkRow p j i < p .q
+        go (inl e) = rw (e, last-row p i) (omega (arith, s .levels))
+        go (inr m) = rw (digit-row p j i m) (digits-below (p .q) (p .r - 1) (suc i) j (q-positive p s))
 
-    row-is : (j : ℕ) → j < p .r → getD S j 0 ≡ checkRow (p .q) (p .r) j i
+    row-is : (j : ℕ) → j < p .r → getD S j 0 ≡ checkRow p j i
     row-is j h = small (rows-below (q-positive p s) w j h) (entry-below j h) (rows-congruent w j h then k j h)
 
     pub position-is : columnPosition p S ≡ suc i
     unfolding columnPosition
     position-is =
         value-digits (p .q) (p .r - 1) (suc i) S (q-positive p s) (le-trans (suc-le-suc l) (s .columns)) (row-digits .long)
-        (λ j h. row-is j (omega arith) ∙ digit-row (p .q) (p .r) j i h)
+        (λ j h. row-is j (omega arith) ∙ digit-row p j i h)
 
     pub column-test : T (columnSyndrome p S)
     column-test =
         named-test p S
-        (record { last = row-is (p .r - 1) (last-below p s) ∙ last-row (p .q) (p .r) i; some = omega (arith, position-is); within = omega (arith, position-is) })
+        (record { last = row-is (p .r - 1) (last-below p s) ∙ last-row p i; some = omega (arith, position-is); within = omega (arith, position-is) })
 
   module _ (n : length c ≡ p .n) where
     position-within : T (columnSyndrome p S) → columnPosition p S - 1 < length c

@@ -8,11 +8,11 @@ use Prim.Native.Nat.{ℕ, _<_}
 use lib.Dec.{T}
 use lib.ListN.{getD, set}
 use Rattle.modular.specs.Sum.{weight}
-use Rattle.modular.specs.Residue.{Prime}
 use Rattle.code.specs.Parameters.{Parameters, Sized, codewordLength}
 use Rattle.code.specs.Component.{isWord}
 use Rattle.code.specs.Codeword.{body, received, hasComponents, codeword}
 use Rattle.code.specs.Reading.{unreadable, reading}
+use Rattle.code.specs.Claims.{OneNear}
 use Rattle.code.proofs.Merge.{word-length}
 use Rattle.decoding.specs.Syndromes.{nearSyndromes, index}
 use Rattle.decoding.specs.Decoded.{checkSymbol, checkIndex, Sums, target, fits, places}
@@ -60,9 +60,9 @@ module _ (p : Parameters) (s : Sized p) {v : List ℕ} (w : T (isWord (p .q) (co
       body-changed b k (unbalanced p s w m b k y l h a ne) (other-agrees p s w m b k y l h a ne) (own-disagrees p s w m b k y l h a ne) l
       (codeword-fit p s w m b k y l h a ne)
 
-  pub none-nearby : Prime (p .q) → (Nearby p t v → ⊥) → reading p v ≡ unreadable
-  none-nearby prime none =
-      reads-none p s prime v w (λ h. none (sent-nearby h))
+  pub none-nearby : OneNear p → (Nearby p t v → ⊥) → reading p v ≡ unreadable
+  none-nearby one none =
+      reads-none p s one v w (λ h. none (sent-nearby h))
       (λ i y l a ne h.
       none
       (⊎-elim (λ j. body-nearby i y (place p i j) a ne h)

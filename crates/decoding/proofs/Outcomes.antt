@@ -12,19 +12,19 @@ use lib.Dec.{T}
 use lib.ListN.{length, getD, set, length-set}
 use lib.Seq.{getD-set-same}
 use Rattle.modular.specs.Sum.{weight}
-use Rattle.modular.specs.Residue.{Prime}
 use Rattle.code.specs.Parameters.{Parameters, Sized, codewordLength}
 use Rattle.code.specs.Component.{isWord}
 use Rattle.code.specs.Codeword.{alpha, beta, body, carried}
-use Rattle.code.specs.Reading.{Kind, read, unreadable, clean, corrected, readAs, reading}
+use Rattle.code.specs.Reading.{Finding, correctionAt, read, unreadable, clean, corrected, readAs, reading}
+use Rattle.code.specs.Claims.{OneNear}
 use Rattle.code.proofs.Columns.{q-positive}
 use Rattle.code.proofs.Merge.{word-length}
 use Rattle.decoding.specs.Syndromes.{nearSyndromes, index}
-use Rattle.decoding.specs.Decoded.{checkSymbol, checkIndex, Sums, target, balancingSymbol, nearAfter, fits, places, readBy, readFit, decodedCheck}
+use Rattle.decoding.specs.Decoded.{checkSymbol, checkIndex, Sums, target, balancingSymbol, nearAfter, fits, places, readBy, readFit, decodedCheck, movedSums, lack}
 use Rattle.decoding.proofs.Tests.{both}
 use Rattle.decoding.proofs.Components.{read-by}
 use Rattle.decoding.proofs.Answers.{Tests, tests-codeword, reads-sent, reads-changed}
-use Rattle.decoding.proofs.Changed.{index-within, check-within, body-kept, other-kept, Summed, changed-first, changed-second}
+use Rattle.decoding.proofs.Changed.{index-within, check-within, body-kept, other-kept, Summed, changed}
 use Rattle.decoding.proofs.Fits.{Fit, fit, word-set, fit-codeword}
 use Rattle.decoding.proofs.Nearby.{Nearby, as-sent, check-changed, body-changed, received-kept, components-kept, near-is, none-nearby}
 
@@ -38,21 +38,21 @@ carried-kept : (p : Parameters) (v : List ℕ) (b : Bool) (y : ℕ) (c : Bool) �
 unfolding carried
 carried-kept p v b y c = rw received-kept
 
-module _ (p : Parameters) (s : Sized p) (prime : Prime (p .q)) {v : List ℕ} (w : T (isWord (p .q) (codewordLength p) v)) {t : Sums}
+module _ (p : Parameters) (s : Sized p) (one : OneNear p) {v : List ℕ} (w : T (isWord (p .q) (codewordLength p) v)) {t : Sums}
     (m : Summed p v t) where
   long : length v ≡ codewordLength p
   long = word-length (p .q) (codewordLength p) v w
 
   -- the answer for v itself, by its syndromes
-  read-here : (k : Kind) (i y : ℕ) → T (nearSyndromes p (t .first) (t .second)) → readBy p k i y v (t .first) (t .second) ≡ readAs p k i y v
-  read-here k i y n = read-by p s v long (m .first) (m .second) k i y n
+  read-here : (f : Finding) → T (nearSyndromes p (t .first) (t .second)) → readBy p f v (t .first) (t .second) ≡ readAs p f v
+  read-here f n = read-by p s v long (m .first) (m .second) f n
 
   -- Answers.
 
   pub clean-reading : t .weighs ≡ target p → T (nearSyndromes p (t .first) (t .second)) → ((b : Bool) → t .asked b ≡ t .arrived b)
-      → reading p v ≡ readBy p clean 0 0 v (t .first) (t .second)
+      → reading p v ≡ readBy p clean v (t .first) (t .second)
   clean-reading a n r =
-      reads-sent p s prime v w
+      reads-sent p s one v w
       (tests-codeword p v
       (record {
         word = w;
@@ -60,16 +60,16 @@ module _ (p : Parameters) (s : Sized p) (prime : Prime (p .q)) {v : List ℕ} (w
         checks = λ b. sym (m .asked b) ∙ r b ∙ m .arrived b;
         near = subst T (near-is p s w m) n;
       }))
-      ∙ sym (read-here clean 0 0 n)
+      ∙ sym (read-here clean n)
 
   -- the check symbol that is wrong is the one that changed
   pub check-reading : (b : Bool) → t .weighs ≡ target p → T (nearSyndromes p (t .first) (t .second)) → t .asked (not b) ≡ t .arrived (not b)
       → t .asked b ≢ t .arrived b → reading p v ≡ decodedCheck p t b v
   unfolding decodedCheck
   check-reading b a n r ne =
-      reads-changed p s prime v w i y (check-within p b) (λ e. ne (e ∙ sym (m .arrived b))) (tests-codeword p u tests)
-      ∙ ap₂ (λ (c d : List ℕ). read corrected (i + 1) y c d) (carried-kept p v b y true) (carried-kept p v b y false)
-      ∙ sym (read-here corrected (i + 1) y n)
+      reads-changed p s one v w i y (check-within p b) (λ e. ne (e ∙ sym (m .arrived b))) (tests-codeword p u tests)
+      ∙ ap₂ (λ (c d : List ℕ). read (corrected (correctionAt i (getD v i 0) y)) c d) (carried-kept p v b y true) (carried-kept p v b y false)
+      ∙ sym (read-here (corrected (correctionAt i (t .arrived b) y)) n)
     where
       i : ℕ
       i = checkIndex p b
@@ -101,10 +101,9 @@ module _ (p : Parameters) (s : Sized p) (prime : Prime (p .q)) {v : List ℕ} (w
       → T (fits p t b k (getD v (index b k) 0)) → reading p v ≡ readFit p t b k v
   unfolding readFit nearAfter
   fit-reading b k l a r f =
-      reads-changed p s prime v w i y inside differs (fit-codeword p s w m b k y l g r)
+      reads-changed p s one v w i y inside differs (fit-codeword p s w m b k y l g r)
       ∙ sym
-      (read-by p s (set v i y) (length-set v i y ∙ long) (changed-first p s long m b k y l (g .balances)) (changed-second p s long m b k y l (g .balances))
-      corrected (i + 1) y (g .near))
+      (read-by p s (set v i y) (length-set v i y ∙ long) (moved .first) (moved .second) (corrected (correctionAt i (getD v i 0) y)) (g .near))
     where
       i : ℕ
       i = index b k
@@ -121,10 +120,13 @@ module _ (p : Parameters) (s : Sized p) (prime : Prime (p .q)) {v : List ℕ} (w
       differs : y ≢ getD v i 0
       differs e = a (omega (arith, g .balances))
 
+      moved : Summed p (set v i y) (movedSums p b k (lack p t) (target p) t)
+      moved = changed p s long m b k y l (g .balances)
+
   -- Refusals.
 
   refused : (Nearby p t v → ⊥) → reading p v ≡ unreadable
-  refused f = none-nearby p s w m prime f
+  refused f = none-nearby p s w m one f
 
   pub far-refused : t .weighs ≡ target p → (T (nearSyndromes p (t .first) (t .second)) → ⊥) → reading p v ≡ unreadable
   far-refused a f = refused go

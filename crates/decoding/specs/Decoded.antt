@@ -10,8 +10,8 @@ use Rattle.modular.specs.Sum.{weight}
 use Rattle.code.specs.Parameters.{Parameters, balancedLength, balancingValue}
 use Rattle.code.specs.Component.{message}
 use Rattle.code.specs.Codeword.{alpha, beta, body, received}
-use Rattle.code.specs.Reading.{Kind, clean, corrected, Reading, read, unreadable}
-use Rattle.decoding.specs.Syndromes.{syndromes, nearSyndromes, restoredBy, index, movedFirst, movedSecond}
+use Rattle.code.specs.Reading.{Finding, correctionAt, clean, corrected, Reading, read, unreadable}
+use Rattle.decoding.specs.Syndromes.{syndromes, nearSyndromes, restoredBy, index, movedOf}
 
 -- the check symbol that a body asks for: α, over the odd positions (true), and β, over the even ones (false)
 abbrev pub checkSymbol : ℕ → Bool → List ℕ → ℕ
@@ -44,6 +44,28 @@ sums p v =
       second = syndromes p (received p false v);
     }
 
+-- f with the value y at b
+abbrev pub update : Bool → ℕ → (Bool → ℕ) → Bool → ℕ
+update true y f true = y
+update true y f false = f false
+update false y f true = f true
+update false y f false = y
+
+-- what the components gain, mod q, where a symbol of the body gains e
+abbrev pub gainBy : Parameters → ℕ → ℕ
+gainBy p e = e
+
+-- the sums once the symbol at index k of the parity b is e more, mod q, and the body weighs a
+abbrev pub movedSums : Parameters → Bool → ℕ → ℕ → ℕ → Sums → Sums
+movedSums p b k e a t =
+    record {
+      weighs = a;
+      asked = update b ((t .asked b + e) % p .q) (t .asked);
+      arrived = t .arrived;
+      first = movedOf p true b k (gainBy p e) (t .first);
+      second = movedOf p false b k (gainBy p e) (t .second);
+    }
+
 -- the balancing value of the body
 abbrev pub target : Parameters → ℕ
 target p = balancingValue (p .q) (balancedLength p)
@@ -51,6 +73,10 @@ target p = balancingValue (p .q) (balancedLength p)
 -- what the changed symbol lacks, mod q: the target less the weight
 unfoldable pub lack : Parameters → Sums → ℕ
 lack p s = (target p + (p .q - 1) * s .weighs) % p .q
+
+-- what the components gain where that is added to it
+abbrev pub gain : Parameters → Sums → ℕ
+gain p s = gainBy p (lack p s)
 
 -- the symbol in place of x that balances the body
 unfoldable pub balancingSymbol : Parameters → Sums → ℕ → ℕ
@@ -66,7 +92,7 @@ offByLack p s b = eqb ((s .asked b + lack p s) % p .q) (s .arrived b)
 
 -- the syndromes are near once the symbol at index k of the parity b is corrected
 unfoldable pub nearAfter : Parameters → Sums → Bool → ℕ → Bool
-nearAfter p s b k = nearSyndromes p (movedFirst p b k (lack p s) (s .first)) (movedSecond p b k (lack p s) (s .second))
+nearAfter p s b k = nearSyndromes p (movedOf p true b k (gain p s) (s .first)) (movedOf p false b k (gain p s) (s .second))
 
 -- the symbol x at index k of the parity b can be the one that changed
 unfoldable pub fits : Parameters → Sums → Bool → ℕ → ℕ → Bool
@@ -82,15 +108,16 @@ unfoldable pub firstFit : Parameters → Sums → Bool → List ℕ → ℕ
 firstFit p s b v = least (λ k. fits p s b k (getD v (index b k) 0)) (places p b)
 
 -- the reading of a codeword u, whose components have the syndromes S and S′
-unfoldable pub readBy : Parameters → Kind → ℕ → ℕ → List ℕ → List ℕ → List ℕ → Reading
-readBy p k i y u S S′ =
-    read k i y (message (p .q) (p .r) (restoredBy p S (received p true u))) (message (p .q) (p .r) (restoredBy p S′ (received p false u)))
+unfoldable pub readBy : Parameters → Finding → List ℕ → List ℕ → List ℕ → Reading
+readBy p f u S S′ =
+    read f (message p (restoredBy p S (received p true u))) (message p (restoredBy p S′ (received p false u)))
 
 -- with the symbol at index k of the parity b corrected
 unfoldable pub readFit : Parameters → Sums → Bool → ℕ → List ℕ → Reading
 readFit p s b k v =
-    let y : ℕ = balancingSymbol p s (getD v (index b k) 0) in
-    readBy p corrected (index b k + 1) y (set v (index b k) y) (movedFirst p b k (lack p s) (s .first)) (movedSecond p b k (lack p s) (s .second))
+    let i : ℕ = index b k in
+    let y : ℕ = balancingSymbol p s (getD v i 0) in
+    readBy p (corrected (correctionAt i (getD v i 0) y)) (set v i y) (movedOf p true b k (gain p s) (s .first)) (movedOf p false b k (gain p s) (s .second))
 
 -- one check symbol, b's, disagrees with an unbalanced body
 unfoldable pub decodedBody : Parameters → Sums → Bool → List ℕ → Reading
@@ -98,7 +125,7 @@ decodedBody p s b v = elim (ltb (firstFit p s b v) (places p b)) [ true ↦ read
 
 -- one check symbol, b's, disagrees with a balanced body
 unfoldable pub decodedCheck : Parameters → Sums → Bool → List ℕ → Reading
-decodedCheck p s b v = readBy p corrected (checkIndex p b + 1) (s .asked b) v (s .first) (s .second)
+decodedCheck p s b v = readBy p (corrected (correctionAt (checkIndex p b) (s .arrived b) (s .asked b))) v (s .first) (s .second)
 
 -- the check symbol is as asked
 abbrev pub agrees : Sums → Bool → Bool
@@ -109,7 +136,7 @@ decodedBalanced p s v =
     elim (nearSyndromes p (s .first) (s .second)) [
       | true ↦
           elim (agrees s true) [
-            | true ↦ elim (agrees s false) [ true ↦ readBy p clean 0 0 v (s .first) (s .second) | false ↦ decodedCheck p s false v ]
+            | true ↦ elim (agrees s false) [ true ↦ readBy p clean v (s .first) (s .second) | false ↦ decodedCheck p s false v ]
             | false ↦ elim (agrees s false) [ true ↦ decodedCheck p s true v | false ↦ unreadable ]
           ]
       | false ↦ unreadable

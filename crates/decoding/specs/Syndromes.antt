@@ -18,7 +18,7 @@ tabulate f (suc k) = f 0 ∷ tabulate (λ i. f (suc i)) k
 
 -- the syndrome of a component, row by row
 abbrev pub syndromes : Parameters → List ℕ → List ℕ
-syndromes p c = tabulate (syndrome (p .q) (p .r) c) (p .r)
+syndromes p c = tabulate (syndrome p c) (p .r)
 
 -- every row is 0
 unfoldable pub zeroSyndrome : Parameters → List ℕ → Bool
@@ -53,7 +53,7 @@ restoredBy p S c = elim (zeroSyndrome p S) [ true ↦ c | false ↦ lowered (p .
 -- row j of column a; there are no columns 0 and past n, and their rows are 0
 abbrev pub columnEntry : Parameters → ℕ → ℕ → ℕ
 columnEntry p j zero = 0
-columnEntry p j (suc a) = elim (ltb a (p .n)) [ true ↦ checkRow (p .q) (p .r) j a | false ↦ 0 ]
+columnEntry p j (suc a) = elim (ltb a (p .n)) [ true ↦ checkRow p j a | false ↦ 0 ]
 
 -- e times column a added
 unfoldable pub moved : Parameters → ℕ → ℕ → List ℕ → List ℕ
@@ -64,10 +64,19 @@ abbrev pub index : Bool → ℕ → ℕ
 index true k = 2 * k
 index false k = 2 * k + 1
 
--- the first component's syndrome after e was added mod q at that index of the word: less column k + 1, or more
-unfoldable pub movedFirst : Parameters → Bool → ℕ → ℕ → List ℕ → List ℕ
-movedFirst p b k e S = elim b [ true ↦ moved p (p .q - e) (suc k) S | false ↦ moved p e (suc k) S ]
+-- the column of the first component (true) or of the second that the symbol at index k of the parity b meets
+abbrev pub columnOf : Bool → Bool → ℕ → ℕ
+columnOf true b k = suc k
+columnOf false true k = k
+columnOf false false k = suc k
 
--- the second component's: more column k, or less column k + 1
-unfoldable pub movedSecond : Parameters → Bool → ℕ → ℕ → List ℕ → List ℕ
-movedSecond p b k e S = elim b [ true ↦ moved p e k S | false ↦ moved p (p .q - e) (suc k) S ]
+-- how often that column comes in by e more of the symbol, mod q: in the first component less at the odd positions, in the second at the even ones
+abbrev pub times : Parameters → Bool → Bool → ℕ → ℕ
+times p true true e = p .q - e
+times p true false e = e
+times p false true e = e
+times p false false e = p .q - e
+
+-- component c's syndrome after e was added mod q at that index of the word
+unfoldable pub movedOf : Parameters → Bool → Bool → ℕ → ℕ → List ℕ → List ℕ
+movedOf p c b k e S = moved p (times p c b e) (columnOf c b k) S

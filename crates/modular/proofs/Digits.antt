@@ -3,7 +3,7 @@
 use mathlib.Core.Path.{_≡_, refl, sym, ap, ap₂, _∙_}
 use mathlib.Core.List.{List, [], _∷_}
 use Prim.Native.Nat.{ℕ, zero, suc, _+_, _*_, _/_, _%_, _^_, _<_, _≤_, zero-le, suc-le-suc}
-use native.Mathlib.Nat.{pow-zero, pow-suc, div-lt-iff-lt-mul, mod-lt, mod-add-div', mod-eq-of-lt, div-eq-of-lt, zero-mod, zero-div, mul-mod-left, mul-div-cancel}
+use native.Mathlib.Nat.{pow-zero, pow-suc, suc-mul, div-lt-iff-lt-mul, mod-lt, mod-add-div', mod-eq-of-lt, div-eq-of-lt, zero-mod, zero-div, mul-mod-left, mul-div-cancel}
 use native.Mathlib.Omega.{arith}
 use lib.Arith.{lt-one, digits-lt, digits-div, digits-mod}
 use lib.ListN.{length, getD, set, replicate, length-replicate, getD-replicate}
@@ -47,6 +47,20 @@ digits-zero q (suc k) = rw (zero-mod, zero-div, digits-zero q k)
 
 pub digits-small : (q k i : ℕ) → i < q → digits q (suc k) i ≡ i ∷ replicate k 0
 digits-small q k i h = rw (mod-eq-of-lt h, div-eq-of-lt h, digits-zero q k)
+
+-- The digits of the next number.
+
+-- the lowest digit is one more where that is a digit
+pub digits-next : (q k i : ℕ) → i % q + 1 < q → digits q (suc k) (suc i) ≡ (i % q + 1) ∷ digits q k (i / q)
+digits-next q k i h =
+    let e : suc i ≡ i / q * q + (i % q + 1) = omega (arith, mod-add-div' i q) in
+    rw (e, digits-mod (i / q) h, digits-div (i / q) h)
+
+-- and otherwise 0, and the digits above it are those of the next number
+pub digits-carry : (q k i : ℕ) → 1 ≤ q → q ≤ i % q + 1 → digits q (suc k) (suc i) ≡ 0 ∷ digits q k (suc (i / q))
+digits-carry q k i some h =
+    let e : suc i ≡ suc (i / q) * q + 0 = omega (arith, mod-add-div' i q, mod-lt i some, suc-mul (i / q) q) in
+    rw (e, digits-mod (suc (i / q)) some, digits-div (suc (i / q)) some)
 
 pub digits-power : (q k j : ℕ) → 2 ≤ q → digits q k (q ^ j) ≡ set (replicate k 0) j 1
 digits-power q zero j h = refl
