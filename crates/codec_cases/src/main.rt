@@ -57,8 +57,8 @@ fn decode_and_print(profile: usize, word: &[u8], first: &mut [u8], second: &mut 
             io::write_all(STDOUT_FILENO, b"C 0 0");
             print_pair(first, second);
         }
-        Decoded::Corrected(position, symbol) => {
-            print_corrected(position, symbol);
+        Decoded::Corrected(c) => {
+            print_corrected(c.position, c.symbol);
             print_pair(first, second);
         }
         Decoded::Unreadable => print_unread(4, first, second),

@@ -17,12 +17,13 @@ use Rattle.modular.specs.Residue.{Congruent}
 use Rattle.modular.proofs.Sum.{dot-agree}
 use Rattle.modular.proofs.Residue.{of-eq, symm, _then_, scale, reduce}
 use Rattle.code.specs.Parameters.{Parameters, Sized, messageLength}
-use Rattle.code.specs.Component.{symbolsBelow, isWord, checkRow, syndrome, inCode, merge, candidate, component}
+use Rattle.code.specs.Component.{symbolsBelow, isWord, checkRow, syndrome, inCode, checkAt, merge, candidate, component}
 use Rattle.code.proofs.Symbols.{symbols-below}
 use Rattle.code.proofs.Columns.{q-positive}
 use Rattle.code.proofs.Merge.{cases, opposite, word-of, count, length-merge}
-use Rattle.code.proofs.Reduced.{check, place, place-check}
+use Rattle.code.proofs.Reduced.{place, place-check}
 use Rattle.code.proofs.Pair.{length-component}
+use Rattle.symbols.specs.Syndromes.{fourRows}
 use Rattle.components.specs.Checks.{checkPosition, checked, Solves}
 use Rattle.components.proofs.Placing.{merge-check, merge-message}
 use Rattle.components.proofs.Solve.{bare, at-place, solved}
@@ -61,9 +62,11 @@ module _ (q : ℕ) (t : ℕ → Bool) (n : ℕ) (e a : List ℕ) where
           then symm (reduce q (getD a k 0))
           then of-eq (sym (residue-at q a k) ∙ sym (merge-message t n e (residues q a) j l h))))
 
-  syndrome-agrees : (r j : ℕ) → syndrome q r (merge t n e a) j ≡ syndrome q r (merge t n e (residues q a)) j
-  unfolding syndrome
-  syndrome-agrees r j = merge-agrees (checkRow q r j) .same
+-- and with any rows of q levels the same syndrome
+syndrome-agrees : (p : Parameters) (t : ℕ → Bool) (n : ℕ) (e a : List ℕ) (j : ℕ)
+    → syndrome p (merge t n e a) j ≡ syndrome p (merge t n e (residues (p .q) a)) j
+unfolding syndrome
+syndrome-agrees p t n e a j = merge-agrees (p .q) t n e a (checkRow p j) .same
 
 -- What setting the check symbols changes.
 
@@ -89,7 +92,7 @@ checked-agrees q e c d (suc k) i l h =
 
 module _ (p : Parameters) (s : Sized p) where
   -- the symbols of the message stay
-  checked-other : (e c : List ℕ) (k i : ℕ) → k ≤ p .r → check p i ≡ false → getD (checked (p .q) e c k) i 0 ≡ getD c i 0
+  checked-other : (e c : List ℕ) (k i : ℕ) → k ≤ p .r → checkAt p i ≡ false → getD (checked (p .q) e c k) i 0 ≡ getD c i 0
   checked-other e c zero i h f = refl
   checked-other e c (suc k) i h f =
       rw (at-place p (checked (p .q) e c k) k (getD e k 0))
@@ -105,51 +108,51 @@ module _ (p : Parameters) (s : Sized p) where
     word : T (isWord (p .q) (messageLength p) reduced)
     word = word-of (p .q) (messageLength p) reduced (length-residues (p .q) a ∙ size) (residues-below (p .q) a (q-positive p s))
 
-    same-tests : _≡_ {A = ℕ → Bool} (λ e. inCode (p .q) (p .r) (candidate p a e)) (λ e. inCode (p .q) (p .r) (candidate p reduced e))
+    same-tests : _≡_ {A = ℕ → Bool} (λ e. inCode p (candidate p a e)) (λ e. inCode p (candidate p reduced e))
     unfolding inCode candidate
     same-tests =
         fun-ext
         (λ e. ap (λ (u : ℕ → ℕ). allBelow (λ j. eqb (u j) 0) (p .r))
-        (fun-ext (λ j. syndrome-agrees (p .q) (check p) (p .n) (digits (p .q) (p .r) e) a (p .r) j)))
+        (fun-ext (λ j. syndrome-agrees p (checkAt p) (p .n) (digits (p .q) (p .r) e) a j)))
 
     -- the check symbols of both
     checks : List ℕ
-    checks = digits (p .q) (p .r) (least (λ e. inCode (p .q) (p .r) (candidate p reduced e)) (p .q ^ p .r))
+    checks = digits (p .q) (p .r) (least (λ e. inCode p (candidate p reduced e)) (p .q ^ p .r))
 
-    component-is : component p a ≡ merge (check p) (p .n) checks a
+    component-is : component p a ≡ merge (checkAt p) (p .n) checks a
     unfolding component candidate checks
-    component-is = ap (λ (t : ℕ → Bool). merge (check p) (p .n) (digits (p .q) (p .r) (least t (p .q ^ p .r))) a) same-tests
+    component-is = ap (λ (t : ℕ → Bool). merge (checkAt p) (p .n) (digits (p .q) (p .r) (least t (p .q ^ p .r))) a) same-tests
 
-    reduced-is : component p reduced ≡ merge (check p) (p .n) checks reduced
+    reduced-is : component p reduced ≡ merge (checkAt p) (p .n) checks reduced
     unfolding component candidate checks
     reduced-is = refl
 
-    module _ (sums e : List ℕ) (four : p .r ≤ 4) (are : (j : ℕ) → j < 4 → getD sums j 0 ≡ syndrome (p .q) 4 (bare p a) j) (solves : Solves (p .q) sums e) where
+    module _ (sums e : List ℕ) (four : p .r ≤ 4) (are : (j : ℕ) → j < 4 → getD sums j 0 ≡ syndrome (fourRows (p .q) (p .n)) (bare p a) j) (solves : Solves (p .q) sums e) where
       reduced-solved : checked (p .q) e (bare p reduced) (p .r) ≡ component p reduced
       reduced-solved =
-          solved p s reduced word sums e four (λ j h. are j h ∙ syndrome-agrees (p .q) (check p) (p .n) [] a 4 j) solves
+          solved p s reduced word sums e four (λ j h. are j h ∙ syndrome-agrees (fourRows (p .q) (p .n)) (checkAt p) (p .n) [] a j) solves
 
       pub any-solved : checked (p .q) e (bare p a) (p .r) ≡ component p a
       any-solved =
           ext-getD 0 (checked (p .q) e (bare p a) (p .r)) (component p a) (long ∙ sym (length-component p a))
-          (λ i l. let h : i < p .n = omega (arith, long) in cases (check p i) (at-check i h) (at-message i h))
+          (λ i l. let h : i < p .n = omega (arith, long) in cases (checkAt p i) (at-check i h) (at-message i h))
         where
           long : length (checked (p .q) e (bare p a) (p .r)) ≡ p .n
-          long = length-checked (p .q) e (bare p a) (p .r) ∙ length-merge (check p) (p .n) [] a
+          long = length-checked (p .q) e (bare p a) (p .r) ∙ length-merge (checkAt p) (p .n) [] a
 
-          at-check : (i : ℕ) → i < p .n → check p i ≡ true → getD (checked (p .q) e (bare p a) (p .r)) i 0 ≡ getD (component p a) i 0
+          at-check : (i : ℕ) → i < p .n → checkAt p i ≡ true → getD (checked (p .q) e (bare p a) (p .r)) i 0 ≡ getD (component p a) i 0
           at-check i l h =
               checked-agrees (p .q) e (bare p a) (bare p reduced) (p .r) i
-              (length-merge (check p) (p .n) [] a ∙ sym (length-merge (check p) (p .n) [] reduced))
-              (merge-check (check p) (p .n) [] a i l h ∙ sym (merge-check (check p) (p .n) [] reduced i l h))
+              (length-merge (checkAt p) (p .n) [] a ∙ sym (length-merge (checkAt p) (p .n) [] reduced))
+              (merge-check (checkAt p) (p .n) [] a i l h ∙ sym (merge-check (checkAt p) (p .n) [] reduced i l h))
               ∙ ap (λ (c : List ℕ). getD c i 0) (reduced-solved ∙ reduced-is)
-              ∙ merge-check (check p) (p .n) checks reduced i l h
-              ∙ sym (merge-check (check p) (p .n) checks a i l h)
+              ∙ merge-check (checkAt p) (p .n) checks reduced i l h
+              ∙ sym (merge-check (checkAt p) (p .n) checks a i l h)
               ∙ ap (λ (c : List ℕ). getD c i 0) (sym component-is)
 
-          at-message : (i : ℕ) → i < p .n → check p i ≡ false → getD (checked (p .q) e (bare p a) (p .r)) i 0 ≡ getD (component p a) i 0
+          at-message : (i : ℕ) → i < p .n → checkAt p i ≡ false → getD (checked (p .q) e (bare p a) (p .r)) i 0 ≡ getD (component p a) i 0
           at-message i l h =
               checked-other e (bare p a) (p .r) i (le-refl (p .r)) h
-              ∙ merge-message (check p) (p .n) [] a i l h
-              ∙ sym (merge-message (check p) (p .n) checks a i l h)
+              ∙ merge-message (checkAt p) (p .n) [] a i l h
+              ∙ sym (merge-message (checkAt p) (p .n) checks a i l h)
               ∙ ap (λ (c : List ℕ). getD c i 0) (sym component-is)

@@ -19,14 +19,15 @@ use Rattle.modular.proofs.Sum.{dot-set-one, dot-set-zero, dot-same, dot-add, do
 use Rattle.modular.proofs.Digits.{length-digits, digits-zero}
 use Rattle.modular.proofs.Residue.{of-eq, same, symm, _then_, add, scale, reduce, multiple, cancel}
 use Rattle.code.specs.Parameters.{Parameters, Sized, messageLength}
-use Rattle.code.specs.Component.{symbolsBelow, isWord, checkRow, syndrome, message, merge, component}
+use Rattle.code.specs.Component.{symbolsBelow, isWord, checkRow, syndrome, checkAt, message, merge, component}
 use Rattle.code.proofs.Symbols.{symbols-below, symbols-set}
 use Rattle.code.proofs.Syndrome.{zero-code}
 use Rattle.code.proofs.Columns.{last-row, digit-row, q-positive}
 use Rattle.code.proofs.Weights.{times-pred}
 use Rattle.code.proofs.Merge.{opposite, word-below, word-of, below-merge, length-merge, keep-merge, keep-set}
-use Rattle.code.proofs.Reduced.{check, place, row, reducedTwo, reduced, place-below, place-check, place-injective, row-two-first, row-two-other, reduced-same, reduced-other, rows-reduced}
+use Rattle.code.proofs.Reduced.{place, reducedTwo, reduced, place-below, place-check, place-injective, row-two-first, row-two-other, reduced-same, reduced-other, rows-reduced}
 use Rattle.code.proofs.Component.{unique, component-holding, message-fits}
+use Rattle.symbols.specs.Syndromes.{fourRows}
 use Rattle.components.specs.Checks.{checkPosition, checked, Solves}
 use Rattle.components.proofs.Placing.{merge-check}
 
@@ -44,7 +45,7 @@ weight-zeros-after (x ∷ l) j = ap (λ (y : ℕ). x + y) (weight-zeros-after l 
 module _ (p : Parameters) (s : Sized p) (four : p .r ≤ 4) where
   -- row j of the columns of three digits
   abbrev f : ℕ → ℕ → ℕ
-  f j = checkRow (p .q) 4 j
+  f j = checkRow (fourRows (p .q) (p .n)) j
 
   three : (i : ℕ) → i < p .n → digits (p .q) 3 (suc i) ≡ digits (p .q) (p .r - 1) (suc i) ++ replicate (3 - (p .r - 1)) 0
   three i h =
@@ -52,13 +53,13 @@ module _ (p : Parameters) (s : Sized p) (four : p .r ≤ 4) where
       ap (λ (k : ℕ). digits (p .q) k (suc i)) e
       ∙ digits-more (p .q) (p .r - 1) (3 - (p .r - 1)) (suc i) (q-positive p s) (le-trans (suc-le-suc h) (s .columns))
 
-  row-of : (j i : ℕ) → j < p .r - 1 → i < p .n → row p j i ≡ f j i
+  row-of : (j i : ℕ) → j < p .r - 1 → i < p .n → checkRow p j i ≡ f j i
   row-of j i h l =
       let k : j < 4 - 1 = omega arith in
-      digit-row (p .q) (p .r) j i h
+      digit-row p j i h
       ∙ sym (List·getD-append (digits (p .q) (p .r - 1) (suc i)) (replicate (3 - (p .r - 1)) 0) 0 j (rw length-digits h))
       ∙ ap (λ (d : List ℕ). getD d j 0) (sym (three i l))
-      ∙ sym (digit-row (p .q) 4 j i k)
+      ∙ sym (digit-row (fourRows (p .q) (p .n)) j i k)
 
   digit-sum : (i : ℕ) → i < p .n → weight (digits (p .q) (p .r - 1) (suc i)) ≡ f 0 i + f 1 i + f 2 i
   digit-sum i h =
@@ -71,24 +72,24 @@ module _ (p : Parameters) (s : Sized p) (four : p .r ≤ 4) where
     abbrev total : ℕ → ℕ
     total j = dot (f j) c
 
-    row-total : (j : ℕ) → j < p .r - 1 → dot (row p j) c ≡ total j
-    row-total j h = dot-same (row p j) (f j) c (λ i l. row-of j i h (rw size at l))
+    row-total : (j : ℕ) → j < p .r - 1 → dot (checkRow p j) c ≡ total j
+    row-total j h = dot-same (checkRow p j) (f j) c (λ i l. row-of j i h (rw size at l))
 
     two-total : dot (reducedTwo p) c ≡ total 0 + total 1 + total 2 + (p .q - 1) * total 3
     two-total =
         dot-same (reducedTwo p) (λ i. f 0 i + f 1 i + f 2 i + (p .q - 1) * f 3 i) c
-        (λ i l. ap₂ (λ (x y : ℕ). x + (p .q - 1) * y) (digit-sum i (rw size at l)) (last-row (p .q) (p .r) i))
+        (λ i l. ap₂ (λ (x y : ℕ). x + (p .q - 1) * y) (digit-sum i (rw size at l)) (last-row p i))
         ∙ dot-add (λ i. f 0 i + f 1 i + f 2 i) (λ i. (p .q - 1) * f 3 i) c
         ∙ ap₂ (λ (x y : ℕ). x + y) (dot-add (λ i. f 0 i + f 1 i) (f 2) c ∙ ap (λ (x : ℕ). x + total 2) (dot-add (f 0) (f 1) c)) (dot-scale (p .q - 1) (f 3) c)
 
-    power-total : (j : ℕ) → j < p .r - 1 → dot (reduced p (suc j)) c ≡ total j + (p .q - row p j 1) * dot (reducedTwo p) c
+    power-total : (j : ℕ) → j < p .r - 1 → dot (reduced p (suc j)) c ≡ total j + (p .q - checkRow p j 1) * dot (reducedTwo p) c
     power-total j h =
-        dot-add (row p j) (λ i. (p .q - row p j 1) * reducedTwo p i) c
-        ∙ ap₂ (λ (x y : ℕ). x + y) (row-total j h) (dot-scale (p .q - row p j 1) (reducedTwo p) c)
+        dot-add (checkRow p j) (λ i. (p .q - checkRow p j 1) * reducedTwo p i) c
+        ∙ ap₂ (λ (x y : ℕ). x + y) (row-total j h) (dot-scale (p .q - checkRow p j 1) (reducedTwo p) c)
 
     -- The check symbols e make up for them.
 
-    module _ (sums e : List ℕ) (are : (j : ℕ) → j < 4 → getD sums j 0 ≡ syndrome (p .q) 4 c j) (solves : Solves (p .q) sums e) where
+    module _ (sums e : List ℕ) (are : (j : ℕ) → j < 4 → getD sums j 0 ≡ syndrome (fourRows (p .q) (p .n)) c j) (solves : Solves (p .q) sums e) where
       sum-is : (j : ℕ) → j < 4 → Congruent (p .q) (getD sums j 0) (total j)
       unfolding syndrome
       sum-is j h = of-eq (are j h) then reduce (p .q) (total j)
@@ -113,7 +114,7 @@ module _ (p : Parameters) (s : Sized p) (four : p .r ≤ 4) where
           let d : u * z + w * z ≡ 0 + z * p .q = omega (arith, ap (λ (x : ℕ). z * x) b) in
           cancel (w * z) (of-eq a then scale w makes-two then of-eq (mul-zero w) then symm (multiple (p .q) 0 z) then of-eq (sym d))
 
-      makes-power : (j u : ℕ) → suc j < p .r → row p j 1 ≡ u → u ≤ p .q
+      makes-power : (j u : ℕ) → suc j < p .r → checkRow p j 1 ≡ u → u ≤ p .q
           → Congruent (p .q) (getD e (suc j) 0 + (getD sums j 0 + u * getD e 0 0)) 0
           → Congruent (p .q) (getD e (suc j) 0 + dot (reduced p (suc j)) c) 0
       makes-power j u h r l k =
@@ -135,14 +136,14 @@ module _ (p : Parameters) (s : Sized p) (four : p .r ≤ 4) where
 record Filling (p : Parameters) (a c d : List ℕ) (k : ℕ) : Type 0 where
   size : length d ≡ p .n
   below : T (symbolsBelow (p .q) d)
-  holds : message (p .q) (p .r) d ≡ a
+  holds : message p d ≡ a
   vanish : (l : ℕ) → l < k → Congruent (p .q) (dot (reduced p l) d) 0
   kept : (l : ℕ) → k ≤ l → l < p .r → Congruent (p .q) (dot (reduced p l) d) (dot (reduced p l) c)
   zeros : (l : ℕ) → k ≤ l → l < p .r → getD d (place p l) 0 ≡ 0
 
 -- the message with 0 at the check positions
 abbrev pub bare : Parameters → List ℕ → List ℕ
-bare p a = merge (check p) (p .n) [] a
+bare p a = merge (checkAt p) (p .n) [] a
 
 pub at-place : (p : Parameters) (d : List ℕ) (k y : ℕ) → set d (checkPosition (p .q) k - 1) y ≡ set d (place p k) y
 at-place p d zero y = refl
@@ -153,14 +154,14 @@ module _ (p : Parameters) (s : Sized p) (a : List ℕ) (w : T (isWord (p .q) (me
   unfolding message
   filled-none =
       record {
-        size = length-merge (check p) (p .n) [] a;
+        size = length-merge (checkAt p) (p .n) [] a;
         below =
             symbols-below (p .q) (bare p a)
-            (λ i l. below-merge (p .q) (check p) (p .n) [] a (λ j. q-positive p s) (word-below (p .q) (messageLength p) a (q-positive p s) w) i);
-        holds = keep-merge (check p) (p .n) [] a (message-fits p s a w);
+            (λ i l. below-merge (p .q) (checkAt p) (p .n) [] a (λ j. q-positive p s) (word-below (p .q) (messageLength p) a (q-positive p s) w) i);
+        holds = keep-merge (checkAt p) (p .n) [] a (message-fits p s a w);
         vanish = λ l h. absurd (not-suc-le-zero h);
         kept = λ l h g. same (dot (reduced p l) (bare p a));
-        zeros = λ l h g. merge-check (check p) (p .n) [] a (place p l) (place-below p s l g) (passes (place-check p s l g));
+        zeros = λ l h g. merge-check (checkAt p) (p .n) [] a (place p l) (place-below p s l g) (passes (place-check p s l g));
       }
 
   filled-more : {c d : List ℕ} {k : ℕ} → Filling p a c d k → k < p .r → (y : ℕ) → y < p .q → Congruent (p .q) (y + dot (reduced p k) c) 0
@@ -170,7 +171,7 @@ module _ (p : Parameters) (s : Sized p) (a : List ℕ) (w : T (isWord (p .q) (me
       record {
         size = length-set d i y ∙ b .size;
         below = symbols-set (p .q) d i y small (b .below);
-        holds = keep-set (opposite (check p)) d i y (λ n. T-not (check p i) n (place-check p s k h)) ∙ b .holds;
+        holds = keep-set (opposite (checkAt p)) d i y (λ n. T-not (checkAt p i) n (place-check p s k h)) ∙ b .holds;
         vanish = λ l m. vanish l m (ℕ-discrete l k);
         kept = λ l m n. dot-set-zero (reduced p l) d i y inside (reduced-other p s l k n h (omega arith)) then b .kept l (omega arith) n;
         zeros = λ l m n. getD-set-other d i (place p l) y 0 (apart l m n) ∙ b .zeros l (omega arith) n;
@@ -198,13 +199,13 @@ module _ (p : Parameters) (s : Sized p) (a : List ℕ) (w : T (isWord (p .q) (me
           let g : l < k = lt-of-le-ne (le-of-suc-le-suc m) n in
           dot-set-zero (reduced p l) d i y inside (reduced-other p s l k (omega arith) h n) then b .vanish l g
 
-  module _ (sums e : List ℕ) (four : p .r ≤ 4) (are : (j : ℕ) → j < 4 → getD sums j 0 ≡ syndrome (p .q) 4 (bare p a) j) (solves : Solves (p .q) sums e) where
+  module _ (sums e : List ℕ) (four : p .r ≤ 4) (are : (j : ℕ) → j < 4 → getD sums j 0 ≡ syndrome (fourRows (p .q) (p .n)) (bare p a) j) (solves : Solves (p .q) sums e) where
     fill : (k : ℕ) → k ≤ p .r → Filling p a (bare p a) (checked (p .q) e (bare p a) k) k
     fill zero h = filled-none
     fill (suc k) h =
         rw (at-place p (checked (p .q) e (bare p a) k) k (getD e k 0))
         (filled-more (fill k (omega arith)) h (getD e k 0) (solves .below k (omega arith))
-        (makes p s four (bare p a) (length-merge (check p) (p .n) [] a) sums e are solves k h))
+        (makes p s four (bare p a) (length-merge (checkAt p) (p .n) [] a) sums e are solves k h))
 
     pub solved : checked (p .q) e (bare p a) (p .r) ≡ component p a
     solved =

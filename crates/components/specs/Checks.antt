@@ -8,6 +8,7 @@ use lib.ListN.{getD, set}
 use Rattle.modular.specs.Residue.{Congruent}
 use Rattle.code.specs.Component.{checkAt, merge}
 use Rattle.profiles.specs.declared.row.Row.{Row}
+use Rattle.profiles.specs.Row.{parameters}
 use Rattle.symbols.specs.Syndromes.{part}
 use Rattle.components.specs.declared.component.CheckSymbols.{CheckSymbols}
 
@@ -39,8 +40,8 @@ pub record Solves (q : ℕ) (s e : List ℕ) : Type 0 where
 -- x holds both messages, with 0 at the check positions and outside the components
 pub record Placed (t : Row) (first second x : List ℕ) : Type 0 where
   pub head : getD x 0 0 ≡ 0
-  pub first-part : part true (t .n) x ≡ merge (checkAt (t .q) (t .r)) (t .n) [] first
-  pub second-part : part false (t .n) x ≡ merge (checkAt (t .q) (t .r)) (t .n) [] second
+  pub first-part : part true (t .n) x ≡ merge (checkAt (parameters t)) (t .n) [] first
+  pub second-part : part false (t .n) x ≡ merge (checkAt (parameters t)) (t .n) [] second
   pub past : (i : ℕ) → 2 * t .n + 1 ≤ i → getD x i 0 ≡ 0
 
 -- y is x with the check symbols of its components set

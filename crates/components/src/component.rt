@@ -3,19 +3,14 @@ use crate::residue::sub;
 use profiles::Row;
 use symbols::Body;
 use symbols::Syndrome;
-use symbols::Syndromes;
 use symbols::columns;
 use symbols::syndromes_of;
 ghost use mathlib.Core.Path.{_≡_};
-ghost use mathlib.Core.Bool.{true, false};
-ghost use Prim.Native.Nat.{min, _≤_, _<_};
-ghost use lib.Dec.{T};
+ghost use Prim.Native.Nat.{_≤_, _<_};
 ghost use lib.ListN.{length};
 ghost use Rattle.code.specs.Parameters.{messageLength};
-ghost use Rattle.code.specs.Profiles.{isProfile};
 ghost use Rattle.profiles.specs.Row.{Valid, parameters};
-ghost use Rattle.symbols.specs.Columns.{Columns, columnsOf};
-ghost use Rattle.symbols.specs.Syndromes.{rows, part, rowSums};
+ghost use Rattle.symbols.specs.Syndromes.{rows};
 ghost use Rattle.components.specs.Checks.{symbols, setAt, Solves, Placed, Filled};
 ghost use Rattle.components.specs.Components.{padded};
 
@@ -88,34 +83,14 @@ fn filled(row: Row, x: Body, first: CheckSymbols, second: CheckSymbols) -> Body
     y
 }
 
-// The syndromes of both components. Each profile has a call of its own, with its columns as a constant.
-fn syndromes_by(profile: usize, row: Row, x: &Body) -> Syndromes
-    requires { ⌜ T (isProfile profile) ⌝ }
-    ensures { λ s. ⌜ (rows (s .first) ≡ rowSums (row .q) (columnsOf profile) (part true (min (row .n) 48) (now (x .entry)))) × (rows (s .second) ≡ rowSums (row .q) (columnsOf profile) (part false (min (row .n) 48) (now (x .entry)))) ⌝ }
-{
-    if profile == 1 {
-        let matrix = columns(1);
-        return syndromes_of(row.q, row.n, &matrix, x);
-    }
-    if profile == 2 {
-        let matrix = columns(2);
-        return syndromes_of(row.q, row.n, &matrix, x);
-    }
-    if profile == 3 {
-        let matrix = columns(3);
-        return syndromes_of(row.q, row.n, &matrix, x);
-    }
-    let matrix = columns(4);
-    syndromes_of(row.q, row.n, &matrix, x)
-}
-
-// The components of two messages of the right length, by a profile's row.
-pub(crate) fn interleaved(profile: usize, row: Row, first: &[u8], second: &[u8]) -> Body
-    requires { ⌜ Valid row × (3 ≤ row .r) × T (isProfile profile) × Columns (row .q) (columnsOf profile) × (length (now first) ≡ messageLength (parameters row)) × (length (now second) ≡ messageLength (parameters row)) ⌝ }
+// The components of two messages of the right length, by a profile's row. The columns are built once.
+pub(crate) fn interleaved(row: Row, first: &[u8], second: &[u8]) -> Body
+    requires { ⌜ Valid row × (3 ≤ row .r) × (length (now first) ≡ messageLength (parameters row)) × (length (now second) ≡ messageLength (parameters row)) ⌝ }
     ensures { λ x. ⌜ x ≡ padded (parameters row) (now (first .entry)) (now (second .entry)) ⌝ }
 {
     let x = placed(row, first, second);
-    let sums = syndromes_by(profile, row, &x);
+    let matrix = columns(row.q, row.n);
+    let sums = syndromes_of(row.q, row.n, &matrix, &x);
     let a = check_symbols(row.q, sums.first);
     let b = check_symbols(row.q, sums.second);
     filled(row, x, a, b)

@@ -5,25 +5,24 @@ use mathlib.Core.Logic.{_≢_}
 use mathlib.Core.Bool.{true, false}
 use mathlib.Core.List.{List}
 use Prim.Native.Nat.{ℕ}
+use native.Mathlib.Omega.{arith}
 use lib.Dec.{T, eqb}
 use lib.ListN.{length}
 use borrow.Author.Tests.{eq-eqb, ne-eqb}
 use Rattle.code.specs.Parameters.{Parameters, messageLength, codewordLength}
 use Rattle.code.specs.Component.{symbolsBelow}
-use Rattle.code.specs.Profiles.{profile, derivedRow}
+use Rattle.code.specs.Profiles.{isProfile, profile}
 use Rattle.code.specs.Reading.{reading}
 use Rattle.code.specs.Operations.{answered, decodeAnswer}
 use Rattle.code.proofs.Merge.{word-of}
 use Rattle.code.proofs.Profiles.{profiles-fit}
+use Rattle.code.proofs.Reading.{near-is-one}
 use Rattle.decoding.specs.Decoded.{Sums, sums, target, decodedBalanced, decodedUnbalanced, decodedBy, decoded}
 use Rattle.decoding.proofs.Decoded.{decoded-reading}
 use Rattle.profiles.specs.declared.row.Row.{Row}
-use Rattle.profiles.specs.Row.{parameters, cells, Valid, RowOf}
-use Rattle.profiles.specs.Refusal.{refusalNumber}
-use Rattle.symbols.specs.Columns.{Columns, columnsOf}
-use Rattle.profiles.proofs.Table.{row-of-profile}
-use Rattle.profiles.proofs.Refusing.{Admitted, admitted, refused-number}
-use Rattle.symbols.proofs.DigitRows.{columns-of-profile}
+use Rattle.profiles.specs.Row.{parameters, Valid, RowOf}
+use Rattle.profiles.specs.Refusal.{decodeNumber}
+use Rattle.profiles.proofs.Refusing.{Admitted, admitted, refused-number, decode-refused}
 use Rattle.decoder.specs.declared.totals.Totals.{Totals}
 use Rattle.decoder.specs.declared.reader.Decoded.the-variants.{Refused}
 use Rattle.decoder.specs.Totals.{Word, sumsOf}
@@ -32,49 +31,47 @@ use Rattle.decoder.specs.Decode.{Answers}
 use Rattle.decoder.proofs.Answering.{answers-refused}
 use Rattle.decoder.proofs.Totalling.{middle-is}
 
--- what a refused call answers
-pub call-refused : (i : ℕ) (u : List ℕ) (k l : ℕ) (first second : List ℕ) {n : ℕ} → n ≡ refusalNumber (decodeAnswer i u k l) → n ≢ 0
-    → Answers (decodeAnswer i u k l) (Refused n) first first second second
-call-refused i u k l first second e h = let (some, small, is) = refused-number i u k l e h in answers-refused first second (some, small) is
+-- what a call is answered whose number is no profile's
+pub call-unprofiled : (i : ℕ) (u : List ℕ) (k l : ℕ) (first second : List ℕ) → isProfile i ≡ false
+    → Answers (decodeAnswer i u k l) (Refused 1) first first second second
+call-unprofiled i u k l first second e = answers-refused first second (decode-refused i u k l e)
 
--- What is known of a call that no number refuses, by the profile's row.
+-- What is known of a call by the profile's row.
 
-module _ (i : ℕ) (u first second : List ℕ) (z : refusalNumber (decodeAnswer i u (length first) (length second)) ≡ 0) {t : Row} (e : cells i t ≡ derivedRow i) where
-  known : Admitted i u (length first) (length second)
-  known = admitted i u (length first) (length second) z
+module _ (i : ℕ) (u first second : List ℕ) {t : Row} (of : RowOf i t) where
+  pub call-refused : {n : ℕ} → n ≡ decodeNumber t u (length first) (length second) → n ≢ 0
+      → Answers (decodeAnswer i u (length first) (length second)) (Refused n) first first second second
+  call-refused e h = answers-refused first second (refused-number i u (length first) (length second) of e h)
 
-  o : RowOf i t
-  o = row-of-profile i t (known .profiled) e
+  -- where no number refuses it
+  module _ (z : decodeNumber t u (length first) (length second) ≡ 0) where
+    known : Admitted i u (length first) (length second)
+    known = admitted i u (length first) (length second) of z
 
-  word-known : Word t u
-  word-known =
-      record {
-        valid = o .valid;
-        long = known .word-long ∙ sym (ap codewordLength (o .same));
-        below = subst (λ (p : Parameters). T (symbolsBelow (p .q) u)) (sym (o .same)) (known .below);
-      }
+    pub word-known : Word t u
+    word-known =
+        record {
+          valid = of .valid;
+          long = known .word-long ∙ sym (ap codewordLength (of .same));
+          below = subst (λ (p : Parameters). T (symbolsBelow (p .q) u)) (sym (of .same)) (known .below);
+        }
 
-  outputs-known : Outputs t first second
-  outputs-known =
-      record {
-        first-long = known .first-long ∙ sym (ap messageLength (o .same));
-        second-long = known .second-long ∙ sym (ap messageLength (o .same));
-      }
+    pub outputs-known : Outputs t first second
+    outputs-known =
+        record {
+          first-long = known .first-long ∙ sym (ap messageLength (of .same));
+          second-long = known .second-long ∙ sym (ap messageLength (of .same));
+        }
 
-  columns-known : {table : List (List ℕ)} → table ≡ columnsOf i → Columns (t .q) table
-  columns-known f = rw f (subst (λ (p : Parameters). Columns (p .q) (columnsOf i)) (sym (o .same)) (columns-of-profile i (known .profiled)))
+    is-decoded : reading (profile i) u ≡ decoded (parameters t) u
+    is-decoded =
+        let (s, prime) = profiles-fit .0 i (of .known) in
+        let one = near-is-one (profile i) s prime in
+        sym (decoded-reading (profile i) s one u (word-of (profile i .q) (codewordLength (profile i)) u (known .word-long) (known .below)))
+        ∙ ap (λ (p : Parameters). decoded p u) (sym (of .same))
 
-  is-decoded : reading (profile i) u ≡ decoded (parameters t) u
-  is-decoded =
-      let (s, prime) = profiles-fit .0 i (known .profiled) in
-      sym (decoded-reading (profile i) s prime u (word-of (profile i .q) (codewordLength (profile i)) u (known .word-long) (known .below)))
-      ∙ ap (λ (p : Parameters). decoded p u) (sym (o .same))
-
-  pub ready : {table : List (List ℕ)} → table ≡ columnsOf i → Word t u × Columns (t .q) table × Outputs t first second
-  ready f = (word-known, columns-known f, outputs-known)
-
-  pub decoded-answer : decodeAnswer i u (length first) (length second) ≡ answered (decoded (parameters t) u)
-  decoded-answer = known .read ∙ ap answered is-decoded
+    pub decoded-answer : decodeAnswer i u (length first) (length second) ≡ answered (decoded (parameters t) u)
+    decoded-answer = known .read ∙ ap answered is-decoded
 
 -- the answer by the sums of a word
 module _ {t : Row} (v : Valid t) (u : List ℕ) (s : Totals) (g : sumsOf t s ≡ sums (parameters t) u) where

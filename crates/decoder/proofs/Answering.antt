@@ -1,6 +1,6 @@
 -- The answer of the decoder, case by case.
 -- Assumes nothing.
-use mathlib.Core.Path.{_≡_, refl, sym, ap}
+use mathlib.Core.Path.{_≡_, refl, sym}
 use mathlib.Core.Bool.{Bool, true, false}
 use mathlib.Core.List.{List}
 use Prim.Native.Nat.{ℕ, _+_, _≤_, _<_}
@@ -11,10 +11,10 @@ use borrow.Author.Tests.{lt-ltb, le-ltb}
 use Rattle.modular.proofs.Search.{least-hit, holds}
 use Rattle.code.specs.Parameters.{Parameters, balancedLength}
 use Rattle.code.specs.Codeword.{received}
-use Rattle.code.specs.Reading.{Kind, corrected, Reading, unreadable}
-use Rattle.code.specs.Operations.{Answer, refused, answered, success, decodeAnswer}
-use Rattle.decoding.specs.Syndromes.{nearSyndromes, index, movedFirst, movedSecond}
-use Rattle.decoding.specs.Decoded.{Sums, checkIndex, lack, balancingSymbol, inRange, offByLack, nearAfter, fits, places, firstFit, readBy, readFit, decodedBody, decodedCheck, agrees, decodedBalanced, decodedUnbalanced}
+use Rattle.code.specs.Reading.{Finding, correctionAt, corrected, Reading, unreadable}
+use Rattle.code.specs.Operations.{Answer, refused, answered, success}
+use Rattle.decoding.specs.Syndromes.{nearSyndromes, index, movedOf}
+use Rattle.decoding.specs.Decoded.{Sums, checkIndex, gain, balancingSymbol, inRange, offByLack, nearAfter, fits, places, firstFit, readBy, readFit, decodedBody, decodedCheck, agrees, decodedBalanced, decodedUnbalanced}
 use Rattle.decoding.proofs.Tests.{three-parts}
 use Rattle.syndromes.specs.declared.checks.Verdict as verdicts
 use Rattle.syndromes.specs.declared.checks.Verdict.the-variants as told
@@ -23,36 +23,26 @@ use Rattle.decoder.specs.declared.reader.Decoded.{Decoded}
 use Rattle.decoder.specs.declared.reader.Decoded.the-variants.{Clean, Corrected, Unreadable, Refused}
 use Rattle.decoder.specs.Sides.{isFirst}
 use Rattle.decoder.specs.Written.{Written}
-use Rattle.decoder.specs.Decode.{decodedReport, Numbered, Answers}
+use Rattle.decoder.specs.Decode.{decodedReport, Answers}
 use Rattle.decoder.specs.Steps.{Judged, wrongParity}
 
 -- What is answered.
 
-pub answers-refused : {a : Answer} {k : ℕ} (first second : List ℕ) → (1 ≤ k) × (k ≤ 3) → a ≡ refused k → Answers a (Refused k) first first second second
-answers-refused first second n e = record { answer = rw e; numbered = n; first-out = rw e; second-out = rw e }
+pub answers-refused : {a : Answer} {k : ℕ} (first second : List ℕ) → a ≡ refused k → Answers a (Refused k) first first second second
+answers-refused first second e = record { answer = rw e; first-out = rw e; second-out = rw e }
 
 pub answers-unreadable : {d : Reading} (first second : List ℕ) → d ≡ unreadable → Answers (answered d) Unreadable first first second second
-answers-unreadable first second e = record { answer = rw e; numbered = tt; first-out = rw e; second-out = rw e }
+answers-unreadable first second e = record { answer = rw e; first-out = rw e; second-out = rw e }
 
 pub answers-as : {a a′ : Answer} {r : Decoded} {first first′ second second′ : List ℕ} → a ≡ a′ → Answers a′ r first first′ second second′
     → Answers a r first first′ second second′
 answers-as e h = rw e h
 
--- the profile by a number that is known to be its
-pub as-number : {i k : ℕ} → i ≡ k → (u : List ℕ) (a b : ℕ) → decodeAnswer i u a b ≡ decodeAnswer k u a b
-as-number e u a b = ap (λ (j : ℕ). decodeAnswer j u a b) e
-
-numbered-read : (r : Decoded) {k : Kind} {i y : ℕ} → decodedReport r ≡ success k i y → Numbered r
-numbered-read Clean e = tt
-numbered-read (Corrected i y) e = tt
-numbered-read Unreadable e = tt
-numbered-read (Refused n) e = absurd (let z : _≡_ {A = ℕ} 0 1 = cc in omega arith)
-
-pub answers-read : (p : Parameters) (u : List ℕ) {d : Reading} {k : Kind} {i y : ℕ} {S S′ first first′ second second′ : List ℕ} {r : Decoded}
-    → d ≡ readBy p k i y u S S′ → Written p (received p true u) (received p false u) S S′ first′ second′ → decodedReport r ≡ success k i y
+pub answers-read : (p : Parameters) (u : List ℕ) {d : Reading} {k : Finding} {S S′ first first′ second second′ : List ℕ} {r : Decoded}
+    → d ≡ readBy p k u S S′ → Written p (received p true u) (received p false u) S S′ first′ second′ → decodedReport r ≡ success k
     → Answers (answered d) r first first′ second second′
 unfolding readBy
-answers-read p u {r = r} e w f = record { answer = rw e f; numbered = numbered-read r f; first-out = rw e (w .first-is); second-out = rw e (w .second-is) }
+answers-read p u e w f = record { answer = rw e f; first-out = rw e (w .first-is); second-out = rw e (w .second-is) }
 
 -- the messages of equal components
 pub written-of : {p : Parameters} {c c′ d d′ S S′ first second : List ℕ} → c ≡ c′ → d ≡ d′ → Written p c d S S′ first second → Written p c′ d′ S S′ first second
@@ -61,8 +51,8 @@ written-of e f w = rw (← e, ← f) w
 -- what a verdict is answered as, where the body has m symbols
 abbrev pub verdictAnswer : ℕ → Sums → verdicts.Verdict → Decoded
 verdictAnswer m s told.Clean = Clean
-verdictAnswer m s told.Alpha = Corrected (m + 1) (s .asked true)
-verdictAnswer m s told.Beta = Corrected (m + 2) (s .asked false)
+verdictAnswer m s told.Alpha = Corrected (record { position = m + 1; symbol = s .asked true })
+verdictAnswer m s told.Beta = Corrected (record { position = m + 2; symbol = s .asked false })
 verdictAnswer m s told.Unreadable = Unreadable
 
 module _ (p : Parameters) (s : Sums) where
@@ -82,7 +72,7 @@ module _ (p : Parameters) (s : Sums) where
 
   pub judged-near : (r : Decoded) → Judged p s r → (r ≡ Unreadable → ⊥) → T (nearSyndromes p (s .first) (s .second))
   judged-near Clean d n = d .0
-  judged-near (Corrected i y) d n = d .0
+  judged-near (Corrected c) d n = d .0
   judged-near Unreadable d n = absurd (n refl)
   judged-near (Refused k) d n = absurd d
 
@@ -94,7 +84,7 @@ module _ (p : Parameters) (s : Sums) where
       → Written p (received p true v) (received p false v) (s .first) (s .second) first′ second′
       → Answers (answered (decodedBalanced p s v)) r first first′ second second′
   judged-read Clean d n v w = answers-read p v (d .1 v) w refl
-  judged-read (Corrected i y) d n v w = answers-read p v (d .1 v) w refl
+  judged-read (Corrected c) d n v w = answers-read p v (d .1 v) w refl
   judged-read Unreadable d n v w = absurd (n refl)
   judged-read (Refused k) d n v w = absurd d
 
@@ -123,8 +113,8 @@ module _ (p : Parameters) (s : Sums) where
 
       module _ {k : ℕ} (e : firstFit p s b v ≡ k) (l : k < places p b) where
         pub body-found : decodedBody p s b v
-            ≡ readBy p corrected (index b k + 1) (balancingSymbol p s (getD v (index b k) 0)) (set v (index b k) (balancingSymbol p s (getD v (index b k) 0)))
-            (movedFirst p b k (lack p s) (s .first)) (movedSecond p b k (lack p s) (s .second))
+            ≡ readBy p (corrected (correctionAt (index b k) (getD v (index b k) 0) (balancingSymbol p s (getD v (index b k) 0)))) (set v (index b k) (balancingSymbol p s (getD v (index b k) 0)))
+            (movedOf p true b k (gain p s) (s .first)) (movedOf p false b k (gain p s) (s .second))
         unfolding decodedBody readFit
         body-found = let m : firstFit p s b v < places p b = omega arith in rw (lt-ltb (firstFit p s b v) (places p b) m, decodedBody, e)
 
@@ -138,6 +128,6 @@ module _ (p : Parameters) (s : Sums) where
         unfolding fits
         found-range = three-parts (inRange p s (getD v (index b k) 0)) (offByLack p s b) (nearAfter p s b k) hit .0
 
-        pub found-near : T (nearSyndromes p (movedFirst p b k (lack p s) (s .first)) (movedSecond p b k (lack p s) (s .second)))
+        pub found-near : T (nearSyndromes p (movedOf p true b k (gain p s) (s .first)) (movedOf p false b k (gain p s) (s .second)))
         unfolding fits nearAfter
         found-near = three-parts (inRange p s (getD v (index b k) 0)) (offByLack p s b) (nearAfter p s b k) hit .2

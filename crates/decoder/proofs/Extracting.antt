@@ -3,18 +3,19 @@
 use mathlib.Core.Path.{_≡_, refl, sym, ap, ap₂, _∙_}
 use mathlib.Core.Bool.{Bool, true, false, not}
 use mathlib.Core.List.{List, [], _∷_, _++_, append-assoc, append-nil}
-use Prim.Native.Nat.{ℕ, zero, suc, _+_, _-_, _*_, _^_, _≤_, _<_, zero-le, suc-le-suc}
+use Prim.Native.Nat.{ℕ, zero, suc, _+_, _*_, _≤_, _<_, zero-le, suc-le-suc}
 use native.Mathlib.Nat.{not-suc-le-zero, le-of-suc-le-suc}
 use native.Mathlib.Numerals.{add-one}
 use native.Mathlib.Omega.{arith}
 use lib.ListN.{length, getD, take, drop, set, drop-of-length-le, length-set}
 use lib.Seq.{drop-cons, set-at, length-take-le}
-use Rattle.code.specs.Parameters.{messageLength}
+use Rattle.code.specs.Parameters.{Parameters, messageLength}
 use Rattle.code.specs.Component.{isCheck, checkAt, keep, message}
 use Rattle.code.proofs.Merge.{cases, count, count-not, length-keep, count-pass, count-fail, shift}
 use Rattle.code.proofs.Reduced.{check-count}
 use Rattle.profiles.specs.declared.row.Row.{Row}
 use Rattle.profiles.specs.Row.{parameters, Valid}
+use Rattle.symbols.proofs.Powers.{Spans}
 use Rattle.decoder.specs.Written.{run}
 
 -- What is kept of one symbol more.
@@ -43,8 +44,8 @@ count-upto t (suc i) (suc n) l =
     cases (t 0) (λ b. rw (b, count) (suc-le-suc k)) (λ b. rw (b, count) k)
 
 -- the positions that hold the message
-abbrev pub held : ℕ → ℕ → ℕ → Bool
-held q r i = not (checkAt q r i)
+abbrev pub held : Parameters → ℕ → Bool
+held p i = not (checkAt p i)
 
 -- The symbols passed.
 
@@ -52,73 +53,71 @@ held q r i = not (checkAt q r i)
 pub record Extracting (q n : ℕ) (c out₀ out : List ℕ) (next i : ℕ) : Type 0 where
   pub within : i ≤ n
   pub size : length out ≡ length out₀
-  pub counted : (r : ℕ) → n < q ^ (r - 1) → next ≡ count (held q r) i
-  pub done : (r : ℕ) → n < q ^ (r - 1) → out ≡ keep (held q r) (take i c) ++ drop next out₀
+  pub counted : (p : Parameters) → Spans p q n → next ≡ count (held p) i
+  pub done : (p : Parameters) → Spans p q n → out ≡ keep (held p) (take i c) ++ drop next out₀
 
 pub extracting-none : (q n : ℕ) (c out : List ℕ) → Extracting q n c out out 0 0
-extracting-none q n c out = record { within = zero-le; size = refl; counted = λ r h. refl; done = λ r h. refl }
+extracting-none q n c out = record { within = zero-le; size = refl; counted = λ p h. refl; done = λ p h. refl }
 
 module _ {q n : ℕ} {c out₀ out : List ℕ} {next i : ℕ} (e : Extracting q n c out₀ out next i) (l : i < n) (k : n ≤ length c) where
   -- a check position
-  pub extracting-skip : ((r : ℕ) → i + 1 < q ^ (r - 1) → isCheck q r (i + 1) ≡ true) → Extracting q n c out₀ out next (i + 1)
+  pub extracting-skip : ((p : Parameters) → Spans p q (i + 1) → isCheck p (i + 1) ≡ true) → Extracting q n c out₀ out next (i + 1)
   extracting-skip h =
       record {
         within = omega arith;
         size = e .size;
-        counted = λ r m. rw add-one (e .counted r m ∙ sym (count-fail (held q r) i (fails r m)));
-        done = λ r m. rw add-one (rw (keep-fail (held q r) c i (omega arith) (fails r m)) (e .done r m));
+        counted = λ p m. rw add-one (e .counted p m ∙ sym (count-fail (held p) i (fails p m)));
+        done = λ p m. rw add-one (rw (keep-fail (held p) c i (omega arith) (fails p m)) (e .done p m));
       }
     where
-      fails : (r : ℕ) → n < q ^ (r - 1) → held q r i ≡ false
-      fails r m =
-          let g : i + 1 < q ^ (r - 1) = omega arith in
-          let s : isCheck q r (i + 1) ≡ true = h r g in
+      fails : (p : Parameters) → Spans p q n → held p i ≡ false
+      fails p m =
+          let s : isCheck p (i + 1) ≡ true = h p (record { levels = m .levels; room = omega (arith, m .room) }) in
           ap not (rw add-one at s)
 
   -- a position of the message
-  extracting-more : ((r : ℕ) → i + 1 < q ^ (r - 1) → isCheck q r (i + 1) ≡ false) → next < length out₀
+  extracting-more : ((p : Parameters) → Spans p q (i + 1) → isCheck p (i + 1) ≡ false) → next < length out₀
       → {x : ℕ} → x ≡ getD c i 0 → Extracting q n c out₀ (set out next x) (next + 1) (i + 1)
   extracting-more h b {x} f =
       record {
         within = omega arith;
         size = length-set out next x ∙ e .size;
-        counted = λ r m. rw (add-one, add-one) (ap suc (e .counted r m) ∙ sym (count-pass (held q r) i (passes r m)));
-        done = λ r m. rw (add-one, add-one) (stored r m);
+        counted = λ p m. rw (add-one, add-one) (ap suc (e .counted p m) ∙ sym (count-pass (held p) i (passes p m)));
+        done = λ p m. rw (add-one, add-one) (stored p m);
       }
     where
-      passes : (r : ℕ) → n < q ^ (r - 1) → held q r i ≡ true
-      passes r m =
-          let g : i + 1 < q ^ (r - 1) = omega arith in
-          let s : isCheck q r (i + 1) ≡ false = h r g in
+      passes : (p : Parameters) → Spans p q n → held p i ≡ true
+      passes p m =
+          let s : isCheck p (i + 1) ≡ false = h p (record { levels = m .levels; room = omega (arith, m .room) }) in
           ap not (rw add-one at s)
 
-      stored : (r : ℕ) → n < q ^ (r - 1) → set out next x ≡ keep (held q r) (take (suc i) c) ++ drop (suc next) out₀
-      stored r m =
-          let d : out ≡ keep (held q r) (take i c) ++ (getD out₀ next 0 ∷ drop (suc next) out₀) = e .done r m ∙ rw (drop-cons out₀ next 0 b) in
-          let s : length (keep (held q r) (take i c)) ≡ next =
-          length-keep (held q r) (take i c) ∙ ap (count (held q r)) (length-take-le i c (omega arith)) ∙ sym (e .counted r m) in
+      stored : (p : Parameters) → Spans p q n → set out next x ≡ keep (held p) (take (suc i) c) ++ drop (suc next) out₀
+      stored p m =
+          let d : out ≡ keep (held p) (take i c) ++ (getD out₀ next 0 ∷ drop (suc next) out₀) = e .done p m ∙ rw (drop-cons out₀ next 0 b) in
+          let s : length (keep (held p) (take i c)) ≡ next =
+          length-keep (held p) (take i c) ∙ ap (count (held p)) (length-take-le i c (omega arith)) ∙ sym (e .counted p m) in
           ap (λ (y : List ℕ). set y next x) d
-          ∙ set-at (keep (held q r) (take i c)) (getD out₀ next 0) (drop (suc next) out₀) x next s
-          ∙ sym (append-assoc (keep (held q r) (take i c)) (x ∷ []) (drop (suc next) out₀))
+          ∙ set-at (keep (held p) (take i c)) (getD out₀ next 0) (drop (suc next) out₀) x next s
+          ∙ sym (append-assoc (keep (held p) (take i c)) (x ∷ []) (drop (suc next) out₀))
           ∙ ap (λ (y : List ℕ). y ++ drop (suc next) out₀)
-          (ap (λ (y : ℕ). keep (held q r) (take i c) ++ (y ∷ [])) f ∙ sym (keep-pass (held q r) c i (omega arith) (passes r m)))
+          (ap (λ (y : ℕ). keep (held p) (take i c) ++ (y ∷ [])) f ∙ sym (keep-pass (held p) c i (omega arith) (passes p m)))
 
 -- A run of k symbols of the message, from index i on, that stand in x at 2 j + side.
 module _ {t : Row} (v : Valid t) {q : ℕ} (same : q ≡ t .q) {c out₀ out : List ℕ} {next i : ℕ} (e : Extracting q (t .n) c out₀ out next i)
     (o : length out₀ ≡ messageLength (parameters t)) (long : t .n ≤ length c) where
   -- a position is one that r - 1 digits can name
-  named : t .n < q ^ (t .r - 1)
-  named = rw same (v .sized .columns)
+  named : Spans (parameters t) q (t .n)
+  named = record { levels = sym same; room = rw same (v .sized .columns) }
 
-  total : count (held q (t .r)) (t .n) ≡ messageLength (parameters t)
-  total = rw same (omega (arith, count-not (checkAt (t .q) (t .r)) (t .n), check-count (parameters t) (v .sized)))
+  total : count (held (parameters t)) (t .n) ≡ messageLength (parameters t)
+  total = omega (arith, count-not (checkAt (parameters t)) (t .n), check-count (parameters t) (v .sized))
 
   -- there is room for what is counted
   room : {k j : ℕ} → (a : List ℕ) → Extracting q (t .n) c out₀ a k j → k ≤ length out₀
-  room {k} {j} a f = omega (arith, f .counted (t .r) named, count-upto (held q (t .r)) j (t .n) (f .within), total)
+  room {k} {j} a f = omega (arith, f .counted (parameters t) named, count-upto (held (parameters t)) j (t .n) (f .within), total)
 
   module _ (x : List ℕ) (side : ℕ) (symbol : (j : ℕ) → j < t .n → getD x (2 * j + side) 0 ≡ getD c j 0) where
-    pub extracting-run : (k : ℕ) → i + k ≤ t .n → ((j : ℕ) → i ≤ j → j < i + k → (r : ℕ) → j + 1 < q ^ (r - 1) → isCheck q r (j + 1) ≡ false)
+    pub extracting-run : (k : ℕ) → i + k ≤ t .n → ((j : ℕ) → i ≤ j → j < i + k → (p : Parameters) → Spans p q (j + 1) → isCheck p (j + 1) ≡ false)
         → Extracting q (t .n) c out₀ (run x side i k next out) (next + k) (i + k)
     extracting-run zero l h =
         let f : next ≡ next + 0 = omega arith in
@@ -134,22 +133,23 @@ module _ {t : Row} (v : Valid t) {q : ℕ} (same : q ≡ t .q) {c out₀ out : L
         rw (← y, ← z) f
       where
         -- one more fits, since it is counted among all
-        below : {a : List ℕ} {n′ j : ℕ} → Extracting q (t .n) c out₀ a n′ j → j < t .n → ((r : ℕ) → j + 1 < q ^ (r - 1) → isCheck q r (j + 1) ≡ false) → n′ < length out₀
+        below : {a : List ℕ} {n′ j : ℕ} → Extracting q (t .n) c out₀ a n′ j → j < t .n → ((p : Parameters) → Spans p q (j + 1) → isCheck p (j + 1) ≡ false) → n′ < length out₀
         below {a} {n′} {j} f m g =
-            let s : isCheck q (t .r) (j + 1) ≡ false = g (t .r) (omega (arith, named)) in
-            let u : checkAt q (t .r) j ≡ false = rw add-one at s in
-            let w : count (held q (t .r)) (suc j) ≡ suc (count (held q (t .r)) j) = count-pass (held q (t .r)) j (ap not u) in
-            omega (arith, f .counted (t .r) named, count-upto (held q (t .r)) (suc j) (t .n) m, total)
+            let s : isCheck (parameters t) (j + 1) ≡ false = g (parameters t) (record { levels = named .levels; room = omega (arith, named .room) }) in
+            let u : checkAt (parameters t) j ≡ false = rw add-one at s in
+            let w : count (held (parameters t)) (suc j) ≡ suc (count (held (parameters t)) j) = count-pass (held (parameters t)) j (ap not u) in
+            omega (arith, f .counted (parameters t) named, count-upto (held (parameters t)) (suc j) (t .n) m, total)
 
-    pub run-room : (k : ℕ) → i + k ≤ t .n → ((j : ℕ) → i ≤ j → j < i + k → (r : ℕ) → j + 1 < q ^ (r - 1) → isCheck q r (j + 1) ≡ false)
+    pub run-room : (k : ℕ) → i + k ≤ t .n → ((j : ℕ) → i ≤ j → j < i + k → (p : Parameters) → Spans p q (j + 1) → isCheck p (j + 1) ≡ false)
         → next + k ≤ length out₀
     run-room k l h = room _ (extracting-run k l h)
 
-  pub extracting-all : t .n ≤ i → out ≡ message (t .q) (t .r) (take (t .n) c)
+  pub extracting-all : t .n ≤ i → out ≡ message (parameters t) (take (t .n) c)
   unfolding message
   extracting-all l =
       let f : i ≡ t .n = omega (arith, e .within) in
-      let g : next ≡ messageLength (parameters t) = e .counted (t .r) named ∙ ap (count (held q (t .r))) f ∙ total in
+      let g : next ≡ messageLength (parameters t) = e .counted (parameters t) named ∙ ap (count (held (parameters t))) f ∙ total in
       let d : drop next out₀ ≡ [] = drop-of-length-le out₀ {i = next} (omega arith) in
-      rw (← same) (e .done (t .r) named ∙ ap₂ (λ (x y : List ℕ). x ++ y) (ap (λ (j : ℕ). keep (held q (t .r)) (take j c)) f) d
-      ∙ append-nil (keep (held q (t .r)) (take (t .n) c)))
+      e .done (parameters t) named
+      ∙ ap₂ (λ (x y : List ℕ). x ++ y) (ap (λ (j : ℕ). keep (held (parameters t)) (take j c)) f) d
+      ∙ append-nil (keep (held (parameters t)) (take (t .n) c))

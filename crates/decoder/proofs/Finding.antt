@@ -1,7 +1,7 @@
 -- What is known of the position that the search found, and of the body corrected there.
 -- Assumes nothing.
 use mathlib.Core.Path.{_≡_, sym, ap, _∙_}
-use mathlib.Core.Bool.{Bool}
+use mathlib.Core.Bool.{Bool, true, false}
 use mathlib.Core.List.{List}
 use Prim.Native.Nat.{ℕ, _+_, _*_, _≤_, _<_}
 use native.Mathlib.Omega.{arith}
@@ -11,11 +11,11 @@ use lib.Seq.{getD-take, take-set-lt}
 use Rattle.code.specs.Component.{symbolsBelow}
 use Rattle.code.specs.Balance.{difference}
 use Rattle.code.specs.Codeword.{alternate, body, received}
-use Rattle.code.specs.Reading.{corrected}
+use Rattle.code.specs.Reading.{correctionAt, corrected}
 use Rattle.code.proofs.Columns.{q-positive}
 use Rattle.code.proofs.Symbols.{symbol-below, symbols-set}
-use Rattle.decoding.specs.Syndromes.{nearSyndromes, movedFirst, movedSecond}
-use Rattle.decoding.specs.Decoded.{lack, inRange, readBy, decodedBody}
+use Rattle.decoding.specs.Syndromes.{nearSyndromes, movedOf}
+use Rattle.decoding.specs.Decoded.{gain, inRange, readBy, decodedBody}
 use Rattle.decoding.proofs.Changed.{index-within}
 use Rattle.profiles.specs.declared.row.Row.{Row}
 use Rattle.profiles.specs.Row.{parameters, Valid}
@@ -78,14 +78,14 @@ module _ {t : Row} {word : List ℕ} (w : Word t word) (s : Totals) {parity : �
   place-level c = rw c (sent-is (parameters t) (sumsOf t s) (getD word (2 * k + parity) 0) place-range .1)
 
   module _ (F G : List ℕ)
-      (a : rowsOf t F ≡ movedFirst (parameters t) (isFirst parity) k (lack (parameters t) (sumsOf t s)) (rowsOf t (rows (s .first))))
-      (b : rowsOf t G ≡ movedSecond (parameters t) (isFirst parity) k (lack (parameters t) (sumsOf t s)) (rowsOf t (rows (s .second)))) where
+      (a : rowsOf t F ≡ movedOf (parameters t) true (isFirst parity) k (gain (parameters t) (sumsOf t s)) (rowsOf t (rows (s .first))))
+      (b : rowsOf t G ≡ movedOf (parameters t) false (isFirst parity) k (gain (parameters t) (sumsOf t s)) (rowsOf t (rows (s .second)))) where
     pub place-near : T (nearSyndromes (parameters t) (rowsOf t F) (rowsOf t G))
     place-near = rw (a, b) (found-near (parameters t) (sumsOf t s) word (isFirst parity) (found .0) (found .1))
 
     pub place-read : {y : ℕ} → y ≡ symbolSent (parameters t) (sumsOf t s) (getD word (2 * k + parity) 0)
         → decodedBody (parameters t) (sumsOf t s) (isFirst parity) word
-        ≡ readBy (parameters t) corrected (2 * k + parity + 1) y (set word (2 * k + parity) y) (rowsOf t F) (rowsOf t G)
+        ≡ readBy (parameters t) (corrected (correctionAt (2 * k + parity) (getD word (2 * k + parity) 0) y)) (set word (2 * k + parity) y) (rowsOf t F) (rowsOf t G)
     place-read {y} c =
         let d = c ∙ sent-is (parameters t) (sumsOf t s) (getD word (2 * k + parity) 0) place-range .0 in
         rw (a, b, d, ← index-is parity k h) (body-found (parameters t) (sumsOf t s) word (isFirst parity) (found .0) (found .1))

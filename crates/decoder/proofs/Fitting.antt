@@ -5,7 +5,7 @@ use mathlib.Core.Logic.{⊎-elim}
 use mathlib.Core.Bool.{Bool, true, false, not}
 use mathlib.Core.List.{List}
 use Prim.Native.Nat.{ℕ, zero, suc, _+_, _-_, _*_, _%_, _≤_, _<_}
-use native.Mathlib.Nat.{zero-add, add-zero}
+use native.Mathlib.Nat.{zero-add, add-zero, le-refl}
 use native.Mathlib.Numerals.{add-one}
 use native.Mathlib.Omega.{arith}
 use lib.Dec.{eqb}
@@ -16,8 +16,9 @@ use Rattle.modular.proofs.Search.{least-is, least-le, least-hit, le-or-lt, hold
 use Rattle.modular.proofs.Residue.{of-eq, _then_, reduce, minus-is}
 use Rattle.code.specs.Parameters.{Parameters}
 use Rattle.code.proofs.Columns.{q-positive}
-use Rattle.decoding.specs.Syndromes.{nearSyndromes, index, moved, movedFirst, movedSecond}
-use Rattle.decoding.specs.Decoded.{Sums, lack, inRange, offByLack, nearAfter, fits, places, firstFit}
+use Rattle.code.proofs.Merge.{cases}
+use Rattle.decoding.specs.Syndromes.{nearSyndromes, index, moved, movedOf}
+use Rattle.decoding.specs.Decoded.{Sums, gain, inRange, offByLack, nearAfter, fits, places, firstFit}
 use Rattle.decoding.proofs.Tests.{false-test}
 use Rattle.profiles.specs.declared.row.Row.{Row}
 use Rattle.decoder.specs.declared.totals.Totals.{Totals}
@@ -79,14 +80,14 @@ module _ {t : Row} (v : Valid t) {s : Totals} (w : Totalled t s) (S : List ℕ) 
       moved-congruent (parameters t) a S (of-eq g then reduce (t .q) (0 + (t .q - s .lack)) then of-eq (zero-add (t .q - s .lack)))
 
   pub first-moved : {parity : ℕ} {x y : List ℕ} → Moves t s parity x y
-      → moved (parameters t) (getD x 1 0) (k + 1) S ≡ movedFirst (parameters t) (isFirst parity) k (lack (parameters t) (sumsOf t s)) S
-  unfolding movedFirst
+      → moved (parameters t) (getD x 1 0) (k + 1) S ≡ movedOf (parameters t) true (isFirst parity) k (gain (parameters t) (sumsOf t s)) S
+  unfolding movedOf
   first-moved {parity = zero} m = rw (← w .lacks, add-one) (less (suc k) (m .first-by))
   first-moved {parity = suc parity} m = rw (← w .lacks, add-one, m .first-by)
 
   pub second-moved : {parity : ℕ} {x y : List ℕ} → parity ≤ 1 → Moves t s parity x y
-      → moved (parameters t) (getD y 1 0) (k + parity) S ≡ movedSecond (parameters t) (isFirst parity) k (lack (parameters t) (sumsOf t s)) S
-  unfolding movedSecond
+      → moved (parameters t) (getD y 1 0) (k + parity) S ≡ movedOf (parameters t) false (isFirst parity) k (gain (parameters t) (sumsOf t s)) S
+  unfolding movedOf
   second-moved {parity = zero} h m = rw (← w .lacks, add-zero, m .second-by)
   second-moved {parity = suc zero} h m = rw (← w .lacks, add-one) (less (suc k) (m .second-by))
   second-moved {parity = suc (suc j)} h m = absurd (omega arith)
@@ -101,12 +102,16 @@ module _ (p : Parameters) (S : Sums) (b : Bool) (k x : ℕ) where
   unfolding fits
   fits-check e f = rw (e, f)
 
+  fits-off : offByLack p S b ≡ false → fits p S b k x ≡ false
+  unfolding fits
+  fits-off e = cases (inRange p S x) (λ f. rw (f, e)) (λ f. rw f)
+
   pub fits-near : inRange p S x ≡ true → offByLack p S b ≡ true → {c : Bool} → c ≡ nearAfter p S b k → c ≡ fits p S b k x
   unfolding fits
   fits-near e f g = rw (e, f) g
 
 pub near-after : (p : Parameters) (S : Sums) (b : Bool) (k : ℕ) {c : Bool} {F G : List ℕ} → c ≡ nearSyndromes p F G
-    → F ≡ movedFirst p b k (lack p S) (S .first) → G ≡ movedSecond p b k (lack p S) (S .second) → c ≡ nearAfter p S b k
+    → F ≡ movedOf p true b k (gain p S) (S .first) → G ≡ movedOf p false b k (gain p S) (S .second) → c ≡ nearAfter p S b k
 unfolding nearAfter
 near-after p S b k g h i = rw (← h, ← i) g
 
@@ -141,3 +146,7 @@ module _ (p : Parameters) (S : Sums) (word : List ℕ) (parity : ℕ) (h : parit
   none-found k l f =
       least-none (λ k. fits p S (isFirst parity) k (getD word (index (isFirst parity) k) 0)) (places p (isFirst parity))
       (λ j i. same j ∙ f j (omega (arith, places-are p parity h)))
+
+  -- nothing fits where the check symbol is off by something else than the weight
+  pub none-off : offByLack p S (isFirst parity) ≡ false → firstFit p S (isFirst parity) word ≡ places p (isFirst parity)
+  none-off e = none-found (p .n + 1 - parity) (le-refl _) (λ j i. fits-off p S (isFirst parity) j (getD word (2 * j + parity) 0) e)

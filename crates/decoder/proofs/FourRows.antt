@@ -18,21 +18,20 @@ use Rattle.profiles.specs.declared.row.Row.{Row}
 use Rattle.profiles.specs.Row.{parameters, Valid}
 use Rattle.symbols.specs.declared.syndromes.Syndrome.{Syndrome}
 use Rattle.symbols.specs.Columns.{Columns}
-use Rattle.symbols.specs.Syndromes.{rows, rowSums}
+use Rattle.symbols.specs.Syndromes.{fourRows, rows, rowSums}
 use Rattle.symbols.proofs.Rows.{sums-below, sums-unused}
-use Rattle.syndromes.specs.FourRows.{fourRows, zeroRows}
+use Rattle.syndromes.specs.FourRows.{zeroRows}
 use Rattle.syndromes.proofs.Rows.{zero-by, position-is}
 use Rattle.decoder.specs.Rows.{FourRows, rowIndex, rowsOf}
 
 -- the row sums of a component
-pub four-rows : (t : Row) → Valid t → {columns : List (List ℕ)} → Columns (t .q) columns → (c : List ℕ) → length c ≤ t .n
+pub four-rows : (t : Row) → Valid t → {columns : List (List ℕ)} → Columns (t .q) (t .n) columns → (c : List ℕ) → length c ≤ t .n
     → FourRows t (rowSums (t .q) columns c)
 four-rows t v right c l =
     let some : 1 ≤ t .q = q-positive (parameters t) (v .sized) in
-    let room : length c ≤ 48 = omega (arith, v .length) in
     record {
-      below = sums-below some right c room;
-      unused = sums-unused some right c room (t .r - 1) (omega (arith, v .sized .columns));
+      below = sums-below some right c l;
+      unused = sums-unused some right c l (t .r - 1) (omega (arith, v .sized .columns));
     }
 
 module _ (t : Row) (v : Valid t) where

@@ -3,18 +3,19 @@
 use mathlib.Core.Path.{_≡_, refl, sym, ap, _∙_}
 use mathlib.Core.Bool.{Bool, true, false}
 use mathlib.Core.List.{List}
-use Prim.Native.Nat.{ℕ, _+_, _-_, _*_, _^_, _≤_, _<_}
+use Prim.Native.Nat.{ℕ, _+_, _-_, _*_, _≤_, _<_}
 use native.Mathlib.Nat.{one-mul, mul-le-mul, mul-le-mul-left}
 use native.Mathlib.Omega.{arith}
 use lib.ListN.{length, getD, take, drop, length-drop}
 use lib.Seq.{length-take-le, take-all}
+use Rattle.code.specs.Parameters.{Parameters}
 use Rattle.code.specs.Component.{isCheck, message}
 use Rattle.code.proofs.Weights.{length-alternate, double, double-is}
 use Rattle.profiles.specs.declared.row.Row.{Row}
-use Rattle.profiles.specs.Row.{Valid}
+use Rattle.profiles.specs.Row.{parameters, Valid}
 use Rattle.symbols.specs.Syndromes.{part}
 use Rattle.symbols.proofs.Parts.{part-first, part-second, part-length}
-use Rattle.symbols.proofs.Powers.{Ahead, ahead-first, ahead-power, check-two, check-power, check-neither}
+use Rattle.symbols.proofs.Powers.{Spans, Ahead, ahead-first, ahead-power, check-two, check-power, check-neither}
 use Rattle.decoder.specs.Written.{run, Outputs, Messages}
 use Rattle.decoder.proofs.Extracting.{Extracting, extracting-none, extracting-skip, extracting-run, run-room, extracting-all}
 
@@ -80,7 +81,7 @@ module _ {t : Row} (v : Valid t) {q : ℕ} (same : q ≡ t .q) (x : List ℕ) (s
 
     -- a run that ends before the power
     module _ (k : ℕ) (l : i + k ≤ t .n) (h : i + k < power) where
-      held : (j : ℕ) → i ≤ j → j < i + k → (r : ℕ) → j + 1 < q ^ (r - 1) → isCheck q r (j + 1) ≡ false
+      held : (j : ℕ) → i ≤ j → j < i + k → (p′ : Parameters) → Spans p′ q (j + 1) → isCheck p′ (j + 1) ≡ false
       held j a b =
           let z : i + 1 ≤ j + 1 = omega arith in
           let y : j + 1 ≤ power = omega arith in
@@ -154,8 +155,8 @@ module _ {t : Row} (v : Valid t) {q : ℕ} (same : q ≡ t .q) (x : List ℕ) (s
         let u : i + k < power = omega arith in
         let z : t .n ≤ i + k = omega arith in
         record {
-          first-is = e ∙ extracting-all v same (run-first k l u) (o .first-long) (part-long true) z ∙ ap (message (t .q) (t .r)) (whole true);
-          second-is = f ∙ extracting-all v same (run-second k l u) (o .second-long) (part-long false) z ∙ ap (message (t .q) (t .r)) (whole false);
+          first-is = e ∙ extracting-all v same (run-first k l u) (o .first-long) (part-long true) z ∙ ap (message (parameters t)) (whole true);
+          second-is = f ∙ extracting-all v same (run-second k l u) (o .second-long) (part-long false) z ∙ ap (message (parameters t)) (whole false);
         }
       where
         whole : (b : Bool) → take (t .n) (part b (t .n) x) ≡ part b (t .n) x

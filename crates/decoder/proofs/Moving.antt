@@ -25,7 +25,7 @@ use Rattle.symbols.specs.Columns.{Columns}
 use Rattle.syndromes.specs.FourRows.{zeroRows}
 use Rattle.syndromes.proofs.Rows.{zero-not}
 use Rattle.decoder.specs.Rows.{FourRows, rowIndex, rowsOf, movedRows}
-use Rattle.symbols.proofs.DigitRows.{digit-below}
+use Rattle.symbols.proofs.Counting.{digit-below}
 use Rattle.symbols.proofs.Digits.{digits-same, digits-high}
 use Rattle.decoder.proofs.FourRows.{row-cases, rows-digit, rows-last, zero-same}
 
@@ -46,10 +46,10 @@ entry-none : (p : Parameters) (j a : ℕ) → (a ≡ 0) ⊎ (p .n < a) → colum
 entry-none p j zero h = refl
 entry-none p j (suc a) (inl e) = absurd (omega arith)
 entry-none p j (suc a) (inr h) =
-    ap (λ (b : Bool). elim b [ true ↦ checkRow (p .q) (p .r) j a | false ↦ 0 ]) (le-ltb a (p .n) (omega arith))
+    ap (λ (b : Bool). elim b [ true ↦ checkRow p j a | false ↦ 0 ]) (le-ltb a (p .n) (omega arith))
 
-entry-some : (p : Parameters) (j i : ℕ) → i < p .n → columnEntry p j (suc i) ≡ checkRow (p .q) (p .r) j i
-entry-some p j i h = ap (λ (b : Bool). elim b [ true ↦ checkRow (p .q) (p .r) j i | false ↦ 0 ]) (lt-ltb i (p .n) h)
+entry-some : (p : Parameters) (j i : ℕ) → i < p .n → columnEntry p j (suc i) ≡ checkRow p j i
+entry-some p j i h = ap (λ (b : Bool). elim b [ true ↦ checkRow p j i | false ↦ 0 ]) (lt-ltb i (p .n) h)
 
 module _ (t : Row) (v : Valid t) where
   -- the r rows are those of g
@@ -65,8 +65,8 @@ module _ (t : Row) (v : Valid t) where
       at j (inr h) = rows-digit t v s j h ∙ d j h
 
   -- a digit of a column of the matrix
-  pub column-level : {columns : List (List ℕ)} → Columns (t .q) columns → (a : ℕ) → a ≢ 0 → a ≤ t .n → (j : ℕ) → getD (getD columns (a - 1) []) j 0 < t .q
-  column-level k a z l j = digit-below (q-positive (parameters t) (v .sized)) k (a - 1) j (omega (arith, v .length))
+  pub column-level : {columns : List (List ℕ)} → Columns (t .q) (t .n) columns → (a : ℕ) → a ≢ 0 → a ≤ t .n → (j : ℕ) → getD (getD columns (a - 1) []) j 0 < t .q
+  column-level k a z l j = digit-below (q-positive (parameters t) (v .sized)) k (a - 1) j (omega arith)
 
   module _ (s : List ℕ) (w : FourRows t s) (f : ℕ) where
     pub moved-none : (a : ℕ) → (a ≡ 0) ⊎ (t .n < a) → rowsOf t s ≡ moved (parameters t) f a (rowsOf t s)
@@ -83,13 +83,13 @@ module _ (t : Row) (v : Valid t) where
     pub zero-none : (a : ℕ) → (a ≡ 0) ⊎ (t .n < a) → zeroRows s ≡ zeroSyndrome (parameters t) (moved (parameters t) f a (rowsOf t s))
     zero-none a h = zero-same t v s w ∙ ap (zeroSyndrome (parameters t)) (moved-none a h)
 
-    module _ {columns : List (List ℕ)} (k : Columns (t .q) columns) (i : ℕ) (h : i < t .n) (d : List ℕ) where
+    module _ {columns : List (List ℕ)} (k : Columns (t .q) (t .n) columns) (i : ℕ) (h : i < t .n) (d : List ℕ) where
       digit : ℕ → ℕ
       digit j = getD (getD columns i []) j 0
 
       digit-is : (j : ℕ) → digit j ≡ getD (digits (t .q) 3 (suc i)) j 0
       unfolding digit
-      digit-is j = ap (λ (l : List ℕ). getD l j 0) (k .at i (omega (arith, v .length)))
+      digit-is j = ap (λ (l : List ℕ). getD l j 0) (k .at i h)
 
       moved-some : ((j : ℕ) → j < 3 → getD d j 0 ≡ (getD s j 0 + f * getD (getD columns i []) j 0) % t .q)
           → getD d 3 0 ≡ (getD s 3 0 + f * 1) % t .q
@@ -115,13 +115,13 @@ module _ (t : Row) (v : Valid t) where
           digits-are j m =
               let c : digit j ≡ columnEntry (parameters t) j (suc i) =
               digit-is j ∙ digits-same (t .q) 3 (t .r - 1) (suc i) j (omega (arith, v .checks)) m
-              ∙ sym (digit-row (t .q) (t .r) j i m) ∙ sym (entry-some (parameters t) j i h) in
+              ∙ sym (digit-row (parameters t) j i m) ∙ sym (entry-some (parameters t) j i h) in
               e j (omega (arith, v .checks)) ∙ rw (← rows-digit t v s j m, c)
 
           last-is : getD d 3 0 ≡ rows (t .r - 1)
-          last-is = l ∙ rw (rows-last t v s, entry-some (parameters t) (t .r - 1) i h, last-row (t .q) (t .r) i)
+          last-is = l ∙ rw (rows-last t v s, entry-some (parameters t) (t .r - 1) i h, last-row (parameters t) i)
 
-    module _ {columns : List (List ℕ)} (k : Columns (t .q) columns) (a : ℕ) (z : a ≢ 0) (l : a ≤ t .n) where
+    module _ {columns : List (List ℕ)} (k : Columns (t .q) (t .n) columns) (a : ℕ) (z : a ≢ 0) (l : a ≤ t .n) where
       -- the four rows so moved
       pub moved-column : {d : List ℕ} → d ≡ movedRows (t .q) f (getD columns (a - 1) []) s
           → FourRows t d × (rowsOf t d ≡ moved (parameters t) f a (rowsOf t s))

@@ -24,7 +24,7 @@ use Rattle.decoding.proofs.Near.{named}
 use Rattle.decoding.proofs.Tests.{false-test}
 use Rattle.profiles.specs.declared.row.Row.{Row}
 use Rattle.profiles.specs.Row.{parameters, Valid}
-use Rattle.symbols.specs.Syndromes.{part}
+use Rattle.symbols.specs.Syndromes.{fourRows, part}
 use Rattle.symbols.proofs.Digits.{digits-same}
 use Rattle.symbols.proofs.Parts.{part-first, part-second}
 use Rattle.decoder.specs.Rows.{rowsOf}
@@ -33,19 +33,19 @@ use Rattle.decoder.specs.Received.{Body}
 use Rattle.decoder.specs.Written.{Restored, Messages, Written}
 use Rattle.decoder.proofs.Moving.{rows-are}
 
-module _ (t : Row) (v : Valid t) (c s : List ℕ) (n : length c ≤ t .n) (e : (j : ℕ) → j < 4 → getD s j 0 ≡ syndrome (t .q) 4 c j) where
+module _ (t : Row) (v : Valid t) (c s : List ℕ) (n : length c ≤ t .n) (e : (j : ℕ) → j < 4 → getD s j 0 ≡ syndrome (fourRows (t .q) (t .n)) c j) where
   -- a row among four that agrees with one among r
-  agree : (j k : ℕ) → j < 4 → ((i : ℕ) → i < t .n → checkRow (t .q) 4 j i ≡ checkRow (t .q) (t .r) k i) → getD s j 0 ≡ syndrome (t .q) (t .r) c k
+  agree : (j k : ℕ) → j < 4 → ((i : ℕ) → i < t .n → checkRow (fourRows (t .q) (t .n)) j i ≡ checkRow (parameters t) k i) → getD s j 0 ≡ syndrome (parameters t) c k
   unfolding syndrome
-  agree j k h f = e j h ∙ ap (λ (x : ℕ). x % t .q) (dot-same (checkRow (t .q) 4 j) (checkRow (t .q) (t .r) k) c (λ i l. f i (omega arith)))
+  agree j k h f = e j h ∙ ap (λ (x : ℕ). x % t .q) (dot-same (checkRow (fourRows (t .q) (t .n)) j) (checkRow (parameters t) k) c (λ i l. f i (omega arith)))
 
   -- the r rows are the syndrome
   pub four-are : rowsOf t s ≡ syndromes (parameters t) c
   four-are =
-      rows-are t v s (syndrome (t .q) (t .r) c)
-      (λ j h. agree j j (omega (arith, v .checks)) (λ i l. digit-row (t .q) 4 j i (omega (arith, v .checks))
-      ∙ digits-same (t .q) 3 (t .r - 1) (suc i) j (omega (arith, v .checks)) h ∙ sym (digit-row (t .q) (t .r) j i h)))
-      (agree 3 (t .r - 1) (omega arith) (λ i l. last-row (t .q) 4 i ∙ sym (last-row (t .q) (t .r) i)))
+      rows-are t v s (syndrome (parameters t) c)
+      (λ j h. agree j j (omega (arith, v .checks)) (λ i l. digit-row (fourRows (t .q) (t .n)) j i (omega (arith, v .checks))
+      ∙ digits-same (t .q) 3 (t .r - 1) (suc i) j (omega (arith, v .checks)) h ∙ sym (digit-row (parameters t) j i h)))
+      (agree 3 (t .r - 1) (omega arith) (λ i l. last-row (fourRows (t .q) (t .n)) i ∙ sym (last-row (parameters t) i)))
 
 -- One symbol of a component set in the array of both.
 module _ (n : ℕ) (x : List ℕ) (i y : ℕ) (h : i < n) where
@@ -134,6 +134,6 @@ pub written-by : {t : Row} {S S′ x y z first second : List ℕ} → Restored t
     → Written (parameters t) (part true (t .n) x) (part false (t .n) x) S S′ first second
 written-by {t} {S} {S′} a b m =
     record {
-      first-is = m .first-is ∙ ap (message (t .q) (t .r)) (b .other ∙ a .this);
-      second-is = m .second-is ∙ ap (message (t .q) (t .r)) (b .this ∙ ap (restoredBy (parameters t) S′) (a .other));
+      first-is = m .first-is ∙ ap (message (parameters t)) (b .other ∙ a .this);
+      second-is = m .second-is ∙ ap (message (parameters t)) (b .this ∙ ap (restoredBy (parameters t) S′) (a .other));
     }

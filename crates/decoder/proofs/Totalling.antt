@@ -88,15 +88,14 @@ module _ {t : Row} {word w x : List ℕ} (a : Apart t word w x) where
     beta-is h = h ∙ residue-is even q₁ ∙ ap (λ (x : ℕ). x % t .q) (f ∙ ap (λ (l : List ℕ). weight (alternate false l)) copy-is)
 
   -- the syndrome of a component, as four rows
-  pub rows-of-part : {columns : List (List ℕ)} → Columns (t .q) columns → (b : Bool) {s : List ℕ} → s ≡ rowSums (t .q) columns (part b (min (t .n) 48) x)
+  pub rows-of-part : {columns : List (List ℕ)} → Columns (t .q) (t .n) columns → (b : Bool) {s : List ℕ} → s ≡ rowSums (t .q) columns (part b (min (t .n) 48) x)
       → FourRows t s × (rowsOf t s ≡ syndromes (parameters t) (received (parameters t) b word))
   rows-of-part {columns} k b {s} e =
       let c : List ℕ = part b (t .n) x in
       let f : s ≡ rowSums (t .q) columns c = e ∙ ap (λ (n : ℕ). rowSums (t .q) columns (part b n x)) (min-eq-left (a .is .valid .length)) in
-      let n : length c ≤ t .n = part-length b (t .n) x in
-      let h : length c ≤ 48 = omega (arith, a .is .valid .length) in (
+      let n : length c ≤ t .n = part-length b (t .n) x in (
         rw f (four-rows t (a .is .valid) k c n),
-        rw f (four-are t (a .is .valid) c (rowSums (t .q) columns c) n (sums-are q₁ k c h)) ∙ ap (syndromes (parameters t)) (a .parts b),
+        rw f (four-are t (a .is .valid) c (rowSums (t .q) columns c) n (sums-are q₁ k c n)) ∙ ap (syndromes (parameters t)) (a .parts b),
       )
 
   -- the sums, as the code has them

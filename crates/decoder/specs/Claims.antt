@@ -2,20 +2,19 @@
 -- Assumes nothing.
 use mathlib.Core.Path.{_≡_}
 use mathlib.Core.Logic.{_≢_, _↔_}
-use mathlib.Core.Bool.{true, false}
+use mathlib.Core.Bool.{Bool, true, false, _&&_}
 use mathlib.Core.List.{List}
 use Prim.Native.Nat.{ℕ, _+_, _≤_, _<_}
-use lib.Dec.{T}
+use lib.Dec.{T, eqb}
 use lib.ListN.{length, getD, set}
 use Rattle.code.specs.Parameters.{messageLength, codewordLength}
-use Rattle.code.specs.Component.{isWord}
+use Rattle.code.specs.Component.{symbolsBelow, isWord}
 use Rattle.code.specs.Codeword.{codeword, carried}
-use Rattle.code.specs.Reading.{distance}
+use Rattle.code.specs.Reading.{distance, clean, corrected}
 use Rattle.code.specs.Profiles.{isProfile, profile}
-use Rattle.code.specs.Operations.{decodeAnswer}
+use Rattle.code.specs.Operations.{success, reportNumber}
 use Rattle.decoder.specs.declared.reader.Decoded.{Decoded}
-use Rattle.decoder.specs.declared.reader.Decoded.the-variants.{Clean, Corrected, Unreadable}
-use Rattle.decoder.specs.Decode.{Answers}
+use Rattle.decoder.specs.Decode.{decodedReport, DecodeAllows}
 
 -- an answer r to the word v in profile i, with outputs of the right lengths, that decode's contract allows
 pub record Allowed (i : ℕ) (v : List ℕ) (r : Decoded) (first second : List ℕ) : Type 0 where
@@ -24,7 +23,11 @@ pub record Allowed (i : ℕ) (v : List ℕ) (r : Decoded) (first second : List �
   pub before-second : List ℕ
   pub first-long : length before-first ≡ messageLength (profile i)
   pub second-long : length before-second ≡ messageLength (profile i)
-  pub allowed : Answers (decodeAnswer i v (length before-first) (length before-second)) r before-first first before-second second
+  pub allowed : DecodeAllows i v r before-first first before-second second
+
+-- 01's number of an answer, 0 where the word is read
+abbrev pub decodedNumber : Decoded → ℕ
+decodedNumber r = reportNumber (decodedReport r)
 
 -- the outputs are the pair that u carries
 pub record Carried (i : ℕ) (u first second : List ℕ) : Type 0 where
@@ -35,17 +38,52 @@ pub record Carried (i : ℕ) (u first second : List ℕ) : Type 0 where
 pub record Corrects (i : ℕ) : Type 0 where
   -- a codeword as sent is read as its pair
   pub unchanged : (u : List ℕ) → T (codeword (profile i) u) → (r : Decoded) (first second : List ℕ) → Allowed i u r first second
-      → (r ≡ Clean) × Carried i u first second
+      → (decodedReport r ≡ success clean) × Carried i u first second
   -- and so it is with any one symbol changed, with the position and the symbol sent
   pub changed : (u : List ℕ) → T (codeword (profile i) u) → (k y : ℕ) → k < codewordLength (profile i) → y < profile i .q → y ≢ getD u k 0
       → (r : Decoded) (first second : List ℕ) → Allowed i (set u k y) r first second
-      → (r ≡ Corrected (k + 1) (getD u k 0)) × Carried i u first second
+      → (decodedReport r ≡ success (corrected (record { position = k + 1; symbol = getD u k 0 }))) × Carried i u first second
   -- every other codeword differs from what arrived in at least two positions
   pub others : (u v : List ℕ) → T (codeword (profile i) u) → T (codeword (profile i) v) → v ≢ u → (k y : ℕ) → k < codewordLength (profile i)
       → y < profile i .q → 2 ≤ distance v (set u k y)
-  -- a word that numbers 1 to 3 let through is unreadable exactly when every codeword does
-  pub unreadable : (v : List ℕ) → T (isWord (profile i .q) (codewordLength (profile i)) v) → (r : Decoded) (first second : List ℕ)
-      → Allowed i v r first second → (r ≡ Unreadable) ↔ ((u : List ℕ) → T (codeword (profile i) u) → 2 ≤ distance u v)
+  -- a word that numbers 1 to 3 let through is refused by 4 exactly when every codeword does
+  pub refused : (v : List ℕ) → T (isWord (profile i .q) (codewordLength (profile i)) v) → (r : Decoded) (first second : List ℕ)
+      → Allowed i v r first second → (decodedNumber r ≡ 4) ↔ ((u : List ℕ) → T (codeword (profile i) u) → 2 ≤ distance u v)
 
 abbrev pub DecodeCorrects : Type 0
 DecodeCorrects = (i : ℕ) → T (isProfile i) → Corrects i
+
+-- a call that numbers 1 to 3 let through
+pub record LetThrough (i : ℕ) (v : List ℕ) (k l : ℕ) : Type 0 where
+  pub in-table : T (isProfile i)
+  pub word : T (isWord (profile i .q) (codewordLength (profile i)) v)
+  pub first-long : k ≡ messageLength (profile i)
+  pub second-long : l ≡ messageLength (profile i)
+
+-- 4 is given for nothing else
+abbrev pub FourOnly : Type 0
+FourOnly =
+    (i : ℕ) (v : List ℕ) (r : Decoded) (first first′ second second′ : List ℕ) → DecodeAllows i v r first first′ second second′
+    → decodedNumber r ≡ 4 → LetThrough i v (length first) (length second)
+
+-- the lengths of the word and of the outputs are the profile's
+abbrev pub lengthsFit : ℕ → List ℕ → ℕ → ℕ → Bool
+lengthsFit i v k l =
+    eqb (length v) (codewordLength (profile i)) && eqb k (messageLength (profile i)) && eqb l (messageLength (profile i))
+
+-- the other numbers, by the first that applies; and no refusal changes an output
+pub record Refuses (i : ℕ) (v : List ℕ) (r : Decoded) (first first′ second second′ : List ℕ) : Type 0 where
+  pub by-1 : isProfile i ≡ false → decodedNumber r ≡ 1
+  pub by-2 : T (isProfile i) → lengthsFit i v (length first) (length second) ≡ false → decodedNumber r ≡ 2
+  pub by-3 : T (isProfile i) → T (lengthsFit i v (length first) (length second)) → symbolsBelow (profile i .q) v ≡ false → decodedNumber r ≡ 3
+  pub keeps : decodedNumber r ≢ 0 → (first′ ≡ first) × (second′ ≡ second)
+
+abbrev pub DecodeRefuses : Type 0
+DecodeRefuses =
+    (i : ℕ) (v : List ℕ) (r : Decoded) (first first′ second second′ : List ℕ) → DecodeAllows i v r first first′ second second′
+    → Refuses i v r first first′ second second′
+
+pub record Claims : Type 0 where
+  pub decode-corrects : DecodeCorrects
+  pub four-only : FourOnly
+  pub decode-refuses : DecodeRefuses

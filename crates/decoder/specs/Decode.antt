@@ -3,29 +3,31 @@
 use mathlib.Core.Path.{_≡_}
 use mathlib.Core.Bool.{true, false}
 use mathlib.Core.List.{List}
-use Prim.Native.Nat.{ℕ, _≤_}
-use Rattle.code.specs.Reading.{clean, corrected}
-use Rattle.code.specs.Operations.{Answer, Report, refusal, success, report, decodeOutput}
+use Prim.Native.Nat.{ℕ}
+use lib.ListN.{length}
+use Rattle.code.specs.Reading.{Correction, clean, corrected}
+use Rattle.code.specs.Operations.{Answer, Report, refusal, failure, success, decodeAnswer, report, decodeOutput}
+use Rattle.decoder.specs.declared.reader.Correction as declared
 use Rattle.decoder.specs.declared.reader.Decoded.{Decoded}
 use Rattle.decoder.specs.declared.reader.Decoded.the-variants.{Clean, Corrected, Unreadable, Refused}
 
--- 01: kind, place and symbol, or the number of the refusal
-abbrev pub decodedReport : Decoded → Report
-decodedReport Clean = success clean 0 0
-decodedReport (Corrected i y) = success corrected i y
-decodedReport Unreadable = refusal 4
-decodedReport (Refused k) = refusal k
+-- the code's struct, as the model has it
+abbrev pub correctionOf : declared.Correction → Correction
+correctionOf c = record { position = c .position; symbol = c .symbol }
 
--- a refusal's number is 1 to 3; 4 has a case of its own
-abbrev pub Numbered : Decoded → Type 0
-Numbered Clean = Unit {0}
-Numbered (Corrected i y) = Unit {0}
-Numbered Unreadable = Unit {0}
-Numbered (Refused k) = (1 ≤ k) × (k ≤ 3)
+-- what each case of the answer says: a finding (01: kind, place and symbol), 4, or the number of another refusal
+abbrev pub decodedReport : Decoded → Report
+decodedReport Clean = success clean
+decodedReport (Corrected c) = success (corrected (correctionOf c))
+decodedReport Unreadable = failure
+decodedReport (Refused k) = refusal k
 
 -- r and the outputs, that held `first` and `second` and now hold `first′` and `second′`, are those of the answer a
 pub record Answers (a : Answer) (r : Decoded) (first first′ second second′ : List ℕ) : Type 0 where
   pub answer : decodedReport r ≡ report a
-  pub numbered : Numbered r
   pub first-out : first′ ≡ decodeOutput true a first
   pub second-out : second′ ≡ decodeOutput false a second
+
+-- what decode may answer to the word u in profile i
+abbrev pub DecodeAllows : ℕ → List ℕ → Decoded → List ℕ → List ℕ → List ℕ → List ℕ → Type 0
+DecodeAllows i u r first first′ second second′ = Answers (decodeAnswer i u (length first) (length second)) r first first′ second second′

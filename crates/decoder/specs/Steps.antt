@@ -18,7 +18,7 @@ use Rattle.decoder.specs.declared.totals.Totals.{Totals}
 use Rattle.decoder.specs.declared.reader.Decoded.{Decoded}
 use Rattle.decoder.specs.declared.reader.Decoded.the-variants.{Clean, Corrected, Unreadable, Refused}
 use Rattle.decoder.specs.Totals.{sumsOf}
-use Rattle.decoder.specs.Decode.{Answers}
+use Rattle.decoder.specs.Decode.{correctionOf, Answers}
 
 -- the parity whose check symbol alone disagrees, by whether each agrees; 2 for neither
 abbrev pub wrongParity : Bool → Bool → ℕ
@@ -29,9 +29,9 @@ wrongParity false false = 2
 
 -- r is what a balanced body with the sums s is read as: its components are then near codewords
 abbrev pub Judged : Parameters → Sums → Decoded → Type 0
-Judged p s Clean = T (nearSyndromes p (s .first) (s .second)) × ((v : List ℕ) → decodedBalanced p s v ≡ readBy p clean 0 0 v (s .first) (s .second))
-Judged p s (Corrected i y) =
-    T (nearSyndromes p (s .first) (s .second)) × ((v : List ℕ) → decodedBalanced p s v ≡ readBy p corrected i y v (s .first) (s .second))
+Judged p s Clean = T (nearSyndromes p (s .first) (s .second)) × ((v : List ℕ) → decodedBalanced p s v ≡ readBy p clean v (s .first) (s .second))
+Judged p s (Corrected c) =
+    T (nearSyndromes p (s .first) (s .second)) × ((v : List ℕ) → decodedBalanced p s v ≡ readBy p (corrected (correctionOf c)) v (s .first) (s .second))
 Judged p s Unreadable = (v : List ℕ) → decodedBalanced p s v ≡ unreadable
 Judged p s (Refused k) = ⊥
 

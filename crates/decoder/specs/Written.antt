@@ -31,10 +31,10 @@ run x side i (suc k) next out = set (run x side i k next out) (next + k) (getD x
 
 -- the outputs hold the messages of the components in x
 pub record Messages (t : Row) (x first second : List ℕ) : Type 0 where
-  pub first-is : first ≡ message (t .q) (t .r) (part true (t .n) x)
-  pub second-is : second ≡ message (t .q) (t .r) (part false (t .n) x)
+  pub first-is : first ≡ message (parameters t) (part true (t .n) x)
+  pub second-is : second ≡ message (parameters t) (part false (t .n) x)
 
 -- the outputs hold the messages of the components c and d, whose syndromes are S and S′
 pub record Written (p : Parameters) (c d S S′ first second : List ℕ) : Type 0 where
-  pub first-is : first ≡ message (p .q) (p .r) (restoredBy p S c)
-  pub second-is : second ≡ message (p .q) (p .r) (restoredBy p S′ d)
+  pub first-is : first ≡ message p (restoredBy p S c)
+  pub second-is : second ≡ message p (restoredBy p S′ d)

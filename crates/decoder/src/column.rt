@@ -44,7 +44,7 @@ pub(crate) fn moved(
     multiples: &[u8; 16],
     a: usize,
 ) -> Syndrome
-    requires { ⌜ Valid row × Columns (row .q) (now columns) × FourRows row (rows s) × Multiples (row .q) (now multiples) ⌝ }
+    requires { ⌜ Valid row × Columns (row .q) (row .n) (now columns) × FourRows row (rows s) × Multiples (row .q) (now multiples) ⌝ }
     ensures { λ t. ⌜ FourRows row (rows t) × (rowsOf row (rows t) ≡ moved (parameters row) (getD (now (multiples .entry)) 1 0) a (rowsOf row (rows s))) ⌝ }
 {
     if a == 0 {
@@ -82,7 +82,7 @@ pub(crate) fn moves_to_zero(
     multiples: &[u8; 16],
     a: usize,
 ) -> bool
-    requires { ⌜ Valid row × Columns (row .q) (now columns) × FourRows row (rows s) × Multiples (row .q) (now multiples) ⌝ }
+    requires { ⌜ Valid row × Columns (row .q) (row .n) (now columns) × FourRows row (rows s) × Multiples (row .q) (now multiples) ⌝ }
     ensures { λ b. ⌜ b ≡ zeroSyndrome (parameters row) (moved (parameters row) (getD (now (multiples .entry)) 1 0) a (rowsOf row (rows s))) ⌝ }
 {
     if a == 0 {

@@ -8,5 +8,6 @@ mod reader;
 mod residue;
 mod totals;
 
+pub use reader::Correction;
 pub use reader::Decoded;
 pub use reader::decode;

@@ -66,7 +66,7 @@ fn near_after(
     parity: usize,
     k: usize,
 ) -> bool
-    requires { ⌜ Valid row × Columns (row .q) (now columns) × Totalled row s × Moves row s parity (now «by_first») (now «by_second») × (parity ≤ 1) × (k ≤ 48) ⌝ }
+    requires { ⌜ Valid row × Columns (row .q) (row .n) (now columns) × Totalled row s × Moves row s parity (now «by_first») (now «by_second») × (parity ≤ 1) × (k ≤ 48) ⌝ }
     ensures { λ b. ⌜ b ≡ nearAfter (parameters row) (sumsOf row s) (isFirst parity) k ⌝ }
 {
     if !moves_to_zero(row, columns, s.first, by_first, k + 1) {
@@ -90,7 +90,7 @@ fn fits(
     k: usize,
     x: u8,
 ) -> bool
-    requires { ⌜ Valid row × Columns (row .q) (now columns) × Totalled row s × Moves row s parity (now «by_first») (now «by_second») × (parity ≤ 1) × (k ≤ 48) ⌝ }
+    requires { ⌜ Valid row × Columns (row .q) (row .n) (now columns) × Totalled row s × Moves row s parity (now «by_first») (now «by_second») × (parity ≤ 1) × (k ≤ 48) ⌝ }
     ensures { λ b. ⌜ b ≡ fits (parameters row) (sumsOf row s) (isFirst parity) k x ⌝ }
 {
     if balancing_symbol(row, s, x) == row.q {
@@ -103,7 +103,7 @@ fn fits(
 }
 
 // The first index of the parity that fits.
-pub(crate) fn try_places(
+fn try_positions(
     row: Row,
     columns: &[[u8; 3]; 48],
     s: Totals,
@@ -112,7 +112,7 @@ pub(crate) fn try_places(
     word: &[u8],
     parity: usize,
 ) -> Place
-    requires { ⌜ Word row (now word) × Columns (row .q) (now columns) × Totalled row s × Moves row s parity (now «by_first») (now «by_second») × (parity ≤ 1) ⌝ }
+    requires { ⌜ Word row (now word) × Columns (row .q) (row .n) (now columns) × Totalled row s × Moves row s parity (now «by_first») (now «by_second») × (parity ≤ 1) ⌝ }
     ensures { λ r. ⌜ Found (firstFit (parameters row) (sumsOf row s) (isFirst parity) (now (word .entry))) (places (parameters row) (isFirst parity)) r ⌝ }
 {
     let count = row.n + 1 - parity;
@@ -133,4 +133,23 @@ pub(crate) fn try_places(
         k += 1;
     }
     Place::Nothing
+}
+
+// The same. Where the check symbol is off by something else than the weight, no position fits, and none is tried.
+pub(crate) fn locate(
+    row: Row,
+    columns: &[[u8; 3]; 48],
+    s: Totals,
+    by_first: &[u8; 16],
+    by_second: &[u8; 16],
+    word: &[u8],
+    parity: usize,
+) -> Place
+    requires { ⌜ Word row (now word) × Columns (row .q) (row .n) (now columns) × Totalled row s × Moves row s parity (now «by_first») (now «by_second») × (parity ≤ 1) ⌝ }
+    ensures { λ r. ⌜ Found (firstFit (parameters row) (sumsOf row s) (isFirst parity) (now (word .entry))) (places (parameters row) (isFirst parity)) r ⌝ }
+{
+    if !off_by_lack(row, s, parity) {
+        return Place::Nothing;
+    }
+    try_positions(row, columns, s, by_first, by_second, word, parity)
 }

@@ -4,10 +4,11 @@ use crate::column::moved;
 use crate::message::write_pair;
 use crate::place::Place;
 use crate::place::balancing_symbol;
+use crate::place::locate;
 use crate::place::moves;
-use crate::place::try_places;
 use crate::totals::Totals;
 use crate::totals::sums_of;
+use profiles::Lookup;
 use profiles::Row;
 use profiles::decode_refusal;
 use profiles::row_of;
@@ -19,23 +20,27 @@ ghost use Prim.Native.Nat.{_≤_};
 ghost use lib.Dec.{eqb};
 ghost use lib.ListN.{length};
 ghost use Rattle.code.specs.Operations.{answered, decodeAnswer};
-ghost use Rattle.decoding.specs.Decoded.{decodedBody, decodedUnbalanced};
+ghost use Rattle.decoding.specs.Decoded.{decodedBody, decodedUnbalanced, decoded};
 ghost use Rattle.profiles.specs.Row.{Valid, parameters};
-ghost use Rattle.profiles.specs.Refusal.{refusalNumber};
 ghost use Rattle.symbols.specs.Columns.{Columns};
 ghost use Rattle.decoder.specs.Received.{Body};
 ghost use Rattle.decoder.specs.Totals.{Word, sumsOf, Totalled};
 ghost use Rattle.decoder.specs.Sides.{isFirst};
 ghost use Rattle.decoder.specs.Place.{Located, Moves};
 ghost use Rattle.decoder.specs.Written.{Outputs};
-ghost use Rattle.decoder.specs.Decode.{Answers};
+ghost use Rattle.decoder.specs.Decode.{Answers, DecodeAllows};
 ghost use Rattle.decoder.specs.Steps.{Judged, wrongParity, BalancedAnswers};
+
+// What is said of a changed symbol: its position, from 1, and the symbol sent there.
+pub struct Correction {
+    pub position: usize,
+    pub symbol: u8,
+}
 
 // What a received word is read as; the outputs hold its messages where it is clean or corrected.
 pub enum Decoded {
     Clean,
-    // The position, from 1, and the symbol sent there.
-    Corrected(usize, u8),
+    Corrected(Correction),
     // 01: number 4.
     Unreadable,
     // 01: number 1 to 3.
@@ -54,8 +59,20 @@ fn check(row: Row, s: Totals) -> Decoded
     let told = verdict(row.q, row.n, first, second, asked, arrived);
     match told {
         Verdict::Clean => Decoded::Clean,
-        Verdict::Alpha => Decoded::Corrected(row.balanced + 1, asked.alpha),
-        Verdict::Beta => Decoded::Corrected(row.balanced + 2, asked.beta),
+        Verdict::Alpha => {
+            let position = row.balanced + 1;
+            Decoded::Corrected(Correction {
+                position,
+                symbol: asked.alpha,
+            })
+        }
+        Verdict::Beta => {
+            let position = row.balanced + 2;
+            Decoded::Corrected(Correction {
+                position,
+                symbol: asked.beta,
+            })
+        }
         Verdict::Unreadable => Decoded::Unreadable,
     }
 }
@@ -89,7 +106,7 @@ fn correct(
     first: &mut [u8],
     second: &mut [u8],
 ) -> Decoded
-    requires { ⌜ Word row (now word) × Columns (row .q) (now columns) × Totalled row s × Moves row s parity (now «by_first») (now «by_second») × (parity ≤ 1) × Located (parameters row) (sumsOf row s) (isFirst parity) (now word) k × Outputs row (now first) (now second) ⌝ }
+    requires { ⌜ Word row (now word) × Columns (row .q) (row .n) (now columns) × Totalled row s × Moves row s parity (now «by_first») (now «by_second») × (parity ≤ 1) × Located (parameters row) (sumsOf row s) (isFirst parity) (now word) k × Outputs row (now first) (now second) ⌝ }
     ensures { λ r. ⌜ Answers (answered (decodedBody (parameters row) (sumsOf row s) (isFirst parity) (now (word .entry)))) r (now (first .entry)) (now (first .exit)) (now (second .entry)) (now (second .exit)) ⌝ }
 {
     let i = 2 * k + parity;
@@ -99,7 +116,10 @@ fn correct(
     let f = moved(row, columns, s.first, by_first, k + 1);
     let g = moved(row, columns, s.second, by_second, k + parity);
     write_pair(row, f, g, &mut x, first, second);
-    Decoded::Corrected(i + 1, y)
+    Decoded::Corrected(Correction {
+        position: i + 1,
+        symbol: y,
+    })
 }
 
 // An unbalanced body: one of its symbols changed where exactly one check symbol disagrees.
@@ -111,7 +131,7 @@ fn decode_unbalanced(
     first: &mut [u8],
     second: &mut [u8],
 ) -> Decoded
-    requires { ⌜ Word row (now word) × Columns (row .q) (now columns) × Totalled row s × Outputs row (now first) (now second) ⌝ }
+    requires { ⌜ Word row (now word) × Columns (row .q) (row .n) (now columns) × Totalled row s × Outputs row (now first) (now second) ⌝ }
     ensures { λ r. ⌜ Answers (answered (decodedUnbalanced (parameters row) (sumsOf row s) (now (word .entry)))) r (now (first .entry)) (now (first .exit)) (now (second .entry)) (now (second .exit)) ⌝ }
 {
     let parity = wrong_parity(s);
@@ -120,7 +140,7 @@ fn decode_unbalanced(
     }
     let by_first = moves(row, s, parity);
     let by_second = moves(row, s, 1 - parity);
-    let Place::At(k) = try_places(row, columns, s, &by_first, &by_second, word, parity) else {
+    let Place::At(k) = locate(row, columns, s, &by_first, &by_second, word, parity) else {
         return Decoded::Unreadable;
     };
     correct(
@@ -158,13 +178,12 @@ fn decode_balanced(
     found
 }
 
-// A word that numbers 1 to 3 let through, by its sums.
-fn decode_by(profile: usize, word: &[u8], first: &mut [u8], second: &mut [u8]) -> Decoded
-    requires { ⌜ refusalNumber (decodeAnswer profile (now word) (length (now first)) (length (now second))) ≡ 0 ⌝ }
-    ensures { λ r. ⌜ Answers (decodeAnswer profile (now (word .entry)) (length (now (first .entry))) (length (now (second .entry)))) r (now (first .entry)) (now (first .exit)) (now (second .entry)) (now (second .exit)) ⌝ }
+// A word that numbers 1 to 3 let through, by its sums. The columns are built once.
+fn decode_word(row: Row, word: &[u8], first: &mut [u8], second: &mut [u8]) -> Decoded
+    requires { ⌜ Word row (now word) × Outputs row (now first) (now second) ⌝ }
+    ensures { λ r. ⌜ Answers (answered (decoded (parameters row) (now (word .entry)))) r (now (first .entry)) (now (first .exit)) (now (second .entry)) (now (second .exit)) ⌝ }
 {
-    let row = row_of(profile);
-    let matrix = columns(profile);
+    let matrix = columns(row.q, row.n);
     let mut x = [0u8; 97];
     let s = sums_of(row, &matrix, word, &mut x);
     if s.weight != row.middle {
@@ -173,30 +192,16 @@ fn decode_by(profile: usize, word: &[u8], first: &mut [u8], second: &mut [u8]) -
     decode_balanced(row, s, &mut x, first, second)
 }
 
-// The same. Each profile has a call of its own: its row and its columns are then constants.
-fn decode_word(profile: usize, word: &[u8], first: &mut [u8], second: &mut [u8]) -> Decoded
-    requires { ⌜ refusalNumber (decodeAnswer profile (now word) (length (now first)) (length (now second))) ≡ 0 ⌝ }
-    ensures { λ r. ⌜ Answers (decodeAnswer profile (now (word .entry)) (length (now (first .entry))) (length (now (second .entry)))) r (now (first .entry)) (now (first .exit)) (now (second .entry)) (now (second .exit)) ⌝ }
-{
-    if profile == 1 {
-        return decode_by(1, word, first, second);
-    }
-    if profile == 2 {
-        return decode_by(2, word, first, second);
-    }
-    if profile == 3 {
-        return decode_by(3, word, first, second);
-    }
-    decode_by(4, word, first, second)
-}
-
 // 01: Read. Refused 1: no such profile; 2: a length is wrong; 3: a symbol is not a level. A refusal and `Unreadable` change no output.
 pub fn decode(profile: usize, word: &[u8], first: &mut [u8], second: &mut [u8]) -> Decoded
-    ensures { λ r. ⌜ Answers (decodeAnswer profile (now (word .entry)) (length (now (first .entry))) (length (now (second .entry)))) r (now (first .entry)) (now (first .exit)) (now (second .entry)) (now (second .exit)) ⌝ }
+    ensures { λ r. ⌜ DecodeAllows profile (now (word .entry)) r (now (first .entry)) (now (first .exit)) (now (second .entry)) (now (second .exit)) ⌝ }
 {
-    let number = decode_refusal(profile, word, first.len(), second.len());
+    let Lookup::Found(row) = row_of(profile) else {
+        return Decoded::Refused(1);
+    };
+    let number = decode_refusal(row, word, first.len(), second.len());
     if number != 0 {
         return Decoded::Refused(number);
     }
-    decode_word(profile, word, first, second)
+    decode_word(row, word, first, second)
 }

@@ -31,7 +31,7 @@ pub(crate) struct Totals {
 
 // The sums over a word, from its body w and the differences x of that.
 fn total(row: Row, columns: &[[u8; 3]; 48], word: &[u8], w: &[u8; 97], x: &[u8; 97]) -> Totals
-    requires { ⌜ Apart row (now word) (now w) (now x) × Columns (row .q) (now columns) ⌝ }
+    requires { ⌜ Apart row (now word) (now w) (now x) × Columns (row .q) (row .n) (now columns) ⌝ }
     ensures { λ s. ⌜ Totalled row s × (sumsOf row s ≡ sums (parameters row) (now (word .entry))) ⌝ }
 {
     let q = row.q;
@@ -61,7 +61,7 @@ fn total(row: Row, columns: &[[u8; 3]; 48], word: &[u8], w: &[u8; 97], x: &[u8; 
 
 // The sums over a word, whose components are put into x.
 pub(crate) fn sums_of(row: Row, columns: &[[u8; 3]; 48], word: &[u8], x: &mut [u8; 97]) -> Totals
-    requires { ⌜ Word row (now word) × Columns (row .q) (now columns) × (length (now x) ≡ 97) ⌝ }
+    requires { ⌜ Word row (now word) × Columns (row .q) (row .n) (now columns) × (length (now x) ≡ 97) ⌝ }
     ensures { λ s. ⌜ Summed row (now (word .entry)) (now (x .exit)) s ⌝ }
 {
     let mut w = [0u8; 97];

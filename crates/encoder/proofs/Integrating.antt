@@ -2,7 +2,7 @@
 -- Assumes nothing.
 use mathlib.Core.Path.{_≡_, refl, sym, ap, _∙_}
 use mathlib.Core.List.{List, [], _∷_}
-use Prim.Native.Nat.{ℕ, zero, suc, _+_, _-_, _*_, _/_, _%_, _≤_, _<_, zero-le}
+use Prim.Native.Nat.{ℕ, zero, suc, _+_, _*_, _/_, _%_, _≤_, _<_, zero-le}
 use native.Mathlib.Nat.{not-suc-le-zero, le-of-suc-le-suc, le-refl, mod-lt, mod-add-div', mul-le-mul-left}
 use native.Mathlib.Numerals.{add-one}
 use native.Mathlib.Omega.{arith}
@@ -13,8 +13,9 @@ use lib.Seq.{getD-set-same, getD-set-other, getD-take, take-take, ext-getD, leng
 use Rattle.modular.specs.Sum.{weight}
 use Rattle.modular.proofs.Residue.{of-eq, same, add, reduce, _then_}
 use Rattle.code.specs.Component.{symbolsBelow}
-use Rattle.code.specs.Balance.{addAt, integrate, chosen, earliestS, earliestV, balanced}
-use Rattle.code.proofs.Balance.{length-integrate}
+use Rattle.code.specs.Parameters.{Parameters}
+use Rattle.code.specs.Balance.{addAt, integrate, zeroIndex, addOne, chosen, earliestS, earliestV, balanced}
+use Rattle.code.proofs.Choice.{length-integrate}
 use Rattle.code.proofs.Symbols.{symbol-below}
 use Rattle.code.proofs.Alternate.{integrate-below}
 use Rattle.symbols.proofs.Words.{weight-take, zeros-at}
@@ -145,17 +146,18 @@ symbols-fewer s h =
 
 -- The symbols of a balanced word.
 
-balanced-below : (q : ℕ) → 1 ≤ q → (x : List ℕ) → T (symbolsBelow q (balanced q x))
+balanced-below : (p : Parameters) → 1 ≤ p .q → (x : List ℕ) → T (symbolsBelow (p .q) (balanced p x))
 unfolding balanced chosen
-balanced-below q h x = integrate-below q h 0 (addAt q (addAt q x 0 (earliestS q x)) (earliestV q x - 1) 1)
+balanced-below p h x = integrate-below (p .q) h 0 (addOne p (addAt (p .q) x (zeroIndex p x) (earliestS p x)) (earliestV p x))
 
-pub balanced-symbols : {q m : ℕ} {x : List ℕ} → Symbols q m x → (w : List ℕ) → length w ≡ 97 → take m w ≡ balanced q (take m x) → Symbols q m w
-balanced-symbols {q} {m} {x} s w n e =
+pub balanced-symbols : (p : Parameters) {m : ℕ} {x : List ℕ} → Symbols (p .q) m x → (w : List ℕ) → length w ≡ 97 → take m w ≡ balanced p (take m x)
+    → Symbols (p .q) m w
+balanced-symbols p {m} {x} s w n e =
     record {
       size = n;
       some = s .some;
       levels = s .levels;
       room = s .room;
       below =
-          λ i h. rw (← getD-take m w i 0 h, e) (symbol-below q (s .some) (balanced q (take m x)) (balanced-below q (s .some) (take m x)) i);
+          λ i h. rw (← getD-take m w i 0 h, e) (symbol-below (p .q) (s .some) (balanced p (take m x)) (balanced-below p (s .some) (take m x)) i);
     }

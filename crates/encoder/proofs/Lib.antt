@@ -9,3 +9,5 @@ pub mod Writing
 -- The writer
 pub mod Pairing
 pub mod Refusing
+-- Claims
+pub mod Claims

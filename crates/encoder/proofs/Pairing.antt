@@ -8,16 +8,17 @@ use lib.Dec.{T}
 use lib.ListN.{length, take}
 use lib.Seq.{getD-take}
 use Rattle.code.specs.Parameters.{Parameters, Sized, messageLength, balancedLength, codewordLength}
-use Rattle.code.specs.Component.{isWord, component}
+use Rattle.code.specs.Component.{Below, isWord, component}
 use Rattle.code.specs.Balance.{interleave, balanced}
 use Rattle.code.specs.Codeword.{withChecks, interleaved, encoded}
-use Rattle.code.specs.Profiles.{isProfile, profile}
-use Rattle.code.proofs.Merge.{Below, word-length}
+use Rattle.code.specs.Profiles.{profile}
+use Rattle.code.proofs.Merge.{word-length}
 use Rattle.code.proofs.Component.{component-below}
 use Rattle.code.proofs.Columns.{q-positive}
 use Rattle.profiles.specs.declared.row.Row.{Row}
 use Rattle.profiles.specs.Row.{parameters, RowOf}
-use Rattle.components.specs.Components.{componentsOf}
+use Rattle.profiles.proofs.Table.{levels-are, codeword-is}
+use Rattle.components.specs.Components.{zeroFirst, componentsOf}
 use Rattle.components.proofs.Lengths.{components-interleaved}
 use Rattle.encoder.specs.Symbols.{Symbols}
 
@@ -35,15 +36,13 @@ module _ (p : Parameters) (s : Sized p) (a b : List ℕ) (ha : T (isWord (p .q) 
   interleaved-below (suc i) = interleave-below (p .q) (q-positive p s) (component p a) (component p b) (component-below p s a ha) (component-below p s b hb) i
 
 -- x of the messages a and b in profile i, and its row t
-module _ {i : ℕ} {t : Row} (of : RowOf i t) (a b : List ℕ) (pre : T (isProfile i) × T (isWord (profile i .q) (messageLength (profile i)) a) × T (isWord (profile i .q) (messageLength (profile i)) b))
+module _ {i : ℕ} {t : Row} (of : RowOf i t) (a b : List ℕ) (pre : T (isWord (profile i .q) (messageLength (profile i)) a) × T (isWord (profile i .q) (messageLength (profile i)) b))
     {x : List ℕ} (made : x ≡ componentsOf i a b) where
-  levels-are : t .q ≡ profile i .q
-  levels-are = ap (λ p. p .q) (of .same)
-
   is : take (t .balanced) x ≡ interleaved (profile i) a b
+  unfolding interleaved zeroFirst
   is =
       ap₂ take (of .valid .balanced ∙ ap balancedLength (of .same)) made
-      ∙ components-interleaved i a b (pre .0) (word-length (profile i .q) (messageLength (profile i)) a (pre .1)) (word-length (profile i .q) (messageLength (profile i)) b (pre .2))
+      ∙ components-interleaved i a b (of .known) (word-length (profile i .q) (messageLength (profile i)) a (pre .0)) (word-length (profile i .q) (messageLength (profile i)) b (pre .1))
 
   pub pair-symbols : length x ≡ 97 → Symbols (t .q) (t .balanced) x
   pair-symbols size =
@@ -53,13 +52,13 @@ module _ {i : ℕ} {t : Row} (of : RowOf i t) (a b : List ℕ) (pre : T (isProfi
         levels = of .valid .levels;
         room = omega (arith, of .valid .balanced, of .valid .length);
         below =
-            λ j h. rw (← getD-take (t .balanced) x j 0 h, is, levels-are)
-            (interleaved-below (profile i) (subst Sized (of .same) (of .valid .sized)) a b (pre .1) (pre .2) j);
+            λ j h. rw (← getD-take (t .balanced) x j 0 h, is, levels-are of)
+            (interleaved-below (profile i) (subst Sized (of .same) (of .valid .sized)) a b (pre .0) (pre .1) j);
       }
 
-  pub pair-encoded : {w u : List ℕ} → w ≡ balanced (t .q) (take (t .balanced) x) → u ≡ withChecks (t .q) w → u ≡ encoded (profile i) a b
+  pub pair-encoded : {w u : List ℕ} → w ≡ balanced (parameters t) (take (t .balanced) x) → u ≡ withChecks (t .q) w → u ≡ encoded (profile i) a b
   unfolding encoded
-  pair-encoded e f = f ∙ ap₂ withChecks levels-are (e ∙ ap₂ balanced levels-are is)
+  pair-encoded e f = f ∙ ap₂ withChecks (levels-are of) (e ∙ ap₂ balanced (of .same) is)
 
   pub pair-length : {l : ℕ} → l ≡ t .codeword → l ≡ codewordLength (profile i)
-  pair-length e = e ∙ of .valid .codeword ∙ ap codewordLength (of .same)
+  pair-length e = e ∙ codeword-is of

@@ -14,7 +14,7 @@ use lib.Seq.{getD-set-same, getD-set-other, getD-take, ext-getD, length-take-le}
 use borrow.Author.Tests.{lt-ltb, le-ltb}
 use Rattle.modular.specs.Sum.{weight}
 use Rattle.modular.proofs.Search.{le-or-lt}
-use Rattle.code.proofs.Balance.{shifted, shiftedFrom}
+use Rattle.code.specs.Balance.{shifted, shiftedFrom}
 use Rattle.encoder.specs.Symbols.{Symbols, Raised, stepAt}
 
 -- The weight, a symbol at a time.

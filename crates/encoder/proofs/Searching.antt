@@ -12,12 +12,13 @@ use lib.ListN.{length, getD, take, set, replicate}
 use lib.Seq.{length-take-le, getD-set-same, getD-set-other}
 use Rattle.modular.specs.Sum.{weight}
 use Rattle.modular.proofs.Search.{le-or-lt, le-of-not-lt}
-use Rattle.code.specs.Parameters.{balancingValue}
-use Rattle.code.specs.Balance.{integrate, chosen, earliestS, earliestV, balanced}
-use Rattle.code.specs.Claims.{Balanced}
-use Rattle.code.proofs.Balance.{shifted, shiftedFrom, chosen-shifted, length-integrate, weight-step, balance-exists}
+use Rattle.code.specs.Parameters.{Parameters, balancingValue}
+use Rattle.code.specs.Balance.{shifted, shiftedFrom, integrated, chosen, earliestS, earliestV, balanced}
+use Rattle.code.specs.Claims.{Tried, Balanced}
+use Rattle.code.proofs.Balance.{weight-step}
+use Rattle.code.proofs.Choice.{chosen-shifted, length-integrate, balance-exists}
 use Rattle.profiles.specs.declared.row.Row.{Row}
-use Rattle.profiles.specs.Row.{Valid}
+use Rattle.profiles.specs.Row.{parameters, Valid}
 use Rattle.encoder.specs.Symbols.{Integral, Chosen}
 use Rattle.symbols.proofs.Words.{zeros-at}
 
@@ -140,59 +141,67 @@ module _ {q : ℕ} {d : List ℕ} {s : ℕ} where
 
 -- The choice used, of a word x whose integral d is.
 
-module _ {q : ℕ} {d : List ℕ} (x : List ℕ) (is : d ≡ integrate q 0 x) (b : Balanced q x) where
+module _ {p : Parameters} {d : List ℕ} (x : List ℕ) (is : d ≡ integrated p x) (b : Balanced p x) where
   same-length : length d ≡ length x
-  same-length = ap length is ∙ length-integrate q 0 x
+  same-length = ap length is ∙ length-integrate (p .q) 0 x
 
-  weight-chosen : (s i : ℕ) → i < length x → weightAt q d s i ≡ weight (chosen q x s (suc i))
-  weight-chosen s i l = ap (λ (e : List ℕ). weightAt q e s i) is ∙ ap weight (sym (chosen-shifted q x s i l))
+  weight-chosen : (s i : ℕ) → i < length x → weightAt (p .q) d s i ≡ weight (chosen p x s (suc i))
+  weight-chosen s i l = ap (λ (e : List ℕ). weightAt (p .q) e s i) is ∙ ap weight (sym (chosen-shifted p x s i l))
 
   -- no choice that balances is among those missed
-  misses : (s v : ℕ) → 1 ≤ v → v ≤ length x → Misses q d s (v - 1) → weight (chosen q x s v) ≢ balancingValue q (length x)
-  misses s v h k n e =
+  misses : (s v : ℕ) → Tried p (length x) v → Misses (p .q) d s (v - 1) → weight (chosen p x s v) ≢ balancingValue (p .q) (length x)
+  misses s v h n e =
       let l : v - 1 < length x = omega arith in
       let f : suc (v - 1) ≡ v = omega arith in
-      n (weight-chosen s (v - 1) l ∙ rw f e ∙ ap (balancingValue q) (sym same-length))
+      n (weight-chosen s (v - 1) l ∙ rw f e ∙ ap (balancingValue (p .q)) (sym same-length))
 
-  balances-earliest : weight (chosen q x (earliestS q x) (earliestV q x)) ≡ balancingValue q (length x)
+  balances-earliest : weight (chosen p x (earliestS p x) (earliestV p x)) ≡ balancingValue (p .q) (length x)
   unfolding balanced
   balances-earliest = b .balances
 
   -- so some s is left
-  pub missed-below : {s : ℕ} → Missed q d s → s ≤ earliestS q x
+  pub missed-below : {s : ℕ} → Missed (p .q) d s → s ≤ earliestS p x
   missed-below {s} m =
       le-of-not-lt
-      (λ (k : earliestS q x < s).
-      misses (earliestS q x) (earliestV q x) (b .v-from) (b .v-upto)
-      (m .all (earliestS q x) (earliestV q x - 1) k (omega (arith, same-length, b .v-from, b .v-upto))) balances-earliest)
+      (λ (k : earliestS p x < s).
+      misses (earliestS p x) (earliestV p x) (b .v-tried)
+      (m .all (earliestS p x) (earliestV p x - 1) k (omega (arith, same-length, b .v-tried))) balances-earliest)
 
-  found : {s v sum : ℕ} → Missed q d s → Trying q d s v sum → v ≤ length d → sum ≡ balancingValue q (length d)
-      → (s ≡ earliestS q x) × (v ≡ earliestV q x)
+  found : {s v sum : ℕ} → Missed (p .q) d s → Trying (p .q) d s v sum → v ≤ length d → sum ≡ balancingValue (p .q) (length d)
+      → (s ≡ earliestS p x) × (v ≡ earliestV p x)
   found {s} {v} {sum} m t l e = (is-s, is-v)
     where
       inside : v ≤ length x
       inside = omega (arith, same-length)
 
-      here : weight (chosen q x s v) ≡ balancingValue q (length x)
+      here : weight (chosen p x s v) ≡ balancingValue (p .q) (length x)
       here =
           let k : v - 1 < length x = omega (arith, t .from, inside) in
           let f : suc (v - 1) ≡ v = omega (arith, t .from) in
-          sym (rw f at (weight-chosen s (v - 1) k)) ∙ sym (t .is) ∙ e ∙ ap (balancingValue q) same-length
+          sym (rw f at (weight-chosen s (v - 1) k)) ∙ sym (t .is) ∙ e ∙ ap (balancingValue (p .q)) same-length
 
-      is-s : s ≡ earliestS q x
+      is-s : s ≡ earliestS p x
       is-s =
-          ⊎-elim (λ (k : earliestS q x ≤ s). omega (arith, missed-below m))
-          (λ (k : s < earliestS q x). absurd (b .first s v (t .from) inside (inl k) here)) (le-or-lt (earliestS q x) s)
+          ⊎-elim (λ (k : earliestS p x ≤ s). omega (arith, missed-below m))
+          (λ (k : s < earliestS p x). absurd (b .first s v (t .from, inside) (inl k) here)) (le-or-lt (earliestS p x) s)
 
-      earlier : earliestV q x < v → ⊥
+      earlier : earliestV p x < v → ⊥
       earlier k =
-          misses s (earliestV q x) (b .v-from) (b .v-upto) (t .missed (earliestV q x - 1) (omega (arith, b .v-from))) (rw is-s balances-earliest)
+          misses s (earliestV p x) (b .v-tried) (t .missed (earliestV p x - 1) (omega (arith, b .v-tried))) (rw is-s balances-earliest)
 
-      is-v : v ≡ earliestV q x
+      is-v : v ≡ earliestV p x
       is-v =
-          let low : v ≤ earliestV q x = le-of-not-lt earlier in
-          ⊎-elim (λ (k : earliestV q x ≤ v). omega arith) (λ (k : v < earliestV q x). absurd (b .first s v (t .from) inside (inr (is-s, k)) here))
-          (le-or-lt (earliestV q x) v)
+          let low : v ≤ earliestV p x = le-of-not-lt earlier in
+          ⊎-elim (λ (k : earliestV p x ≤ v). omega arith) (λ (k : v < earliestV p x). absurd (b .first s v (t .from, inside) (inr (is-s, k)) here))
+          (le-or-lt (earliestV p x) v)
+
+  -- the integral raised by that choice is w
+  choice-balanced : {s v : ℕ} → s ≡ earliestS p x → v ≡ earliestV p x → shiftedFrom (p .q) s (v - 1) d ≡ balanced p x
+  unfolding balanced
+  choice-balanced {s} {v} es ev =
+      let l : v - 1 < length x = omega (arith, b .v-tried) in
+      let f : suc (v - 1) ≡ v = omega (arith, b .v-tried) in
+      ap (shiftedFrom (p .q) s (v - 1)) is ∙ sym (chosen-shifted p x s (v - 1) l) ∙ rw f (ap₂ (λ (t u : ℕ). chosen p x t u) es ev)
 
 -- The word of a row's length.
 
@@ -201,34 +210,30 @@ module _ (t : Row) (valid : Valid t) where
   row-size x e = length-take-le (t .balanced) x (omega (arith, valid .balanced, valid .length))
 
   -- it can be balanced, since its length and q are odd
-  pub row-balances : (x : List ℕ) → length x ≡ t .balanced → Balanced (t .q) x
+  pub row-balances : (x : List ℕ) → length x ≡ t .balanced → Balanced (parameters t) x
   row-balances x e =
       let f : t .q - 1 ≡ 2 * (t .q / 2) = omega (arith, valid .sized .odd) in
       let g : length x * (2 * (t .q / 2)) % 2 ≡ 0 = omega arith in
-      balance-exists (t .q) x (omega (arith, valid .sized .levels)) (omega (arith, valid .balanced)) (rw f g)
+      balance-exists (parameters t) x (omega (arith, valid .sized .levels)) (omega (arith, valid .balanced)) (rw f g)
 
   -- so some s is left whatever has been tried
-  pub s-left : {d : List ℕ} {s : ℕ} → length d ≡ t .balanced → Integral (t .q) d → Missed (t .q) d s → s < t .q
+  pub s-left : {d : List ℕ} {s : ℕ} → length d ≡ t .balanced → Integral (parameters t) d → Missed (t .q) d s → s < t .q
   s-left {d} e i m =
       let n : length (i .of) ≡ t .balanced = sym (length-integrate (t .q) 0 (i .of)) ∙ ap length (sym (i .is)) ∙ e in
-      let b : Balanced (t .q) (i .of) = row-balances (i .of) n in
+      let b : Balanced (parameters t) (i .of) = row-balances (i .of) n in
       omega (arith, missed-below (i .of) (i .is) b m, b .s-below)
 
-  pub all-found : {d : List ℕ} {s v sum : ℕ} → length d ≡ t .balanced → Missed (t .q) d s → Trying (t .q) d s v sum → v ≤ length d
-      → sum ≡ balancingValue (t .q) (length d) → Chosen (t .q) d s v
-  all-found {d} e m y l f =
+  pub all-found : {d : List ℕ} {s v sum : ℕ} → length d ≡ t .balanced → Integral (parameters t) d → Missed (t .q) d s → Trying (t .q) d s v sum
+      → v ≤ length d → sum ≡ balancingValue (t .q) (length d) → Chosen (parameters t) d s v
+  all-found {d} {s} {v} e i m y l f =
       record {
-        first =
-            λ x i.
-            let n : length x ≡ t .balanced = sym (length-integrate (t .q) 0 x) ∙ ap length (sym i) ∙ e in
-            found x i (row-balances x n) m y l f;
+        below = s-left e i m;
+        from = y .from;
+        upto = l;
+        word =
+            λ x j.
+            let n : length x ≡ t .balanced = sym (length-integrate (t .q) 0 x) ∙ ap length (sym j) ∙ e in
+            let b : Balanced (parameters t) x = row-balances x n in
+            let (es, ev) = found x j b m y l f in
+            choice-balanced x j b es ev;
       }
-
--- the integral raised by the choice used is w
-pub choice-balanced : (q : ℕ) (x : List ℕ) {s v : ℕ} → Balanced q x → s ≡ earliestS q x → v ≡ earliestV q x
-    → shiftedFrom q s (v - 1) (integrate q 0 x) ≡ balanced q x
-unfolding balanced
-choice-balanced q x {s} {v} b es ev =
-    let l : v - 1 < length x = omega (arith, b .v-from, b .v-upto) in
-    let f : suc (v - 1) ≡ v = omega (arith, b .v-from) in
-    sym (chosen-shifted q x s (v - 1) l) ∙ rw f (ap₂ (λ (t u : ℕ). chosen q x t u) es ev)

@@ -1,2 +1,3 @@
 pub mod Symbols
 pub mod Answer
+pub mod Claims

@@ -3,11 +3,12 @@
 use mathlib.Core.Path.{_≡_}
 use mathlib.Core.Bool.{true, false}
 use mathlib.Core.List.{List}
-use Prim.Native.Nat.{ℕ, suc, _+_, _%_, _≤_, _<_}
+use Prim.Native.Nat.{ℕ, suc, _+_, _-_, _%_, _≤_, _<_}
 use lib.Dec.{ltb}
 use lib.ListN.{length, getD, take}
 use Rattle.modular.specs.Sum.{weight}
-use Rattle.code.specs.Balance.{integrate, earliestS, earliestV}
+use Rattle.code.specs.Parameters.{Parameters}
+use Rattle.code.specs.Balance.{shiftedFrom, integrated, balanced}
 
 -- the first m of x's 97 symbols are below q, and q is small enough that sums of two symbols fit a byte
 pub record Symbols (q m : ℕ) (x : List ℕ) : Type 0 where
@@ -28,13 +29,16 @@ pub record Summed (m : ℕ) (x sums : List ℕ) : Type 0 where
   pub small : (i : ℕ) → getD sums i 0 ≤ 1455
 
 -- d is the integral of a word
-pub record Integral (q : ℕ) (d : List ℕ) : Type 0 where
+pub record Integral (p : Parameters) (d : List ℕ) : Type 0 where
   pub of : List ℕ
-  pub is : d ≡ integrate q 0 of
+  pub is : d ≡ integrated p of
 
--- s, v is the choice used for every word whose integral d is
-pub record Chosen (q : ℕ) (d : List ℕ) (s v : ℕ) : Type 0 where
-  pub first : (x : List ℕ) → d ≡ integrate q 0 x → (s ≡ earliestS q x) × (v ≡ earliestV q x)
+-- raised by s, and by 1 more from position v on, d is w of the choice used, for every word whose integral d is
+pub record Chosen (p : Parameters) (d : List ℕ) (s v : ℕ) : Type 0 where
+  pub below : s < p .q
+  pub from : 1 ≤ v
+  pub upto : v ≤ length d
+  pub word : (x : List ℕ) → d ≡ integrated p x → shiftedFrom (p .q) s (v - 1) d ≡ balanced p x
 
 -- s, and 1 more from an index on
 abbrev pub stepAt : ℕ → ℕ → ℕ → ℕ

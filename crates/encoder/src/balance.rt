@@ -6,9 +6,8 @@ ghost use mathlib.Core.Path.{_≡_};
 ghost use Prim.Native.Nat.{ℕ, _+_, _/_, _%_, _≤_, _<_};
 ghost use lib.ListN.{getD, take};
 ghost use Rattle.modular.specs.Sum.{weight};
-ghost use Rattle.code.specs.Balance.{integrate, balanced};
-ghost use Rattle.code.proofs.Balance.{shifted};
-ghost use Rattle.profiles.specs.Row.{Valid};
+ghost use Rattle.code.specs.Balance.{integrate, shifted, balanced};
+ghost use Rattle.profiles.specs.Row.{parameters, Valid};
 ghost use Rattle.encoder.specs.Symbols.{Symbols, Light, Summed, Integral, Chosen, Raised, stepAt};
 
 // The sums of the first symbols, up to each of the first m.
@@ -84,8 +83,8 @@ pub(crate) struct Choice {
 // 01: the choice used, the first whose w has weight middle, s before v. One exists, so the search ends at the label. From v to v + 1 the
 // symbol at v loses 1 mod q, and the weight with it: it gains q first where that symbol is 0. No word is weighed anew.
 fn earliest(row: Row, d: &[u8; 97]) -> Choice
-    requires { ⌜ Valid row × Symbols (row .q) (row .balanced) (now d) × Integral (row .q) (take (row .balanced) (now d)) ⌝ }
-    ensures { λ c. ⌜ Chosen (row .q) (take (row .balanced) (now (d .entry))) (c .s) (c .v) ⌝ }
+    requires { ⌜ Valid row × Symbols (row .q) (row .balanced) (now d) × Integral (parameters row) (take (row .balanced) (now d)) ⌝ }
+    ensures { λ c. ⌜ Chosen (parameters row) (take (row .balanced) (now (d .entry))) (c .s) (c .v) ⌝ }
 {
     let m = row.balanced;
     let mut s: u8 = 0;
@@ -134,7 +133,7 @@ fn raised(q: u8, d: &[u8; 97], s: u8, from: u8) -> [u8; 97]
 // 01: w of the choice used.
 pub(crate) fn balanced(row: Row, x: &[u8; 97]) -> [u8; 97]
     requires { ⌜ Valid row × Symbols (row .q) (row .balanced) (now x) ⌝ }
-    ensures { λ w. ⌜ take (row .balanced) w ≡ balanced (row .q) (take (row .balanced) (now (x .entry))) ⌝ }
+    ensures { λ w. ⌜ take (row .balanced) w ≡ balanced (parameters row) (take (row .balanced) (now (x .entry))) ⌝ }
 {
     let d = integrated(row.q, row.balanced, x);
     let choice = earliest(row, &d);

@@ -4,13 +4,12 @@ mod residue;
 mod word;
 mod writer;
 
+use profiles::Lookup;
 use profiles::encode_refusal;
+use profiles::row_of;
 use word::put;
 use writer::written;
-ghost use mathlib.Core.Path.{_≡_};
-ghost use lib.ListN.{length};
-ghost use Rattle.code.specs.Operations.{encodeRefusal, encodeOutput};
-ghost use Rattle.encoder.specs.Answer.{encodedNumber};
+ghost use Rattle.encoder.specs.Answer.{EncodeAllows};
 
 // The answer to encode: the output holds the word, or the call is refused by 01's number and the output is as it was.
 pub enum Encoded {
@@ -20,13 +19,15 @@ pub enum Encoded {
 
 // 01: Write. The word of two messages, in a profile from 1 to 4.
 pub fn encode(profile: usize, first: &[u8], second: &[u8], out: &mut [u8]) -> Encoded
-    ensures { λ r. ⌜ encodedNumber r ≡ encodeRefusal profile (now (first .entry)) (now (second .entry)) (length (now (out .entry))) ⌝ }
-    ensures { λ r. ⌜ now (out .exit) ≡ encodeOutput profile (now (first .entry)) (now (second .entry)) (now (out .entry)) ⌝ }
+    ensures { λ r. ⌜ EncodeAllows profile (now (first .entry)) (now (second .entry)) r (now (out .entry)) (now (out .exit)) ⌝ }
 {
-    let number = encode_refusal(profile, first, second, out.len());
+    let Lookup::Found(row) = row_of(profile) else {
+        return Encoded::Refused(1);
+    };
+    let number = encode_refusal(row, first, second, out.len());
     if number != 0 {
         return Encoded::Refused(number);
     }
-    put(written(profile, first, second), out);
+    put(written(row, profile, first, second), out);
     Encoded::Done
 }

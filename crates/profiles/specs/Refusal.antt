@@ -1,9 +1,23 @@
--- The numbers that refuse a word before it is read (01: Read, numbers 1 to 3).
+-- The numbers that refuse a call in a profile before a word is encoded or read (01: Write and Read, numbers 2 and 3), by the numbers of a row.
 -- Assumes nothing.
+use mathlib.Core.Bool.{Bool, _&&_}
+use mathlib.Core.List.{List, [], _∷_}
 use Prim.Native.Nat.{ℕ}
-use Rattle.code.specs.Operations.{Answer, refused, answered}
+use lib.Dec.{eqb}
+use lib.ListN.{length}
+use Rattle.code.specs.Refusal.{asks, firstRefusal}
+use Rattle.code.specs.Component.{symbolsBelow}
+use Rattle.profiles.specs.declared.row.Row.{Row}
 
--- the number of a refusal by 1 to 3; 0 where the word is read
-abbrev pub refusalNumber : Answer → ℕ
-refusalNumber (refused k) = k
-refusalNumber (answered d) = 0
+-- 2 where a length is wrong, then 3 where a symbol is, and 0 where neither is
+abbrev pub numberBy : Bool → Bool → ℕ
+numberBy lengths symbols = firstRefusal (asks lengths 2 ∷ asks symbols 3 ∷ [])
+
+-- messages a and b, an output of l symbols
+unfoldable pub encodeNumber : Row → List ℕ → List ℕ → ℕ → ℕ
+encodeNumber t a b l =
+    numberBy (eqb (length a) (t .message) && eqb (length b) (t .message) && eqb l (t .codeword)) (symbolsBelow (t .q) a && symbolsBelow (t .q) b)
+
+-- received word u, outputs of k and l symbols
+unfoldable pub decodeNumber : Row → List ℕ → ℕ → ℕ → ℕ
+decodeNumber t u k l = numberBy (eqb (length u) (t .codeword) && eqb k (t .message) && eqb l (t .message)) (symbolsBelow (t .q) u)

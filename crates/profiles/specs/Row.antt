@@ -1,19 +1,38 @@
 -- What the rows of the table of profiles hold.
 -- Assumes nothing.
 use mathlib.Core.Path.{_≡_}
+use mathlib.Core.Logic.{_⊎_, inl, inr}
+use mathlib.Core.Bool.{true, false}
 use mathlib.Core.List.{List, [], _∷_}
-use Prim.Native.Nat.{ℕ, _≤_}
+use Prim.Native.Nat.{ℕ, _-_, _≤_}
+use lib.Dec.{T}
+use lib.ListN.{getD}
 use Rattle.code.specs.Parameters.{Parameters, Sized, messageLength, balancedLength, codewordLength, balancingValue, delta}
-use Rattle.code.specs.Profiles.{row, profile}
+use Rattle.code.specs.Profiles.{row, isProfile, profile, table}
 use Rattle.profiles.specs.declared.row.Row.{Row}
+use Rattle.profiles.specs.declared.row.Entry.{Entry}
+use Rattle.profiles.specs.declared.row.Lookup.{Lookup}
+use Rattle.profiles.specs.declared.row.Lookup.the-variants.{Found, NoProfile}
 
 abbrev pub parameters : Row → Parameters
 parameters t = row (t .q) (t .r) (t .n)
 
--- a row's numbers in the order of 01's table
-abbrev pub cells : ℕ → Row → List ℕ
-cells i t =
-    i ∷ t .q ∷ t .r ∷ t .n ∷ t .message ∷ t .balanced ∷ t .codeword ∷ t .middle ∷ t .delta ∷ []
+-- a row's numbers in the order of 01's table, without the profile's own
+abbrev pub numbers : Row → List ℕ
+numbers t = t .q ∷ t .r ∷ t .n ∷ t .message ∷ t .balanced ∷ t .codeword ∷ t .middle ∷ t .delta ∷ []
+
+-- the same of a row as the table has it
+abbrev pub entries : Entry → List ℕ
+entries e = e .q ∷ e .r ∷ e .n ∷ e .message ∷ e .balanced ∷ e .codeword ∷ e .middle ∷ e .delta ∷ []
+
+-- what a number was looked up as: the row of 01's table, or 01's number 1
+abbrev pub lookedUp : ℕ → Lookup → ℕ ⊎ List ℕ
+lookedUp i (Found t) = inr (i ∷ numbers t)
+lookedUp i NoProfile = inl 1
+
+-- 01's table at a number, or 01's number 1 where the number is no profile's
+unfoldable pub tableAt : ℕ → ℕ ⊎ List ℕ
+tableAt i = elim (isProfile i) [ true ↦ inr (getD table (i - 1) []) | false ↦ inl 1 ]
 
 -- the derived columns follow from q, r and n, and these fit the arrays and the bytes that the code has for them
 pub record Valid (t : Row) : Type 0 where
@@ -29,5 +48,6 @@ pub record Valid (t : Row) : Type 0 where
 
 -- the row of profile i
 pub record RowOf (i : ℕ) (t : Row) : Type 0 where
+  pub known : T (isProfile i)
   pub same : parameters t ≡ profile i
   pub valid : Valid t

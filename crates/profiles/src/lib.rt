@@ -6,5 +6,6 @@ mod row;
 pub use levels::symbols_below;
 pub use refusals::decode_refusal;
 pub use refusals::encode_refusal;
+pub use row::Lookup;
 pub use row::Row;
 pub use row::row_of;

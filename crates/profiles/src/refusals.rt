@@ -1,19 +1,14 @@
-// By which of 01's numbers 1 to 3 a call is refused, or 0: the profile, then the lengths, then the symbols. The profile is one test and the lengths
-// are one, as in the definitions.
+// By which of 01's numbers 2 and 3 a call in a profile is refused, or 0: the lengths, then the symbols. The lengths are one test, as in the definitions.
+// Number 1 is the lookup's.
 use crate::levels::symbols_below;
-use crate::row::row_of;
+use crate::row::Row;
 ghost use mathlib.Core.Path.{_≡_};
-ghost use Rattle.code.specs.Operations.{encodeRefusal, decodeAnswer};
-ghost use Rattle.profiles.specs.Refusal.{refusalNumber};
+ghost use Rattle.profiles.specs.Refusal.{encodeNumber, decodeNumber};
 
 // Of two messages, with an output of `len` symbols.
-pub fn encode_refusal(profile: usize, first: &[u8], second: &[u8], len: usize) -> u8
-    ensures { λ r. ⌜ r ≡ encodeRefusal profile (now (first .entry)) (now (second .entry)) len ⌝ }
+pub fn encode_refusal(row: Row, first: &[u8], second: &[u8], len: usize) -> u8
+    ensures { λ r. ⌜ r ≡ encodeNumber row (now (first .entry)) (now (second .entry)) len ⌝ }
 {
-    if !((1 <= profile) & (profile <= 4)) {
-        return 1;
-    }
-    let row = row_of(profile);
     if !((first.len() == row.message) & (second.len() == row.message) & (len == row.codeword)) {
         return 2;
     }
@@ -24,13 +19,9 @@ pub fn encode_refusal(profile: usize, first: &[u8], second: &[u8], len: usize) -
 }
 
 // Of a received word, with outputs of k and l symbols.
-pub fn decode_refusal(profile: usize, word: &[u8], k: usize, l: usize) -> u8
-    ensures { λ r. ⌜ r ≡ refusalNumber (decodeAnswer profile (now (word .entry)) k l) ⌝ }
+pub fn decode_refusal(row: Row, word: &[u8], k: usize, l: usize) -> u8
+    ensures { λ r. ⌜ r ≡ decodeNumber row (now (word .entry)) k l ⌝ }
 {
-    if !((1 <= profile) & (profile <= 4)) {
-        return 1;
-    }
-    let row = row_of(profile);
     if !((word.len() == row.codeword) & (k == row.message) & (l == row.message)) {
         return 2;
     }

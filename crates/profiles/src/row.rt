@@ -1,7 +1,6 @@
-// The four profiles (01: The four profiles), a row each, with the numbers that follow from q, r and n.
+// The four profiles (01: The four profiles): a constant table of rows, with the numbers that follow from q, r and n, looked up by number.
 ghost use mathlib.Core.Path.{_≡_};
-ghost use Rattle.code.specs.Profiles.{derivedRow};
-ghost use Rattle.profiles.specs.Row.{cells};
+ghost use Rattle.profiles.specs.Row.{numbers, entries, lookedUp, tableAt};
 
 pub struct Row {
     pub q: u8,
@@ -19,9 +18,28 @@ pub struct Row {
     pub delta: u8,
 }
 
-// 01's table, and what follows from zeros for a number past it.
-const ROWS: [Row; 5] = [
-    Row {
+// What a number is looked up as.
+pub enum Lookup {
+    Found(Row),
+    // 01: number 1.
+    NoProfile,
+}
+
+// A row as the table has it. The table is put on the stack at each lookup, so its numbers are as small as they can be.
+pub(crate) struct Entry {
+    pub(crate) q: u8,
+    pub(crate) r: u8,
+    pub(crate) n: u8,
+    pub(crate) message: u8,
+    pub(crate) balanced: u8,
+    pub(crate) codeword: u8,
+    pub(crate) middle: u16,
+    pub(crate) delta: u8,
+}
+
+// 01's table.
+const ROWS: [Entry; 4] = [
+    Entry {
         q: 3,
         r: 3,
         n: 8,
@@ -31,7 +49,7 @@ const ROWS: [Row; 5] = [
         middle: 17,
         delta: 0,
     },
-    Row {
+    Entry {
         q: 3,
         r: 4,
         n: 26,
@@ -41,7 +59,7 @@ const ROWS: [Row; 5] = [
         middle: 53,
         delta: 0,
     },
-    Row {
+    Entry {
         q: 5,
         r: 3,
         n: 24,
@@ -51,7 +69,7 @@ const ROWS: [Row; 5] = [
         middle: 98,
         delta: 1,
     },
-    Row {
+    Entry {
         q: 7,
         r: 3,
         n: 48,
@@ -61,35 +79,32 @@ const ROWS: [Row; 5] = [
         middle: 291,
         delta: 2,
     },
-    Row {
-        q: 0,
-        r: 0,
-        n: 0,
-        message: 0,
-        balanced: 1,
-        codeword: 3,
-        middle: 0,
-        delta: 0,
-    },
 ];
 
-// The row of a profile. The definitions give 0 the first row's parameters, and 5 and up zeros. Each row has a way out of its own, so that the
-// compiler need not put the table into memory to look into it.
-pub fn row_of(profile: usize) -> Row
-    ensures { λ t. ⌜ cells profile t ≡ derivedRow profile ⌝ }
+// The row in the numbers that lengths and weights are compared with.
+fn widened(e: Entry) -> Row
+    ensures { λ t. ⌜ numbers t ≡ entries e ⌝ }
+{
+    Row {
+        q: e.q,
+        r: e.r as usize,
+        n: e.n as usize,
+        message: e.message as usize,
+        balanced: e.balanced as usize,
+        codeword: e.codeword as usize,
+        middle: e.middle as usize,
+        delta: e.delta,
+    }
+}
+
+// The row of a profile, by its number.
+pub fn row_of(profile: usize) -> Lookup
+    ensures { λ r. ⌜ lookedUp profile r ≡ tableAt profile ⌝ }
 {
     let rows = ROWS;
-    if 4 < profile {
-        return rows[4];
+    if !((1 <= profile) & (profile <= rows.len())) {
+        return Lookup::NoProfile;
     }
-    if profile == 4 {
-        return rows[3];
-    }
-    if profile == 3 {
-        return rows[2];
-    }
-    if profile == 2 {
-        return rows[1];
-    }
-    rows[0]
+    let i = profile - 1;
+    Lookup::Found(widened(rows[i]))
 }

@@ -1,6 +1,6 @@
 -- The columns
 pub mod Digits
-pub mod DigitRows
+pub mod Counting
 -- Sums mod q
 pub mod Reduce
 -- Words and their weight

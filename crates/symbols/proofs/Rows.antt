@@ -14,7 +14,7 @@ use Rattle.code.specs.Component.{checkRow, syndrome}
 use Rattle.symbols.specs.declared.syndromes.Sums.{Sums}
 use Rattle.symbols.specs.Remainder.{residue}
 use Rattle.symbols.specs.Columns.{Columns}
-use Rattle.symbols.specs.Syndromes.{digit, rowSums, Light, Added}
+use Rattle.symbols.specs.Syndromes.{fourRows, digit, rowSums, Light, Added}
 use Rattle.symbols.proofs.Digits.{digits-high}
 use Rattle.symbols.proofs.Reduce.{residue-is}
 use Rattle.symbols.proofs.Words.{dot-take, weight-take}
@@ -68,21 +68,21 @@ module _ {columns : List (List ℕ)} {c : List ℕ} {i : ℕ} {s : Sums} (h : Su
       e ∙ rw (h .low, h .middle, h .high, h .ones, t)
 
 -- a digit of a column, three of them
-column-digit : {q : ℕ} {columns : List (List ℕ)} → Columns q columns → (i j : ℕ) → i < 48 → j < 3 → digit columns j i ≡ checkRow q 4 j i
-column-digit {q} {columns} c i zero h k = ap (λ (l : List ℕ). getD l 0 0) (c .at i h)
-column-digit {q} {columns} c i (suc zero) h k = ap (λ (l : List ℕ). getD l 1 0) (c .at i h)
-column-digit {q} {columns} c i (suc (suc zero)) h k = ap (λ (l : List ℕ). getD l 2 0) (c .at i h)
-column-digit {q} {columns} c i (suc (suc (suc j))) h k = absurd (omega arith)
+column-digit : {q n : ℕ} {columns : List (List ℕ)} → Columns q n columns → (i j : ℕ) → i < n → j < 3 → digit columns j i ≡ checkRow (fourRows q n) j i
+column-digit c i zero h k = ap (λ (l : List ℕ). getD l 0 0) (c .at i h)
+column-digit c i (suc zero) h k = ap (λ (l : List ℕ). getD l 1 0) (c .at i h)
+column-digit c i (suc (suc zero)) h k = ap (λ (l : List ℕ). getD l 2 0) (c .at i h)
+column-digit c i (suc (suc (suc j))) h k = absurd (omega arith)
 
 -- The sums by a right table of columns.
-module _ {q : ℕ} {columns : List (List ℕ)} (some : 1 ≤ q) (right : Columns q columns) (c : List ℕ) (room : length c ≤ 48) where
-  digit-row : (j : ℕ) → j < 3 → residue q (dot (digit columns j) c) ≡ dot (checkRow q 4 j) c % q
+module _ {q n : ℕ} {columns : List (List ℕ)} (some : 1 ≤ q) (right : Columns q n columns) (c : List ℕ) (room : length c ≤ n) where
+  digit-row : (j : ℕ) → j < 3 → residue q (dot (digit columns j) c) ≡ dot (checkRow (fourRows q n) j) c % q
   digit-row j h =
       residue-is (dot (digit columns j) c) some
-      ∙ ap (λ (s : ℕ). s % q) (dot-same (digit columns j) (checkRow q 4 j) c (λ i l. column-digit right i j (omega arith) h))
+      ∙ ap (λ (s : ℕ). s % q) (dot-same (digit columns j) (checkRow (fourRows q n) j) c (λ i l. column-digit right i j (omega arith) h))
 
   -- they are the syndrome of four rows
-  pub sums-are : (j : ℕ) → j < 4 → getD (rowSums q columns c) j 0 ≡ syndrome q 4 c j
+  pub sums-are : (j : ℕ) → j < 4 → getD (rowSums q columns c) j 0 ≡ syndrome (fourRows q n) c j
   unfolding rowSums syndrome
   sums-are zero h = digit-row 0 (omega arith)
   sums-are (suc zero) h = digit-row 1 (omega arith)
@@ -92,17 +92,17 @@ module _ {q : ℕ} {columns : List (List ℕ)} (some : 1 ≤ q) (right : Columns
 
   pub sums-below : (j : ℕ) → j < 4 → getD (rowSums q columns c) j 0 < q
   unfolding syndrome
-  sums-below j h = rw (sums-are j h) (mod-lt (dot (checkRow q 4 j) c) some)
+  sums-below j h = rw (sums-are j h) (mod-lt (dot (checkRow (fourRows q n) j) c) some)
 
   -- a digit row past the digits of every position is 0
   pub sums-unused : (k : ℕ) → length c < q ^ k → (j : ℕ) → k ≤ j → j < 3 → getD (rowSums q columns c) j 0 ≡ 0
   unfolding syndrome
   sums-unused k within j h l =
       sums-are j (omega arith)
-      ∙ ap (λ (s : ℕ). s % q) (dot-same (checkRow q 4 j) (λ i. 0) c (λ i m. zero-at i m) ∙ dot-zero c)
+      ∙ ap (λ (s : ℕ). s % q) (dot-same (checkRow (fourRows q n) j) (λ i. 0) c (λ i m. zero-at i m) ∙ dot-zero c)
       ∙ zero-mod q
     where
-      zero-at : (i : ℕ) → i < length c → checkRow q 4 j i ≡ 0
+      zero-at : (i : ℕ) → i < length c → checkRow (fourRows q n) j i ≡ 0
       zero-at i m =
           sym (column-digit right i j (omega arith) l)
           ∙ ap (λ (d : List ℕ). getD d j 0) (right .at i (omega arith))

@@ -7,10 +7,15 @@ use mathlib.Core.List.{List, [], _∷_}
 use Prim.Native.Nat.{ℕ, _+_, _*_, _≤_}
 use lib.ListN.{getD, take, drop}
 use Rattle.modular.specs.Sum.{weight, dot}
+use Rattle.code.specs.Parameters.{Parameters}
 use Rattle.code.specs.Codeword.{alternate}
 use Rattle.symbols.specs.declared.syndromes.Sums.{Sums}
 use Rattle.symbols.specs.declared.syndromes.Syndrome.{Syndrome}
 use Rattle.symbols.specs.Remainder.{residue}
+
+-- q levels and n positions, with three digit rows and the row of ones
+abbrev pub fourRows : ℕ → ℕ → Parameters
+fourRows q n = record { q = q; r = 4; n = n }
 
 -- the rows in their order
 abbrev pub rows : Syndrome → List ℕ

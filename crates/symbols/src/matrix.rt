@@ -1,199 +1,83 @@
-// The columns of the check matrix (01: column i holds the digits of i in base q), a constant for each number of levels.
+// The columns of the check matrix (01: column i holds the digits of i in base q), counted up.
 ghost use mathlib.Core.Path.{_≡_};
-ghost use Rattle.symbols.specs.Columns.{digitRows, columnsOf};
+ghost use Prim.Native.Nat.{ℕ, suc, _<_};
+ghost use Rattle.modular.specs.Digits.{digits};
+ghost use Rattle.symbols.specs.Columns.{counted, positions, columnsOf};
 
 // A column for each position from 1 to 48.
 pub type Matrix = [[u8; 3]; 48];
 
-// Three digits in base 3 of each position from 1 to 48, the lowest first.
-const BASE_3: Matrix = [
-    [1, 0, 0],
-    [2, 0, 0],
-    [0, 1, 0],
-    [1, 1, 0],
-    [2, 1, 0],
-    [0, 2, 0],
-    [1, 2, 0],
-    [2, 2, 0],
-    [0, 0, 1],
-    [1, 0, 1],
-    [2, 0, 1],
-    [0, 1, 1],
-    [1, 1, 1],
-    [2, 1, 1],
-    [0, 2, 1],
-    [1, 2, 1],
-    [2, 2, 1],
-    [0, 0, 2],
-    [1, 0, 2],
-    [2, 0, 2],
-    [0, 1, 2],
-    [1, 1, 2],
-    [2, 1, 2],
-    [0, 2, 2],
-    [1, 2, 2],
-    [2, 2, 2],
-    [0, 0, 0],
-    [1, 0, 0],
-    [2, 0, 0],
-    [0, 1, 0],
-    [1, 1, 0],
-    [2, 1, 0],
-    [0, 2, 0],
-    [1, 2, 0],
-    [2, 2, 0],
-    [0, 0, 1],
-    [1, 0, 1],
-    [2, 0, 1],
-    [0, 1, 1],
-    [1, 1, 1],
-    [2, 1, 1],
-    [0, 2, 1],
-    [1, 2, 1],
-    [2, 2, 1],
-    [0, 0, 2],
-    [1, 0, 2],
-    [2, 0, 2],
-    [0, 1, 2],
-];
-
-// Three digits in base 5 of each position from 1 to 48, the lowest first.
-const BASE_5: Matrix = [
-    [1, 0, 0],
-    [2, 0, 0],
-    [3, 0, 0],
-    [4, 0, 0],
-    [0, 1, 0],
-    [1, 1, 0],
-    [2, 1, 0],
-    [3, 1, 0],
-    [4, 1, 0],
-    [0, 2, 0],
-    [1, 2, 0],
-    [2, 2, 0],
-    [3, 2, 0],
-    [4, 2, 0],
-    [0, 3, 0],
-    [1, 3, 0],
-    [2, 3, 0],
-    [3, 3, 0],
-    [4, 3, 0],
-    [0, 4, 0],
-    [1, 4, 0],
-    [2, 4, 0],
-    [3, 4, 0],
-    [4, 4, 0],
-    [0, 0, 1],
-    [1, 0, 1],
-    [2, 0, 1],
-    [3, 0, 1],
-    [4, 0, 1],
-    [0, 1, 1],
-    [1, 1, 1],
-    [2, 1, 1],
-    [3, 1, 1],
-    [4, 1, 1],
-    [0, 2, 1],
-    [1, 2, 1],
-    [2, 2, 1],
-    [3, 2, 1],
-    [4, 2, 1],
-    [0, 3, 1],
-    [1, 3, 1],
-    [2, 3, 1],
-    [3, 3, 1],
-    [4, 3, 1],
-    [0, 4, 1],
-    [1, 4, 1],
-    [2, 4, 1],
-    [3, 4, 1],
-];
-
-// Three digits in base 7 of each position from 1 to 48, the lowest first.
-const BASE_7: Matrix = [
-    [1, 0, 0],
-    [2, 0, 0],
-    [3, 0, 0],
-    [4, 0, 0],
-    [5, 0, 0],
-    [6, 0, 0],
-    [0, 1, 0],
-    [1, 1, 0],
-    [2, 1, 0],
-    [3, 1, 0],
-    [4, 1, 0],
-    [5, 1, 0],
-    [6, 1, 0],
-    [0, 2, 0],
-    [1, 2, 0],
-    [2, 2, 0],
-    [3, 2, 0],
-    [4, 2, 0],
-    [5, 2, 0],
-    [6, 2, 0],
-    [0, 3, 0],
-    [1, 3, 0],
-    [2, 3, 0],
-    [3, 3, 0],
-    [4, 3, 0],
-    [5, 3, 0],
-    [6, 3, 0],
-    [0, 4, 0],
-    [1, 4, 0],
-    [2, 4, 0],
-    [3, 4, 0],
-    [4, 4, 0],
-    [5, 4, 0],
-    [6, 4, 0],
-    [0, 5, 0],
-    [1, 5, 0],
-    [2, 5, 0],
-    [3, 5, 0],
-    [4, 5, 0],
-    [5, 5, 0],
-    [6, 5, 0],
-    [0, 6, 0],
-    [1, 6, 0],
-    [2, 6, 0],
-    [3, 6, 0],
-    [4, 6, 0],
-    [5, 6, 0],
-    [6, 6, 0],
-];
-
-fn base_3() -> Matrix
-    ensures { λ r. ⌜ r ≡ digitRows 3 1 48 ⌝ }
-{
-    BASE_3
+// Three digits of a number, the lowest first.
+pub(crate) struct Count {
+    pub(crate) first: u8,
+    pub(crate) second: u8,
+    pub(crate) third: u8,
 }
 
-fn base_5() -> Matrix
-    ensures { λ r. ⌜ r ≡ digitRows 5 1 48 ⌝ }
+// The digits in base q of the number after that with the digits d. A way out for each carry is quicker than a test of each digit.
+fn next(q: u8, d: Count) -> Count
+    requires { ⌜ (d .first < q) × (d .second < q) × (d .third < q) ⌝ }
+    ensures { λ r. ⌜ ((i : ℕ) → counted d ≡ digits q 3 i → counted r ≡ digits q 3 (suc i)) ⌝ }
 {
-    BASE_5
+    if d.first + 1 < q {
+        return Count {
+            first: d.first + 1,
+            second: d.second,
+            third: d.third,
+        };
+    }
+    if d.second + 1 < q {
+        return Count {
+            first: 0,
+            second: d.second + 1,
+            third: d.third,
+        };
+    }
+    if d.third + 1 < q {
+        return Count {
+            first: 0,
+            second: 0,
+            third: d.third + 1,
+        };
+    }
+    Count {
+        first: 0,
+        second: 0,
+        third: 0,
+    }
 }
 
-fn base_7() -> Matrix
-    ensures { λ r. ⌜ r ≡ digitRows 7 1 48 ⌝ }
+// How many positions have a column.
+fn positions(q: u8, n: usize) -> usize
+    ensures { λ r. ⌜ r ≡ positions q n ⌝ }
 {
-    BASE_7
+    if q == 0 {
+        return 0;
+    }
+    if 48 < n {
+        return 48;
+    }
+    n
 }
 
-// The columns of a profile: an array of digit arrays; zeros where the number is no profile's.
-pub fn columns(profile: usize) -> Matrix
-    ensures { λ r. ⌜ r ≡ columnsOf profile ⌝ }
+// Three digits in base q of each position from 1 to n, the lowest first: an array of digit arrays. The rows after them are zeros. There is one way out,
+// so that the compiler builds the table where it is used.
+pub fn columns(q: u8, n: usize) -> Matrix
+    ensures { λ r. ⌜ r ≡ columnsOf q n ⌝ }
 {
-    if profile == 1 {
-        return base_3();
+    let mut table = [[0u8; 3]; 48];
+    let end = positions(q, n);
+    let mut digits = Count {
+        first: 0,
+        second: 0,
+        third: 0,
+    };
+    let mut i = 0;
+    while i < end {
+        digits = next(q, digits);
+        let column = [digits.first, digits.second, digits.third];
+        table[i] = column;
+        i += 1;
     }
-    if profile == 2 {
-        return base_3();
-    }
-    if profile == 3 {
-        return base_5();
-    }
-    if profile == 4 {
-        return base_7();
-    }
-    [[0u8; 3]; 48]
+    table
 }

@@ -11,7 +11,8 @@ use lib.ListN.{getD}
 use Rattle.modular.proofs.Search.{fails, same-test, all-at}
 use Rattle.decoding.specs.Syndromes.{value, zeroSyndrome, columnPosition, columnSyndrome}
 use Rattle.decoding.proofs.Near.{named, named-test}
-use Rattle.syndromes.specs.FourRows.{fourRows, zeroRows}
+use Rattle.symbols.specs.Syndromes.{fourRows}
+use Rattle.syndromes.specs.FourRows.{zeroRows}
 
 -- one of the four is not 0
 pub zero-not : (S : List ℕ) (j : ℕ) → j < 4 → getD S j 0 ≢ 0 → false ≡ zeroRows S

@@ -6,12 +6,7 @@ use Prim.Native.Nat.{ℕ}
 use lib.Dec.{eqb}
 use lib.ListN.{getD}
 use Rattle.modular.specs.Search.{allBelow}
-use Rattle.code.specs.Parameters.{Parameters}
 
--- q levels and n positions, with three digit rows and the row of ones
-abbrev pub fourRows : ℕ → ℕ → Parameters
-fourRows q n = record { q = q; r = 4; n = n }
-
--- every one of them is 0: a zero syndrome whatever q and n are
+-- each of the four is 0: a zero syndrome whatever q and n are
 unfoldable pub zeroRows : List ℕ → Bool
 zeroRows S = allBelow (λ j. eqb (getD S j 0) 0) 4

@@ -1,6 +1,10 @@
--- What a balanced word is, by three tests.
+-- What a balanced word is, by three tests, and what each verdict says of it.
 -- Assumes nothing.
 use mathlib.Core.Bool.{Bool, true, false}
+use Prim.Native.Nat.{ℕ, _+_}
+use Rattle.code.specs.Reading.{correctionAt, clean, corrected}
+use Rattle.code.specs.Operations.{Report, failure, success}
+use Rattle.syndromes.specs.declared.checks.Checks.{Checks}
 use Rattle.syndromes.specs.declared.checks.Verdict.{Verdict}
 use Rattle.syndromes.specs.declared.checks.Verdict.the-variants.{Clean, Alpha, Beta, Unreadable}
 
@@ -11,3 +15,10 @@ verdictOf true true true = Clean
 verdictOf true true false = Beta
 verdictOf true false true = Alpha
 verdictOf true false false = Unreadable
+
+-- 01: kind, place and symbol, or 4: the body has m symbols, asks for the first check symbols, and came with the second ones
+abbrev pub verdictReport : ℕ → Checks → Checks → Verdict → Report
+verdictReport m asked arrived Clean = success clean
+verdictReport m asked arrived Alpha = success (corrected (correctionAt m (arrived .alpha) (asked .alpha)))
+verdictReport m asked arrived Beta = success (corrected (correctionAt (m + 1) (arrived .beta) (asked .beta)))
+verdictReport m asked arrived Unreadable = failure

@@ -6,8 +6,7 @@ use symbols::Syndrome;
 ghost use mathlib.Core.Path.{_≡_};
 ghost use lib.Dec.{eqb};
 ghost use Rattle.decoding.specs.Syndromes.{nearSyndromes};
-ghost use Rattle.symbols.specs.Syndromes.{rows};
-ghost use Rattle.syndromes.specs.FourRows.{fourRows};
+ghost use Rattle.symbols.specs.Syndromes.{fourRows, rows};
 ghost use Rattle.syndromes.specs.Verdict.{verdictOf};
 
 // Clean, or one check symbol is wrong: `asked` are those that the body asks for, `arrived` those received.

@@ -3,8 +3,8 @@ use symbols::Syndrome;
 ghost use mathlib.Core.Path.{_≡_};
 ghost use Prim.Native.Nat.{_≤_};
 ghost use Rattle.decoding.specs.Syndromes.{value, columnSyndrome, nearSyndromes};
-ghost use Rattle.symbols.specs.Syndromes.{rows};
-ghost use Rattle.syndromes.specs.FourRows.{fourRows, zeroRows};
+ghost use Rattle.symbols.specs.Syndromes.{fourRows, rows};
+ghost use Rattle.syndromes.specs.FourRows.{zeroRows};
 
 // A byte as a number that positions are made of.
 fn wide(x: u8) -> usize

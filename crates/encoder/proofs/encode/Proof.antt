@@ -1,53 +1,112 @@
 -- `encoder::encode` meets its contract: what the steps refuse is what the definition refuses, before any byte is written; what they let through is
 -- encoded, and the word fills the output.
 -- Assumes nothing.
-use mathlib.Core.Path.{_≡_, sym, _∙_}
+use mathlib.Core.Path.{_≡_, sym, ap, _∙_}
+use mathlib.Core.List.{List}
+use Prim.Native.Nat.{ℕ}
 use native.Mathlib.Omega.{arith}
 use lib.ListN.{length}
 use denote.Ref.{now}
-use Rattle.code.specs.Profiles.{profile}
-use Rattle.code.specs.Operations.{encodeRefusal}
-use Rattle.profiles.proofs.Refusing.{Accepted, accepted, accepted-small}
-use Rattle.encoder.proofs.Refusing.{output-kept, output-done}
+use Rattle.code.specs.Operations.{outcome, encodeRefusal}
+use Rattle.profiles.specs.declared.row.Row.{Row}
+use Rattle.profiles.specs.Row.{RowOf}
+use Rattle.profiles.proofs.Table.{row-found, none-found, codeword-is}
+use Rattle.profiles.proofs.Refusing.{Accepted, accepted, encode-refused, encode-by-row}
+use Rattle.encoder.proofs.Refusing.{refused-outcome, output-kept, output-done}
 use borrow.Author.Needs.{needs}
 use Rattle.encoder.proofs.encode.Statement.{statement}
 use Rattle.encoder.proofs.encode.Tie as tie
 
+-- the row is the profile's
+module _ (c : tie.After-known-told) where
+  abbrev start : tie.Start
+  start = c .before .before .before .before .before .before .before
+
+  abbrev row : Row
+  row = c .before .row .given .0 .0
+
+  abbrev first : List ℕ
+  first = now (start .args .first)
+
+  abbrev second : List ℕ
+  second = now (start .args .second)
+
+  -- the symbols that the output has room for
+  abbrev room : ℕ
+  room = length (now (start .args .out))
+
+  abbrev refusal : ℕ
+  refusal = encodeRefusal (start .args .profile) first second room
+
+  of : RowOf (start .args .profile) row
+  of = row-found _ (c .before .before .before .row-of .ensures) (c .before .row .given .1)
+
+-- the number by the row is the definition's
+number-is : (c : tie.After-encode-refusal) → c .encode-refusal .result ≡ refusal (c .before)
+number-is c = c .encode-refusal .ensures ∙ encode-by-row _ _ _ _ (of (c .before))
+
 -- past the refusals
 module _ (c : tie.Else1) where
-  abbrev start : tie.Start
-  start = c .before .before .before .before .before
+  abbrev found : tie.After-known-told
+  found = c .before .before
 
-  none : 0 ≡ encodeRefusal (start .args .profile) (now (start .args .first)) (now (start .args .second)) (length (now (start .args .out)))
-  none = sym (c .if1 .left) ∙ c .before .encode-refusal .ensures
+  accept : Accepted (start found .args .profile) (first found) (second found) (room found)
+  accept = accepted _ _ _ _ (of found) (sym (c .before .encode-refusal .ensures) ∙ c .if1 .left)
 
-  accept : Accepted (start .args .profile) (now (start .args .first)) (now (start .args .second)) (length (now (start .args .out)))
-  accept = accepted _ _ _ _ none
+  none : 0 ≡ refusal found
+  none = sym (c .if1 .left) ∙ number-is (c .before)
+
+row-of-requires : tie.Need-row-of-requires
+row-of-requires c κs = search needs
+
+enum-known-row : tie.Need-enum-known-row
+enum-known-row c = search needs
+
+enum-told : tie.Need-enum-told
+enum-told c = search needs
+
+returns : tie.Need-returns
+returns c =
+    let e = encode-refused _ _ _ _ (none-found _ (c .before .before .row-of .ensures) (c .enum-told .given .1)) in
+    record { answer = ap outcome e; output = output-kept _ _ _ _ e (omega arith) }
 
 encode-refusal-requires : tie.Need-encode-refusal-requires
 encode-refusal-requires c κs = search needs
 
-returns : tie.Need-returns
-returns c = (c .before .encode-refusal .ensures, output-kept _ _ _ _ (c .before .encode-refusal .ensures) (c .if1 .taken))
+returns-2 : tie.Need-returns-2
+returns-2 c =
+    let number = number-is (c .before) in
+    record { answer = refused-outcome number (c .if1 .taken); output = output-kept _ _ _ _ number (c .if1 .taken) }
 
 written-requires : tie.Need-written-requires
-written-requires c κs = (accept c .in-table, accept c .first, accept c .second)
+written-requires c κs = (of (found c), accept c .first, accept c .second)
 
 put-requires : tie.Need-put-requires
 put-requires c κs =
     let e = c .before .written .ensures .1 in
-    let a = accept (c .before .before) in
-    (e ∙ sym (a .room), omega (arith, e, accepted-small a))
+    let f = of (found (c .before .before)) in
+    (e ∙ sym (accept (c .before .before) .room), omega (arith, e, codeword-is f, f .valid .codeword, f .valid .length))
 
 same-length : tie.Need-same-length
 same-length c = search needs
 
-returns-2 : tie.Need-returns-2
-returns-2 c =
+returns-3 : tie.Need-returns-3
+returns-3 c =
     let d = c .before .before .before .before .before in
-    (none d, c .before .before .put .ensures ∙ c .before .before .before .before .written .ensures .0 ∙ output-done _ _ _ _ (none d))
+    let word = c .before .before .put .ensures ∙ c .before .before .before .before .written .ensures .0 in
+    record { answer = ap outcome (none d); output = word ∙ output-done _ _ _ _ (none d) }
 
 pub encode-spec : {M : Type 1} → statement M
 encode-spec =
     tie.close
-    (tie.spec encode-refusal-requires returns written-requires put-requires same-length returns-2)
+    (tie.spec
+    row-of-requires
+    enum-known-row
+    enum-told
+    returns
+    encode-refusal-requires
+    returns-2
+    written-requires
+    put-requires
+    same-length
+    returns-3)

@@ -5,43 +5,54 @@ use mathlib.Core.Bool.{true, false}
 use Prim.Native.Nat.{_<_}
 use native.Mathlib.Nat.{min-eq-left}
 use denote.Ref.{now}
-use Rattle.symbols.specs.Columns.{columnsOf}
+use Rattle.code.proofs.Columns.{q-positive}
+use Rattle.symbols.specs.Columns.{Columns}
 use Rattle.symbols.specs.declared.syndromes.Syndrome.{Syndrome}
 use Rattle.symbols.specs.Syndromes.{rows, part, rowSums}
+use Rattle.symbols.proofs.Counting.{columns-right}
 use Rattle.symbols.proofs.Parts.{part-length}
 use borrow.Author.Needs.{needs}
 use Rattle.components.proofs.Pairing.{sums-symbols, components-made}
 use Rattle.components.proofs.component.interleaved.Statement.{statement}
 use Rattle.components.proofs.component.interleaved.Tie as tie
 
--- the sums are those of the two components
-module _ (c : tie.After-syndromes-by) where
+-- the columns are those of the row, and the sums those of the two components
+module _ (c : tie.After-syndromes-of) where
+  abbrev built : tie.After-columns
+  built = c .before .before .before
+
   abbrev start : tie.Start
-  start = c .before .before .before .before .before
+  start = built .before .before .before .before
 
-  first : rows (c .syndromes-by .result .first) ≡ rowSums (start .args .row .q) (columnsOf (start .args .profile)) (part true (start .args .row .n) (c .before .before .placed .result))
-  first = rw (min-eq-left (start .pre .0 .length)) at (c .syndromes-by .ensures .0)
+  right : Columns (start .args .row .q) (start .args .row .n) (built .columns .result)
+  right = columns-right (built .columns .ensures) (q-positive _ (start .pre .0 .sized)) (start .pre .0 .length)
 
-  second : rows (c .syndromes-by .result .second) ≡ rowSums (start .args .row .q) (columnsOf (start .args .profile)) (part false (start .args .row .n) (c .before .before .placed .result))
-  second = rw (min-eq-left (start .pre .0 .length)) at (c .syndromes-by .ensures .1)
+  first : rows (c .syndromes-of .result .first) ≡ rowSums (start .args .row .q) (built .columns .result) (part true (start .args .row .n) (built .before .placed .result))
+  first = rw (min-eq-left (start .pre .0 .length)) at (c .syndromes-of .ensures .0)
+
+  second : rows (c .syndromes-of .result .second) ≡ rowSums (start .args .row .q) (built .columns .result) (part false (start .args .row .n) (built .before .placed .result))
+  second = rw (min-eq-left (start .pre .0 .length)) at (c .syndromes-of .ensures .1)
 
   -- and symbols
   abbrev Symbols : Syndrome → Type 0
   Symbols s = (s .low < start .args .row .q) × (s .middle < start .args .row .q) × (s .high < start .args .row .q) × (s .ones < start .args .row .q)
 
-  both : Symbols (c .syndromes-by .result .first) × Symbols (c .syndromes-by .result .second)
+  both : Symbols (c .syndromes-of .result .first) × Symbols (c .syndromes-of .result .second)
   both = (
-    sums-symbols (start .args .row) (start .pre .0) (start .pre .3) _ _ (part-length true _ _) first,
-    sums-symbols (start .args .row) (start .pre .0) (start .pre .3) _ _ (part-length false _ _) second,
+    sums-symbols (start .args .row) (start .pre .0) right _ _ (part-length true _ _) first,
+    sums-symbols (start .args .row) (start .pre .0) right _ _ (part-length false _ _) second,
   )
 
 placed-requires : tie.Need-placed-requires
 placed-requires c κs =
     let a = c .before .before in
-    (a .pre .0, a .pre .4, a .pre .5)
+    (a .pre .0, a .pre .2, a .pre .3)
 
-syndromes-by-requires : tie.Need-syndromes-by-requires
-syndromes-by-requires c κs = search needs
+columns-requires : tie.Need-columns-requires
+columns-requires c κs = search needs
+
+syndromes-of-requires : tie.Need-syndromes-of-requires
+syndromes-of-requires c κs = search needs
 
 check-symbols-requires : tie.Need-check-symbols-requires
 check-symbols-requires c κs = search (both c)
@@ -58,7 +69,7 @@ returns : tie.Need-returns
 returns c =
     let s = c .before .before .before in
     let a = start s in
-    components-made (a .args .row) (a .pre .0) (a .pre .3) (now (a .args .first)) (now (a .args .second)) (a .pre .4) (a .pre .5) (s .before .before .placed .ensures)
+    components-made (a .args .row) (a .pre .0) (right s) (now (a .args .first)) (now (a .args .second)) (a .pre .2) (a .pre .3) (built s .before .placed .ensures)
     (c .filled .ensures) (search needs) (first s) (second s) (c .before .before .check-symbols .ensures) (c .before .check-symbols2 .ensures)
 
 pub interleaved-spec : {M : Type 1} → statement M
@@ -66,7 +77,8 @@ interleaved-spec =
     tie.close
     (tie.spec
     placed-requires
-    syndromes-by-requires
+    columns-requires
+    syndromes-of-requires
     check-symbols-requires
     check-symbols-requires-2
     filled-requires

@@ -14,7 +14,7 @@ use Rattle.components.proofs.component.placed.Statement.{statement}
 use Rattle.components.proofs.component.placed.Tie as tie
 
 abbrev Inv-loop : tie.InvT-loop
-Inv-loop row first second q x₀ power₀ next₀ position₀ x power next position = Pair (row .q) (row .r) (row .n) first second x power next position
+Inv-loop row first second q x₀ power₀ next₀ position₀ x power next position = Pair (parameters row) first second x power next position
 
 abbrev μ-loop : tie.MeasureT-loop
 μ-loop row first second q x₀ power₀ next₀ position₀ x power next position = suc (row .n) - position
@@ -37,7 +37,7 @@ cast-q : tie.Need-cast-q Inv-loop μ-loop
 cast-q c = search needs
 
 loop-holds : tie.Need-loop-holds Inv-loop μ-loop
-loop-holds c = pair-none _ _ _ _ _ (c .before .before .before .pre .0 .length)
+loop-holds c = pair-none _ _ _ (c .before .before .before .pre .0 .length)
 
 mul-power : tie.Need-mul-power Inv-loop μ-loop
 mul-power c =
@@ -78,7 +78,9 @@ loop-again c =
     (c .if2 .came)
 
 returns : tie.Need-returns Inv-loop μ-loop
-returns c = pair-all (c .before .before .loop .inv) (c .if1 .left)
+returns c =
+    let l = c .before .before in
+    pair-all (l .before .before .before .before .args .row) (l .loop .inv) (c .if1 .left)
 
 pub placed-spec : {M : Type 1} → statement M
 placed-spec =

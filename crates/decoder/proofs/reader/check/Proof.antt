@@ -17,14 +17,14 @@ enum-told c = search needs
 enum-told-2 : tie.Need-enum-told-2
 enum-told-2 c = search needs
 
-add-t9 : tie.Need-add-t9
-add-t9 c = search needs
+add-position : tie.Need-add-position
+add-position c = search needs
 
 enum-told-3 : tie.Need-enum-told-3
 enum-told-3 c = search needs
 
-add-t10 : tie.Need-add-t10
-add-t10 c = search needs
+add-position-2 : tie.Need-add-position-2
+add-position-2 c = search needs
 
 enum-told-4 : tie.Need-enum-told-4
 enum-told-4 c = search needs
@@ -56,9 +56,9 @@ check-spec =
     verdict-requires
     enum-told
     enum-told-2
-    add-t9
+    add-position
     enum-told-3
-    add-t10
+    add-position-2
     enum-told-4
     returns
     returns-2

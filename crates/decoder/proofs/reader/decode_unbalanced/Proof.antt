@@ -25,8 +25,8 @@ moves-requires c κs = let p = c .before .before .before .before .before .pre in
 moves-requires-2 : tie.Need-moves-requires-2
 moves-requires-2 c κs = let p = c .before .before .before .before .before .before .pre in (p .0 .valid, p .2)
 
-try-places-requires : tie.Need-try-places-requires
-try-places-requires c κs = let s = c .before .before .before .before .before .before .before .before .before in (s .pre .0, s .pre .1, s .pre .2, both (c .before .before), c .before .before .before .before .if1 .left)
+locate-requires : tie.Need-locate-requires
+locate-requires c κs = let s = c .before .before .before .before .before .before .before .before .before in (s .pre .0, s .pre .1, s .pre .2, both (c .before .before), c .before .before .before .before .if1 .left)
 
 enum-known-k : tie.Need-enum-known-k
 enum-known-k c = search needs
@@ -38,12 +38,12 @@ returns-2 : tie.Need-returns-2
 returns-2 c =
     answers-unreadable _ _
     (unbalanced-one _ _ _ (c .before .before .before .before .before .before .before .before .wrong-parity .ensures) (c .before .before .before .before .before .before .before .if1 .left)
-    ∙ body-none _ _ _ _ (subst (Found _ _) (c .enum-told .given .1) (c .before .before .try-places .ensures)))
+    ∙ body-none _ _ _ _ (subst (Found _ _) (c .enum-told .given .1) (c .before .before .locate .ensures)))
 
 correct-requires : tie.Need-correct-requires
 correct-requires c κs =
     let s = c .before .before .before .before .before .before .before .before .before .before .before .before .before .before .before .before .before in
-    let l = subst (Found _ _) (c .before .before .before .before .before .k .given .1) (c .before .before .before .before .before .before .before .try-places .ensures) in
+    let l = subst (Found _ _) (c .before .before .before .before .before .k .given .1) (c .before .before .before .before .before .before .before .locate .ensures) in
     (s .pre .0, s .pre .1, s .pre .2, both (c .before .before .before .before .before .before .before .before .before .before), c .before .before .before .before .before .before .before .before .before .before .before .before .if1 .left, l, record { first-long = s .pre .3 .first-long; second-long = s .pre .3 .second-long })
 
 same-length : tie.Need-same-length
@@ -63,7 +63,7 @@ decode-unbalanced-spec =
     returns
     moves-requires
     moves-requires-2
-    try-places-requires
+    locate-requires
     enum-known-k
     enum-told
     returns-2

@@ -1,20 +1,48 @@
--- `decoder::reader::decode_word` meets its contract: the number that each call is made with is the profile's.
+-- `decoder::reader::decode_word` meets its contract: the word's sums are those of the definition, and decide whether it is balanced.
 -- Assumes nothing.
 use borrow.Author.Needs.{needs}
-use mathlib.Core.Path.{_≡_, sym, ap, _∙_}
-use Rattle.profiles.proofs.Numbers.{number-four}
-use Rattle.profiles.specs.Refusal.{refusalNumber}
-use Rattle.decoder.proofs.Answering.{answers-as, as-number}
-use Rattle.profiles.proofs.Refusing.{profile-known}
+use mathlib.Core.Path.{refl}
+use denote.Ref.{now}
+use Rattle.code.proofs.Columns.{q-positive}
+use Rattle.symbols.specs.Columns.{Columns}
+use Rattle.symbols.proofs.Counting.{columns-right}
+use Rattle.decoder.specs.Written.{Outputs}
+use Rattle.decoder.proofs.Answering.{answers-as}
+use Rattle.decoder.proofs.Admitting.{balanced-answer, unbalanced-answer}
 use Rattle.decoder.proofs.reader.decode_word.Statement.{statement}
 use Rattle.decoder.proofs.reader.decode_word.Tie as tie
 
--- what is left after 1, 2 and 3
-four : (c : tie.Else3) → c .before .before .before .before .before .before .args .profile ≡ 4
-four c = number-four (profile-known _ _ _ _ (c .before .before .before .before .before .before .pre)) (c .before .before .if1 .left) (c .before .if2 .left) (c .if3 .left)
+abbrev start : tie.After-columns → tie.Start
+start c = c .before .before .before .before
 
-decode-by-requires : tie.Need-decode-by-requires
-decode-by-requires c κs = sym (ap refusalNumber (as-number (c .before .before .if1 .taken) _ _ _)) ∙ c .before .before .before .before .before .before .pre
+-- the columns are the row's
+matrix : (c : tie.After-columns) → Columns (start c .args .row .q) (start c .args .row .n) (c .columns .result)
+matrix c =
+    let valid = start c .pre .0 .valid in
+    columns-right (c .columns .ensures) (q-positive _ (valid .sized)) (valid .length)
+
+-- the moment after the sums, and where their columns were built
+abbrev summed : tie.After-struct-known2 → tie.After-sums-of
+summed c = c .before .before
+
+abbrev built : tie.After-sums-of → tie.After-columns
+built c = c .before .before .before
+
+-- the outputs are as long as the row's messages
+outputs : (c : tie.After-sums-of) → Outputs (start (built c) .args .row) (now (start (built c) .args .first)) (now (start (built c) .args .second))
+outputs c = start (built c) .pre .1
+
+columns-requires : tie.Need-columns-requires
+columns-requires c κs = search needs
+
+sums-of-requires : tie.Need-sums-of-requires
+sums-of-requires c κs = (start (c .before .before) .pre .0, matrix (c .before .before), refl)
+
+decode-unbalanced-requires : tie.Need-decode-unbalanced-requires
+decode-unbalanced-requires c κs =
+    let m = summed (c .before .before .before .before) in
+    let o = outputs m in
+    (start (built m) .pre .0, matrix (built m), m .sums-of .ensures .totalled, record { first-long = o .first-long; second-long = o .second-long })
 
 same-length : tie.Need-same-length
 same-length c = search needs
@@ -23,10 +51,19 @@ same-length-2 : tie.Need-same-length-2
 same-length-2 c = search needs
 
 returns : tie.Need-returns
-returns c = answers-as (as-number (c .before .before .before .before .before .before .before .if1 .taken) _ _ _) (c .before .before .before .before .decode-by .ensures)
+returns c =
+    let done = c .before .before .before .before in
+    let unbalanced = done .before .before .before .before in
+    let m = summed (unbalanced .before) in
+    let a = start (built m) in
+    answers-as (unbalanced-answer (a .pre .0 .valid) (now (a .args .word)) (m .sums-of .result) (m .sums-of .ensures .are) (unbalanced .if1 .taken))
+    (done .decode-unbalanced .ensures)
 
-decode-by-requires-2 : tie.Need-decode-by-requires-2
-decode-by-requires-2 c κs = sym (ap refusalNumber (as-number (c .before .before .if2 .taken) _ _ _)) ∙ c .before .before .before .before .before .before .before .pre
+decode-balanced-requires : tie.Need-decode-balanced-requires
+decode-balanced-requires c κs =
+    let m = summed (c .before .before .before .before) in
+    let o = outputs m in
+    (m .sums-of .ensures .held .levels, m .sums-of .ensures .totalled, record { first-long = o .first-long; second-long = o .second-long })
 
 same-length-3 : tie.Need-same-length-3
 same-length-3 c = search needs
@@ -35,49 +72,25 @@ same-length-4 : tie.Need-same-length-4
 same-length-4 c = search needs
 
 returns-2 : tie.Need-returns-2
-returns-2 c = answers-as (as-number (c .before .before .before .before .before .before .before .if2 .taken) _ _ _) (c .before .before .before .before .decode-by2 .ensures)
-
-decode-by-requires-3 : tie.Need-decode-by-requires-3
-decode-by-requires-3 c κs = sym (ap refusalNumber (as-number (c .before .before .if3 .taken) _ _ _)) ∙ c .before .before .before .before .before .before .before .before .pre
-
-same-length-5 : tie.Need-same-length-5
-same-length-5 c = search needs
-
-same-length-6 : tie.Need-same-length-6
-same-length-6 c = search needs
-
-returns-3 : tie.Need-returns-3
-returns-3 c = answers-as (as-number (c .before .before .before .before .before .before .before .if3 .taken) _ _ _) (c .before .before .before .before .decode-by3 .ensures)
-
-decode-by-requires-4 : tie.Need-decode-by-requires-4
-decode-by-requires-4 c κs = sym (ap refusalNumber (as-number (four (c .before .before)) _ _ _)) ∙ c .before .before .before .before .before .before .before .before .pre
-
-same-length-7 : tie.Need-same-length-7
-same-length-7 c = search needs
-
-same-length-8 : tie.Need-same-length-8
-same-length-8 c = search needs
-
-returns-4 : tie.Need-returns-4
-returns-4 c = answers-as (as-number (four (c .before .before .before .before .before .before .before)) _ _ _) (c .before .before .before .before .decode-by4 .ensures)
+returns-2 c =
+    let done = c .before .before .before .before in
+    let balanced = done .before .before .before .before in
+    let m = summed (balanced .before) in
+    let a = start (built m) in
+    answers-as (balanced-answer (a .pre .0 .valid) (now (a .args .word)) (m .sums-of .result) (m .sums-of .ensures .are) (balanced .if1 .left))
+    (done .decode-balanced .ensures .to (now (a .args .word)) (m .sums-of .ensures .held .parts))
 
 pub decode-word-spec : {M : Type 1} → statement M
 decode-word-spec =
     tie.close
     (tie.spec
-    decode-by-requires
+    columns-requires
+    sums-of-requires
+    decode-unbalanced-requires
     same-length
     same-length-2
     returns
-    decode-by-requires-2
+    decode-balanced-requires
     same-length-3
     same-length-4
-    returns-2
-    decode-by-requires-3
-    same-length-5
-    same-length-6
-    returns-3
-    decode-by-requires-4
-    same-length-7
-    same-length-8
-    returns-4)
+    returns-2)

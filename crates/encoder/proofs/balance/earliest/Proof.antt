@@ -146,7 +146,7 @@ returns : tie.Need-returns Inv-loop μ-loop Inv-search μ-search
 returns c =
     let i = c .before .before in
     let a = start i in
-    all-found (a .args .row) (a .pre .0) (size a) (i .before .before .before .before .search .inv) (i .before .loop .inv) (omega (arith, size a, i .loop-test .taken))
+    all-found (a .args .row) (a .pre .0) (size a) (a .pre .2) (i .before .before .before .before .search .inv) (i .before .loop .inv) (omega (arith, size a, i .loop-test .taken))
     (c .if1 .taken ∙ middle a)
 
 pub earliest-spec : {M : Type 1} → statement M

@@ -1,106 +1,46 @@
--- `encoder::writer::written` meets its contract: each call is by the number that the profile has.
+-- `encoder::writer::written` meets its contract: the steps are those of the definition.
 -- Assumes nothing.
-use mathlib.Core.Path.{_≡_, sym, subst}
-use mathlib.Core.List.{List}
-use Prim.Native.Nat.{ℕ}
-use lib.Dec.{T}
-use denote.Ref.{now}
 use borrow.Author.Needs.{needs}
-use Rattle.code.specs.Parameters.{messageLength, codewordLength}
+use lib.Dec.{T}
+use Rattle.code.specs.Parameters.{messageLength}
 use Rattle.code.specs.Component.{isWord}
-use Rattle.code.specs.Codeword.{encoded}
-use Rattle.code.specs.Profiles.{isProfile, profile, derivedRow}
-use Rattle.profiles.specs.declared.row.Row.{Row}
-use Rattle.profiles.specs.Row.{cells, RowOf}
-use Rattle.profiles.proofs.Table.{row-of-profile}
-use Rattle.profiles.proofs.Numbers.{number-four}
+use Rattle.code.specs.Profiles.{profile}
+use denote.Ref.{now}
+use Rattle.encoder.specs.Symbols.{Symbols}
+use Rattle.encoder.proofs.Integrating.{balanced-symbols}
+use Rattle.encoder.proofs.Pairing.{pair-symbols, pair-encoded, pair-length}
 use Rattle.encoder.proofs.writer.written.Statement.{statement}
 use Rattle.encoder.proofs.writer.written.Tie as tie
 
--- what is asked and answered of the messages a and b, by a number
-abbrev Asked : List ℕ → List ℕ → ℕ → Type 0
-Asked a b n = T (isProfile n) × T (isWord (profile n .q) (messageLength (profile n)) a) × T (isWord (profile n .q) (messageLength (profile n)) b)
+-- x holds symbols
+module _ (c : tie.After-components) where
+  abbrev start : tie.Start
+  start = c .before .before .before
 
-abbrev Answered : List ℕ → List ℕ → List ℕ → ℕ → ℕ → Type 0
-Answered a b u l n = (u ≡ encoded (profile n) a b) × (l ≡ codewordLength (profile n))
+  abbrev pair : T (isWord (profile (start .args .number) .q) (messageLength (profile (start .args .number))) (now (start .args .first))) × T (isWord (profile (start .args .number) .q) (messageLength (profile (start .args .number))) (now (start .args .second)))
+  pair = (start .pre .1, start .pre .2)
 
--- the row of a number that the profile's is
-ready : (a b : List ℕ) {n : ℕ} (i : ℕ) → n ≡ i → Asked a b n → (t : Row) → cells i t ≡ derivedRow i
-    → RowOf i t × T (isProfile i) × T (isWord (profile i .q) (messageLength (profile i)) a) × T (isWord (profile i .q) (messageLength (profile i)) b)
-ready a b i same pre t e =
-    let h : Asked a b i = subst (Asked a b) same pre in
-    (row-of-profile i t (h .0) e, h .0, h .1, h .2)
+  symbols : Symbols (start .args .row .q) (start .args .row .balanced) (c .components .result)
+  symbols = pair-symbols (start .pre .0) (now (start .args .first)) (now (start .args .second)) pair (c .components .ensures) (search needs)
 
--- what is left after 1, 2 and 3
-four : (c : tie.Else3) → c .before .before .before .before .before .args .number ≡ 4
-four c =
-    number-four (c .before .before .before .before .before .pre .0) (c .before .before .if1 .left) (c .before .if2 .left) (c .if3 .left)
+components-requires : tie.Need-components-requires
+components-requires c κs = search needs
 
-row-of-requires : tie.Need-row-of-requires
-row-of-requires c κs = search needs
+balanced-requires : tie.Need-balanced-requires
+balanced-requires c κs = (start (c .before) .pre .0 .valid, symbols (c .before))
 
-written-by-requires : tie.Need-written-by-requires
-written-by-requires c κs =
-    let a = c .before .before .before .before in
-    ready (now (a .args .first)) (now (a .args .second)) 1 (c .before .if1 .taken) (a .pre) (c .row-of .result) (c .row-of .ensures)
+with-checks-requires : tie.Need-with-checks-requires
+with-checks-requires c κs =
+    let m = c .before .before .before in
+    (start m .pre .0 .valid, balanced-symbols _ (symbols m) _ (search needs) (c .before .balanced .ensures))
 
 returns : tie.Need-returns
 returns c =
-    let a = c .before .before .before .before .before in
-    subst (Answered (now (a .args .first)) (now (a .args .second)) _ _) (sym (c .before .before .if1 .taken)) (c .written-by .ensures)
-
-row-of-requires-2 : tie.Need-row-of-requires-2
-row-of-requires-2 c κs = search needs
-
-written-by-requires-2 : tie.Need-written-by-requires-2
-written-by-requires-2 c κs =
-    let a = c .before .before .before .before .before in
-    ready (now (a .args .first)) (now (a .args .second)) 2 (c .before .if2 .taken) (a .pre) (c .row-of2 .result) (c .row-of2 .ensures)
-
-returns-2 : tie.Need-returns-2
-returns-2 c =
-    let a = c .before .before .before .before .before .before in
-    subst (Answered (now (a .args .first)) (now (a .args .second)) _ _) (sym (c .before .before .if2 .taken)) (c .written-by2 .ensures)
-
-row-of-requires-3 : tie.Need-row-of-requires-3
-row-of-requires-3 c κs = search needs
-
-written-by-requires-3 : tie.Need-written-by-requires-3
-written-by-requires-3 c κs =
-    let a = c .before .before .before .before .before .before in
-    ready (now (a .args .first)) (now (a .args .second)) 3 (c .before .if3 .taken) (a .pre) (c .row-of3 .result) (c .row-of3 .ensures)
-
-returns-3 : tie.Need-returns-3
-returns-3 c =
-    let a = c .before .before .before .before .before .before .before in
-    subst (Answered (now (a .args .first)) (now (a .args .second)) _ _) (sym (c .before .before .if3 .taken)) (c .written-by3 .ensures)
-
-row-of-requires-4 : tie.Need-row-of-requires-4
-row-of-requires-4 c κs = search needs
-
-written-by-requires-4 : tie.Need-written-by-requires-4
-written-by-requires-4 c κs =
-    let a = c .before .before .before .before .before .before in
-    ready (now (a .args .first)) (now (a .args .second)) 4 (four (c .before)) (a .pre) (c .row-of4 .result) (c .row-of4 .ensures)
-
-returns-4 : tie.Need-returns-4
-returns-4 c =
-    let a = c .before .before .before .before .before .before .before in
-    subst (Answered (now (a .args .first)) (now (a .args .second)) _ _) (sym (four (c .before .before))) (c .written-by4 .ensures)
+    let m = c .before .before .before .before in
+    let a = start m in (
+      pair-encoded (a .pre .0) (now (a .args .first)) (now (a .args .second)) (pair m) (m .components .ensures) (c .before .before .balanced .ensures) (c .with-checks .ensures .0),
+      pair-length (a .pre .0) (now (a .args .first)) (now (a .args .second)) (pair m) (m .components .ensures) (c .with-checks .ensures .1),
+    )
 
 pub written-spec : {M : Type 1} → statement M
-written-spec =
-    tie.close
-    (tie.spec
-    row-of-requires
-    written-by-requires
-    returns
-    row-of-requires-2
-    written-by-requires-2
-    returns-2
-    row-of-requires-3
-    written-by-requires-3
-    returns-3
-    row-of-requires-4
-    written-by-requires-4
-    returns-4)
+written-spec = tie.close (tie.spec components-requires balanced-requires with-checks-requires returns)

@@ -3,35 +3,21 @@
 use mathlib.Core.Path.{sym, _∙_}
 use borrow.Author.Needs.{needs}
 use borrow.Author.Tests.{not-true, not-false}
-use Rattle.profiles.proofs.Refusing.{refuses-profile, refuses-length, refuses-symbol, refuses-nothing, decode-tests, decode-by-row}
+use Rattle.profiles.proofs.Refusing.{refuses-length, refuses-symbol, refuses-nothing, decode-tests}
 use Rattle.profiles.proofs.refusals.decode_refusal.Statement.{statement}
 use Rattle.profiles.proofs.refusals.decode_refusal.Tie as tie
 
 returns : tie.Need-returns
-returns c = refuses-profile (decode-tests _ _ _ _) (not-true _ (c .if1 .taken))
-
-row-of-requires : tie.Need-row-of-requires
-row-of-requires c κs = search needs
-
-returns-2 : tie.Need-returns-2
-returns-2 c =
-    refuses-length (decode-by-row _ _ _ _ (c .before .before .before .before .row-of .ensures)) (not-false _ (c .before .before .before .before .before .if1 .left))
-    (not-true _ (c .if2 .taken))
+returns c = refuses-length (decode-tests _ _ _ _) (not-true _ (c .if1 .taken))
 
 symbols-below-requires : tie.Need-symbols-below-requires
 symbols-below-requires c κs = search needs
 
-returns-3 : tie.Need-returns-3
-returns-3 c =
-    refuses-nothing (decode-by-row _ _ _ _ (c .before .before .before .before .before .before .row-of .ensures)) (not-false _ (c .before .before .before .before .before .before .before .if1 .left))
-    (not-false _ (c .before .before .if2 .left)) (sym (c .before .symbols-below .ensures) ∙ c .if3 .taken)
+returns-2 : tie.Need-returns-2
+returns-2 c = refuses-nothing (decode-tests _ _ _ _) (not-false _ (c .before .before .if1 .left)) (sym (c .before .symbols-below .ensures) ∙ c .if2 .taken)
 
-returns-4 : tie.Need-returns-4
-returns-4 c =
-    refuses-symbol (decode-by-row _ _ _ _ (c .before .before .before .before .before .before .row-of .ensures)) (not-false _ (c .before .before .before .before .before .before .before .if1 .left))
-    (not-false _ (c .before .before .if2 .left)) (sym (c .before .symbols-below .ensures) ∙ c .if3 .left)
+returns-3 : tie.Need-returns-3
+returns-3 c = refuses-symbol (decode-tests _ _ _ _) (not-false _ (c .before .before .if1 .left)) (sym (c .before .symbols-below .ensures) ∙ c .if2 .left)
 
 pub decode-refusal-spec : {M : Type 1} → statement M
-decode-refusal-spec =
-    tie.close
-    (tie.spec returns row-of-requires returns-2 symbols-below-requires returns-3 returns-4)
+decode-refusal-spec = tie.close (tie.spec returns symbols-below-requires returns-2 returns-3)

@@ -1,52 +1,42 @@
 -- `profiles::row::row_of` meets its contract: one test, computed over the table, says of each row that it is its number's.
 -- Assumes nothing.
-use borrow.Author.Needs.{needs}
+use Prim.Native.Nat.{_≤_}
 use native.Mathlib.Omega.{arith}
-use Rattle.profiles.proofs.Table.{row-at}
+use lib.Dec.{T}
+use borrow.Author.Needs.{needs}
+use borrow.Author.Tests.{not-true, not-false}
+use Rattle.modular.proofs.Search.{holds}
+use Rattle.code.specs.Profiles.{isProfile}
+use Rattle.profiles.proofs.Table.{in-range, lookup-found, lookup-none}
 use Rattle.profiles.proofs.row.row_of.Statement.{statement}
 use Rattle.profiles.proofs.row.row_of.Tie as tie
 
-array-copy-out-result : tie.Need-array-copy-out-result
-array-copy-out-result c = search needs
+-- past the test the number is a profile's
+known : (c : tie.Else1) → T (isProfile (c .before .args .profile))
+known c = holds (isProfile (c .before .args .profile)) (not-false _ (c .if1 .left))
+
+range : (c : tie.Else1) → (1 ≤ c .before .args .profile) × (c .before .args .profile ≤ 4)
+range c = in-range _ (known c)
 
 returns : tie.Need-returns
-returns c = row-at _ 4 (omega arith)
+returns c = lookup-none _ (not-true _ (c .if1 .taken))
 
-array-copy-out-result-2 : tie.Need-array-copy-out-result-2
-array-copy-out-result-2 c = search needs
+sub-i : tie.Need-sub-i
+sub-i c = omega (arith, range c)
+
+mul-widened : tie.Need-mul-widened
+mul-widened c = omega (arith, range c)
+
+array-copy-out-widened : tie.Need-array-copy-out-widened
+array-copy-out-widened c = omega (arith, range c)
+
+widened-requires : tie.Need-widened-requires
+widened-requires c κs = search needs
 
 returns-2 : tie.Need-returns-2
-returns-2 c = row-at _ 3 (omega arith)
-
-array-copy-out-result-3 : tie.Need-array-copy-out-result-3
-array-copy-out-result-3 c = search needs
-
-returns-3 : tie.Need-returns-3
-returns-3 c = row-at _ 2 (omega arith)
-
-array-copy-out-result-4 : tie.Need-array-copy-out-result-4
-array-copy-out-result-4 c = search needs
-
-returns-4 : tie.Need-returns-4
-returns-4 c = row-at _ 1 (omega arith)
-
-array-copy-out-result-5 : tie.Need-array-copy-out-result-5
-array-copy-out-result-5 c = search needs
-
-returns-5 : tie.Need-returns-5
-returns-5 c = row-at _ 0 (omega arith)
+returns-2 c = lookup-found _ (known (c .before .before)) _ (c .widened .ensures)
 
 pub row-of-spec : {M : Type 1} → statement M
 row-of-spec =
     tie.close
-    (tie.spec
-    array-copy-out-result
-    returns
-    array-copy-out-result-2
-    returns-2
-    array-copy-out-result-3
-    returns-3
-    array-copy-out-result-4
-    returns-4
-    array-copy-out-result-5
-    returns-5)
+    (tie.spec returns sub-i mul-widened array-copy-out-widened widened-requires returns-2)

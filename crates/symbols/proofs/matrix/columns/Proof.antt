@@ -1,42 +1,64 @@
--- `symbols::matrix::columns` meets its contract: each constant is what the definition computes to.
+-- `symbols::matrix::columns` meets its contract. The invariant: the rows of the positions passed are built, and the last of them is counted. The
+-- measure is what is left.
 -- Assumes nothing.
+use mathlib.Core.Path.{_≡_, refl, _∙_}
+use Prim.Native.Nat.{_-_, _≤_}
+use native.Mathlib.Omega.{arith}
 use borrow.Author.Needs.{needs}
-use Rattle.code.specs.Profiles.{profile}
-use Rattle.symbols.specs.Columns.{columnsOf}
-use Rattle.symbols.proofs.DigitRows.{columns-none}
+use Rattle.symbols.proofs.Counting.{Built, built-none, built-digits, built-more, built-all, positions-room, positions-levels}
 use Rattle.symbols.proofs.matrix.columns.Statement.{statement}
 use Rattle.symbols.proofs.matrix.columns.Tie as tie
 
-base-3-requires : tie.Need-base-3-requires
-base-3-requires c κs = search needs
+abbrev Inv-loop : tie.InvT-loop
+Inv-loop q n table₀ end digits₀ i₀ table digits i = Built q table digits i × (i ≤ end) × (end ≤ 48)
 
-returns : tie.Need-returns
-unfolding columnsOf profile
-returns c = rw (c .before .if1 .taken) (c .base-3 .ensures)
+abbrev μ-loop : tie.MeasureT-loop
+μ-loop q n table₀ end digits₀ i₀ table digits i = end - i
 
-base-3-requires-2 : tie.Need-base-3-requires-2
-base-3-requires-2 c κs = search needs
+positions-requires : tie.Need-positions-requires Inv-loop μ-loop
+positions-requires c κs = search needs
 
-returns-2 : tie.Need-returns-2
-unfolding columnsOf profile
-returns-2 c = rw (c .before .if2 .taken) (c .base-32 .ensures)
+loop-holds : tie.Need-loop-holds Inv-loop μ-loop
+loop-holds c = (built-none _ refl, omega arith, rw (c .positions .ensures) (positions-room _ _))
 
-base-5-requires : tie.Need-base-5-requires
-base-5-requires c κs = search needs
+next-requires : tie.Need-next-requires Inv-loop μ-loop
+next-requires c κs = built-digits (c .before .loop .inv .0) (positions-levels _ _ (c .before .before .positions .ensures) (c .loop-test .taken))
 
-returns-3 : tie.Need-returns-3
-unfolding columnsOf profile
-returns-3 c = rw (c .before .if3 .taken) (c .base-5 .ensures)
+mul-table : tie.Need-mul-table Inv-loop μ-loop
+mul-table c = search needs
 
-base-7-requires : tie.Need-base-7-requires
-base-7-requires c κs = search needs
+array-set-from-table : tie.Need-array-set-from-table Inv-loop μ-loop
+array-set-from-table c = search needs
 
-returns-4 : tie.Need-returns-4
-unfolding columnsOf profile
-returns-4 c = rw (c .before .if4 .taken) (c .base-7 .ensures)
+add-i : tie.Need-add-i Inv-loop μ-loop
+add-i c = search needs
 
-returns-5 : tie.Need-returns-5
-returns-5 c = columns-none _ (c .before .before .before .if1 .left) (c .before .before .if2 .left) (c .before .if3 .left) (c .if4 .left)
+loop-less : tie.Need-loop-less Inv-loop μ-loop
+loop-less c = search needs
+
+loop-again : tie.Need-loop-again Inv-loop μ-loop
+loop-again c =
+    let l = c .before .before .loop .inv in
+    (built-more (l .0) (omega arith) (c .next .ensures), omega arith, l .2)
+
+returns : tie.Need-returns Inv-loop μ-loop
+returns c =
+    let counted = c .before .before .positions in
+    let i : c .before .loop .i ≡ counted .result = omega arith in
+    built-all (c .before .loop .inv .0) _ (i ∙ counted .ensures)
 
 pub columns-spec : {M : Type 1} → statement M
-columns-spec = tie.close (tie.spec base-3-requires returns base-3-requires-2 returns-2 base-5-requires returns-3 base-7-requires returns-4 returns-5)
+columns-spec =
+    tie.close
+    (tie.spec
+    Inv-loop
+    μ-loop
+    positions-requires
+    loop-holds
+    next-requires
+    mul-table
+    array-set-from-table
+    add-i
+    loop-less
+    loop-again
+    returns)

@@ -1,4 +1,4 @@
--- `decoder::place::try_places` meets its contract. The invariant: no index passed fits. The measure is what is left.
+-- `decoder::place::try_positions` meets its contract. The invariant: no index passed fits. The measure is what is left.
 -- Assumes nothing.
 use borrow.Author.Needs.{needs}
 use mathlib.Core.Path.{_≡_, sym, _∙_}
@@ -12,8 +12,8 @@ use Rattle.profiles.specs.Row.{parameters}
 use Rattle.decoder.specs.Sides.{isFirst}
 use Rattle.decoder.specs.Totals.{sumsOf}
 use Rattle.decoder.proofs.Fitting.{first-found, none-found}
-use Rattle.decoder.proofs.place.try_places.Statement.{statement}
-use Rattle.decoder.proofs.place.try_places.Tie as tie
+use Rattle.decoder.proofs.place.try_positions.Statement.{statement}
+use Rattle.decoder.proofs.place.try_positions.Tie as tie
 
 abbrev Inv-loop : tie.InvT-loop
 Inv-loop row columns s by_first by_second word parity count k₀ k = (k ≤ count) × ((j : ℕ) → j < k → fits (parameters row) (sumsOf row s) (isFirst parity) j (getD word (2 * j + parity) 0) ≡ false)
@@ -59,8 +59,8 @@ loop-again c = (search needs, below-more _ _ (c .before .before .before .before 
 returns-2 : tie.Need-returns-2 Inv-loop μ-loop
 returns-2 c = none-found _ _ _ _ (c .before .before .before .before .pre .4) _ (c .loop-test .left) (c .before .loop .inv .1)
 
-pub try-places-spec : {M : Type 1} → statement M
-try-places-spec =
+pub try-positions-spec : {M : Type 1} → statement M
+try-positions-spec =
     tie.close
     (tie.spec
     Inv-loop

@@ -1,0 +1,65 @@
+-- Demand 2 of encode: the contract gives the encoded word of a call that no number refuses, and the encoded word is a codeword that carries its pair.
+-- Assumes nothing.
+use mathlib.Core.Path.{_≡_, refl, sym, ap, _∙_}
+use mathlib.Core.Bool.{true, false, _&&_}
+use mathlib.Core.List.{List, [], _∷_}
+use Prim.Native.Nat.{ℕ, suc}
+use native.Mathlib.Omega.{arith}
+use lib.Dec.{T, eqb}
+use lib.ListN.{length}
+use Rattle.code.specs.Parameters.{Sized}
+use Rattle.code.specs.Codeword.{encoded}
+use Rattle.code.specs.Profiles.{isProfile, profile}
+use Rattle.code.specs.Refusal.{Test, asks}
+use Rattle.code.specs.Operations.{refusedBy, outcome, encodeTests, encodeRefusal, encodeOutput}
+use Rattle.code.specs.Claims.{Encodes}
+use Rattle.code.proofs.Pair.{balance-of-pair}
+use Rattle.code.proofs.Encoded.{encoded-carries}
+use Rattle.code.proofs.Profiles.{profiles-fit}
+use Rattle.code.proofs.Refusal.{past, stops}
+use Rattle.profiles.proofs.Refusing.{Accepted, accepted-by}
+use Rattle.encoder.specs.declared.Encoded.{Encoded}
+use Rattle.encoder.specs.Answer.{EncodeAllows}
+use Rattle.encoder.specs.Claims.{lengthsFit, levelsFit, WordOf, EncodeWrites, RefusedBy, EncodeRefuses, Claims}
+use Rattle.encoder.proofs.Refusing.{output-kept, output-done}
+
+module _ {i : ℕ} {a b : List ℕ} {r : Encoded} {out out′ : List ℕ} (h : EncodeAllows i a b r out out′) where
+  -- the number k + 1 refuses the call
+  refused-by : (k : ℕ) → suc k ≡ encodeRefusal i a b (length out) → RefusedBy (suc k) r out out′
+  refused-by k e = (h .answer ∙ ap outcome (sym e), h .output ∙ sym (output-kept i a b out e (λ z. omega arith)))
+
+-- the word of a call that no number refuses
+word-of-pair : (i : ℕ) (a b : List ℕ) (l : ℕ) → T (isProfile i) → Accepted i a b l → WordOf i a b (encoded (profile i) a b)
+unfolding encoded
+word-of-pair i a b l known c =
+    let s : Sized (profile i) = profiles-fit .0 i known .0 in
+    let e : Encodes (profile i) (encoded (profile i) a b) a b = encoded-carries (profile i) s a b (c .first) (c .second) in
+    record {
+      balance = balance-of-pair (profile i) s a b .1;
+      word = refl;
+      lawful = e .lawful;
+      first = e .first;
+      second = e .second;
+    }
+
+pub encode-writes : EncodeWrites
+unfolding encodeRefusal
+encode-writes i a b r out out′ h p e s =
+    let n : 0 ≡ encodeRefusal i a b (length out) = sym (past (encodeTests i a b (length out)) [] (p, (e, (s, tt)))) in
+    let w : out′ ≡ encoded (profile i) a b = h .output ∙ sym (output-done i a b out n) in
+    (h .answer ∙ ap outcome (sym n), rw w (word-of-pair i a b (length out) p (accepted-by i a b (length out) e s)))
+
+pub encode-refuses : EncodeRefuses
+unfolding encodeRefusal
+encode-refuses i a b r out out′ h =
+    let profiled : Test = asks (isProfile i) 1 in
+    let long : Test = asks (lengthsFit i a b (length out)) 2 in
+    let levels : Test = asks (levelsFit i a b) 3 in
+    record {
+      by-1 = λ p. refused-by h 0 (sym (stops [] profiled (long ∷ levels ∷ []) tt p));
+      by-2 = λ p e. refused-by h 1 (sym (stops (profiled ∷ []) long (levels ∷ []) (p, tt) e));
+      by-3 = λ p e s. refused-by h 2 (sym (stops (profiled ∷ long ∷ []) levels [] (p, (e, tt)) s));
+    }
+
+pub claims : Claims
+claims = record { encode-writes = encode-writes; encode-refuses = encode-refuses }

@@ -1,0 +1,60 @@
+-- Demand 2 of encode, by its contract alone: whatever answer and output the contract allows are those that the demand states.
+-- Assumes nothing.
+use mathlib.Core.Path.{_≡_}
+use mathlib.Core.Bool.{Bool, true, false, _&&_}
+use mathlib.Core.List.{List}
+use Prim.Native.Nat.{ℕ}
+use lib.Dec.{T, eqb}
+use lib.ListN.{length}
+use Rattle.code.specs.Parameters.{messageLength, codewordLength}
+use Rattle.code.specs.Component.{symbolsBelow}
+use Rattle.code.specs.Balance.{balanced}
+use Rattle.code.specs.Codeword.{interleaved, withChecks, codeword, carried}
+use Rattle.code.specs.Profiles.{isProfile, profile}
+use Rattle.code.specs.Operations.{done, refusedBy}
+use Rattle.code.specs.Claims.{Balanced}
+use Rattle.encoder.specs.declared.Encoded.{Encoded}
+use Rattle.encoder.specs.Answer.{encodedOutcome, EncodeAllows}
+
+-- the lengths of the messages and of the output are the profile's
+abbrev pub lengthsFit : ℕ → List ℕ → List ℕ → ℕ → Bool
+lengthsFit i a b l =
+    eqb (length a) (messageLength (profile i)) && eqb (length b) (messageLength (profile i)) && eqb l (codewordLength (profile i))
+
+-- the symbols of the messages are below the profile's levels
+abbrev pub levelsFit : ℕ → List ℕ → List ℕ → Bool
+levelsFit i a b = symbolsBelow (profile i .q) a && symbolsBelow (profile i .q) b
+
+-- u is the word that 01 asks for
+pub record WordOf (i : ℕ) (a b u : List ℕ) : Type 0 where
+  -- a choice balances x, and the earliest is taken
+  pub balance : Balanced (profile i) (interleaved (profile i) a b)
+  -- w of that choice, α, β
+  pub word : u ≡ withChecks (profile i .q) (balanced (profile i) (interleaved (profile i) a b))
+  pub lawful : T (codeword (profile i) u)
+  -- the pair that it carries
+  pub first : carried (profile i) true u ≡ a
+  pub second : carried (profile i) false u ≡ b
+
+-- a pair of the right lengths and levels is written
+abbrev pub EncodeWrites : Type 0
+EncodeWrites =
+    (i : ℕ) (a b : List ℕ) (r : Encoded) (out out′ : List ℕ) → EncodeAllows i a b r out out′
+    → T (isProfile i) → T (lengthsFit i a b (length out)) → T (levelsFit i a b)
+    → (encodedOutcome r ≡ done) × WordOf i a b out′
+
+-- any other call is refused by the first number that applies, and leaves the output
+abbrev pub RefusedBy : ℕ → Encoded → List ℕ → List ℕ → Type 0
+RefusedBy k r out out′ = (encodedOutcome r ≡ refusedBy k) × (out′ ≡ out)
+
+pub record Refuses (i : ℕ) (a b : List ℕ) (r : Encoded) (out out′ : List ℕ) : Type 0 where
+  pub by-1 : isProfile i ≡ false → RefusedBy 1 r out out′
+  pub by-2 : T (isProfile i) → lengthsFit i a b (length out) ≡ false → RefusedBy 2 r out out′
+  pub by-3 : T (isProfile i) → T (lengthsFit i a b (length out)) → levelsFit i a b ≡ false → RefusedBy 3 r out out′
+
+abbrev pub EncodeRefuses : Type 0
+EncodeRefuses = (i : ℕ) (a b : List ℕ) (r : Encoded) (out out′ : List ℕ) → EncodeAllows i a b r out out′ → Refuses i a b r out out′
+
+pub record Claims : Type 0 where
+  pub encode-writes : EncodeWrites
+  pub encode-refuses : EncodeRefuses
