@@ -2,23 +2,27 @@
 -- Assumes nothing.
 use mathlib.Core.Path.{_≡_, refl, sym, ap, ap₂, _∙_}
 use mathlib.Core.Logic.{⊎-elim}
-use mathlib.Core.Bool.{Bool, true, false, _&&_}
+use mathlib.Core.Bool.{Bool, true, false, _&&_, and-true, and-false, and-assoc}
 use mathlib.Core.List.{List, [], _∷_, _++_, append-nil}
 use Prim.Native.Nat.{ℕ, zero, suc, _+_, _-_, _≤_, _<_}
 use native.Mathlib.Nat.{not-suc-le-zero, le-of-suc-le-suc}
 use native.Mathlib.Numerals.{add-one}
 use native.Mathlib.Omega.{arith}
-use lib.Dec.{T, ltb}
-use lib.ListN.{length, getD, take, drop, set, replicate, drop-of-length-le}
+use lib.Dec.{T, ltb, eqb, eqb·suc-zero}
+use lib.ListN.{length, getD, take, drop, set, replicate, length-drop, drop-of-length-le}
 use lib.Seq.{take-all, drop-length}
-use borrow.Author.Tests.{ltb-false, lt-ltb}
+use borrow.Author.Tests.{ltb-false, lt-ltb, ne-eqb}
 use Rattle.modular.proofs.Search.{holds, and-left, and-right, le-or-lt}
-use Rattle.sheet.specs.Lists.{zeros}
+use Rattle.sheet.specs.Lists.{allZero, zeros}
 use Rattle.cells.specs.Bytes.{copied}
 
 -- a part of n bytes from a on, as a range lends it
 pub part : (s : List ℕ) (a n : ℕ) → take (a + n - a) (drop a s) ≡ take n (drop a s)
 part s a n = let e : a + n - a ≡ n = omega arith in ap (λ (k : ℕ). take k (drop a s)) e
+
+-- a part from a up to the end
+pub part-rest : (s : List ℕ) (a : ℕ) → take (length s - a) (drop a s) ≡ drop a s
+part-rest s a = take-all (length s - a) (drop a s) (omega (arith, length-drop a s))
 
 -- both tests of a loop
 pub both : (a b : Bool) → (a && b) ≡ true → T a × T b
@@ -59,3 +63,25 @@ copied-same to from e =
 -- a fill of all bytes
 pub fill-all : (s : List ℕ) (i : ℕ) → i ≡ length s → replicate i 0 ++ drop i s ≡ zeros (length s)
 fill-all s i e = rw (e, drop-length s, append-nil (zeros (length s)))
+
+-- one byte more, tested for zero
+zero-more : (s : List ℕ) (i : ℕ) → i < length s → allZero (take (suc i) s) ≡ (allZero (take i s) && eqb (getD s i 0) 0)
+zero-more [] i h = absurd (not-suc-le-zero h)
+zero-more (x ∷ s) zero h = and-true (eqb x 0)
+zero-more (x ∷ s) (suc i) h =
+    ap (λ (b : Bool). eqb x 0 && b) (zero-more s i (le-of-suc-le-suc h))
+    ∙ sym (and-assoc (eqb x 0) (allZero (take i s)) (eqb (getD s i 0) 0))
+
+-- The highest of the first i bytes is 0 exactly where they all are.
+module _ (s : List ℕ) (i highest : ℕ) (h : i < length s) (e : eqb highest 0 ≡ allZero (take i s)) where
+  pub zero-risen : highest < getD s i 0 → eqb (getD s i 0) 0 ≡ allZero (take (i + 1) s)
+  zero-risen k =
+      let n : eqb (getD s i 0) 0 ≡ false = ne-eqb (getD s i 0) 0 (omega arith) in
+      rw (add-one i, zero-more s i h, n) (sym (and-false (allZero (take i s))))
+
+  pub zero-kept : getD s i 0 ≤ highest → eqb highest 0 ≡ allZero (take (i + 1) s)
+  zero-kept k = rw (add-one i, zero-more s i h, sym e) (go highest k)
+    where
+      go : (n : ℕ) → getD s i 0 ≤ n → eqb n 0 ≡ (eqb n 0 && eqb (getD s i 0) 0)
+      go zero l = let n : getD s i 0 ≡ 0 = omega arith in rw n
+      go (suc n) l = rw (eqb·suc-zero n)

@@ -2,8 +2,11 @@
 mod measure;
 mod slices;
 
+pub use measure::BODY_SIZE;
+pub use measure::CELL_SIZE;
 pub use measure::capacity;
 pub use measure::is_length;
+pub use slices::all_zero;
 use slices::clear;
 pub use slices::copy;
 ghost use mathlib.Core.Path.{_≡_};
@@ -22,14 +25,14 @@ fn link(queue: &mut [u8])
     let cells = capacity(queue);
     let mut i = 1;
     while i < cells {
-        let at = i * 104;
+        let at = i * CELL_SIZE;
         queue[at] = (i + 1) as u8;
         i += 1;
     }
 }
 
-// Lays out an empty queue that takes all the bytes, where their length is a queue's; says whether it is.
-pub fn lay_out(queue: &mut [u8]) -> bool
+// Makes an empty queue of all the bytes, where their length is a queue's; says whether it is.
+pub fn format_cells(queue: &mut [u8]) -> bool
     ensures { λ r. ⌜ r ≡ isQueueLength (length (now (queue .entry))) ⌝ }
     ensures { λ _. ⌜ now (queue .exit) ≡ formatQueue (now (queue .entry)) ⌝ }
 {
@@ -46,9 +49,9 @@ pub fn lay_out(queue: &mut [u8]) -> bool
 pub fn show(queue: &[u8], cell: usize, out: &mut [u8])
     ensures { λ _. ⌜ now (out .exit) ≡ shownAt (now (queue .entry)) cell (now (out .entry)) ⌝ }
 {
-    if (cell < queue.len() / 104) & (out.len() == 104) {
-        let a = cell * 104;
-        copy(out, &queue[a..a + 104]);
+    if (cell < queue.len() / CELL_SIZE) & (out.len() == CELL_SIZE) {
+        let a = cell * CELL_SIZE;
+        copy(out, &queue[a..a + CELL_SIZE]);
         out[0] = 0;
     }
 }
@@ -57,12 +60,12 @@ pub fn show(queue: &[u8], cell: usize, out: &mut [u8])
 pub fn release(queue: &mut [u8])
     ensures { λ _. ⌜ now (queue .exit) ≡ released (now (queue .entry)) ⌝ }
 {
-    if queue.len() < 104 {
+    if queue.len() < CELL_SIZE {
         return;
     }
     let first = queue[0];
-    let at = first as usize * 104;
-    let e = at + 104;
+    let at = first as usize * CELL_SIZE;
+    let e = at + CELL_SIZE;
     if queue.len() < e {
         return;
     }

@@ -1,7 +1,7 @@
-// Writes of whole slices.
+// Whole slices: copied, cleared, tested for zero.
 ghost use mathlib.Core.Path.{_≡_};
 ghost use lib.ListN.{length};
-ghost use Rattle.sheet.specs.Lists.{zeros};
+ghost use Rattle.sheet.specs.Lists.{allZero, zeros};
 ghost use Rattle.cells.specs.Bytes.{copied};
 
 // Copies as many bytes as both slices have.
@@ -24,4 +24,19 @@ pub(crate) fn clear(s: &mut [u8])
         s[at] = 0;
         at += 1;
     }
+}
+
+// Whether every byte is 0, by the highest of them: a loop without another way out is done many bytes at a time.
+pub fn all_zero(s: &[u8]) -> bool
+    ensures { λ r. ⌜ r ≡ allZero (now (s .entry)) ⌝ }
+{
+    let mut highest = 0;
+    let mut i = 0;
+    while i < s.len() {
+        if highest < s[i] {
+            highest = s[i];
+        }
+        i += 1;
+    }
+    highest == 0
 }

@@ -2,30 +2,30 @@
 -- Assumes nothing.
 use mathlib.Core.Path.{_≡_, refl, sym, ap, subst, _∙_}
 use mathlib.Core.Logic.{_≢_, _⊎_, inl, inr, ⊎-elim}
-use mathlib.Core.Bool.{Bool, true, false, not, _&&_}
-use mathlib.Core.List.{List, [], _∷_}
+use mathlib.Core.Bool.{not, _&&_}
+use mathlib.Core.List.{List, [], _∷_, _++_}
 use Prim.Native.Nat.{ℕ, zero, suc, _≤_}
-use native.Mathlib.Nat.{not-suc-le-zero, le-of-suc-le-suc}
+use native.Mathlib.Nat.{suc-ne-zero, not-suc-le-zero, le-of-suc-le-suc}
 use native.Mathlib.Omega.{arith}
 use lib.Dec.{eqb, leb}
 use lib.ListN.{length, getD, take}
 use lib.Seq.{take-all}
 use types.Run.{OneOf, miss}
 use denote.Enum.Declared.{tagOf}
-use Rattle.modular.proofs.Search.{holds}
+use Rattle.code.specs.Refusal.{Test, firstRefusal, onSuccess}
+use Rattle.code.proofs.Refusal.{refused-first}
 use Rattle.sheet.specs.Lists.{lastOf}
-use Rattle.sheet.specs.Layout.{isQueueLength}
 use Rattle.sheet.specs.Chains.{used, lastUsed}
-use Rattle.sheet.specs.Sound.{sound, Queue}
-use Rattle.sheet.specs.Operations.{onSound, cellOf}
+use Rattle.sheet.specs.Sound.{Queue}
+use Rattle.sheet.specs.Operations.{soundTests, cellOf}
 use Rattle.sheet.proofs.Lists.{lists-of, fill}
+use Rattle.sheet.proofs.Answers.{queue-by}
 use Rattle.sheet.proofs.Laws.{length-records}
 use Rattle.sheet.proofs.Rule.{found-same}
 use Rattle.soundness.specs.declared.Checked.{Checked}
-use Rattle.soundness.specs.declared.Checked.the-variants.{Sound}
-use Rattle.soundness.specs.Checked.{reached, checked}
+use Rattle.soundness.specs.declared.Checked.the-variants.{WrongLength, Unsound, Sound}
+use Rattle.soundness.specs.Checked.{reached, CheckReport, checkReport, checkedReport, checked}
 use Rattle.soundness.proofs.Checked.{the-type}
-use Rattle.queue.specs.Refusal.{refusalOf}
 
 -- a sound queue with the cell and the number of records that the check gave
 pub record Told (s : List ℕ) (k cell n : ℕ) : Type 0 where
@@ -36,29 +36,46 @@ pub record Told (s : List ℕ) (k cell n : ℕ) : Type 0 where
 -- a refusal is every operation's
 pub record Refused (s : List ℕ) (n : ℕ) : Type 0 where
   pub nonzero : n ≢ 0
-  pub answer : (own : ℕ) → n ≡ onSound s own
+  pub answer : (own : List Test) → n ≡ firstRefusal (soundTests s ++ own)
+
+-- a check that is not `Sound` has a number that is not 0
+unsound-number : (x : Checked) → OneOf (0 ∷ 1 ∷ []) (tagOf the-type x) → checkedReport x .number ≢ 0
+unsound-number WrongLength h = omega arith
+unsound-number Unsound h = omega arith
+unsound-number (Sound cell n) h = absurd (miss (0 ∷ 1 ∷ []) 2 tt h)
 
 module _ (s : List ℕ) (k : ℕ) where
-  either : (Queue s × (checked s k ≡ Sound (reached s k) (length (used s)))) ⊎ Refused s (refusalOf (checked s k))
+  -- the report of a sound queue
+  abbrev found : CheckReport
+  found = checkReport 0 (reached s k) (length (used s))
+
+  -- the report by the number
+  abbrev report-by : ℕ → CheckReport
+  report-by n = checkReport n (onSuccess n (reached s k) 0) (onSuccess n (length (used s)) 0)
+
+  either : (Queue s × (checked s k ≡ found)) ⊎ Refused s (checked s k .number)
   unfolding checked
-  either = go (isQueueLength (length s)) refl (sound s) refl
+  either = go (firstRefusal (soundTests s)) refl
     where
-      go : (a : Bool) → isQueueLength (length s) ≡ a → (b : Bool) → sound s ≡ b
-          → (Queue s × (checked s k ≡ Sound (reached s k) (length (used s)))) ⊎ Refused s (refusalOf (checked s k))
-      go true e true f = inl (record { size = holds _ e; is-sound = holds _ f }, rw (e, f))
-      go true e false f = inr (rw (e, f) (record { nonzero = omega arith; answer = λ own. rw (e, f) }))
-      go false e b f = inr (rw e (record { nonzero = omega arith; answer = λ own. rw e }))
+      go : (n : ℕ) → firstRefusal (soundTests s) ≡ n → (Queue s × (checked s k ≡ found)) ⊎ Refused s (checked s k .number)
+      go zero e = inl (queue-by s e, ap report-by e)
+      go (suc n) e =
+          let refuses : firstRefusal (soundTests s) ≢ 0 = λ z. suc-ne-zero n (sym e ∙ z) in
+          inr (record { nonzero = refuses; answer = λ own. sym (refused-first (soundTests s) own refuses) })
 
-  pub told-sound : (cell n : ℕ) → Sound cell n ≡ checked s k → Told s k cell n
+  pub told-sound : (cell n : ℕ) → checkReport 0 cell n ≡ checked s k → Told s k cell n
   told-sound cell n e =
-      ⊎-elim (λ w. record { queue = w .0; cell-is = let h = w .1 in cc; records-is = let h = w .1 in cc })
-      (λ (r : Refused s (refusalOf (checked s k))). absurd (r .nonzero (ap refusalOf (sym e)))) either
+      ⊎-elim
+      (λ (w : Queue s × (checked s k ≡ found)).
+      record { queue = w .0; cell-is = ap CheckReport.cell (e ∙ w .1); records-is = ap CheckReport.records (e ∙ w .1) })
+      (λ (r : Refused s (checked s k .number)). absurd (r .nonzero (ap CheckReport.number (sym e)))) either
 
-  pub told-unsound : (x : Checked) → x ≡ checked s k → OneOf (0 ∷ 1 ∷ []) (tagOf the-type x) → Refused s (refusalOf x)
+  pub told-unsound : (x : Checked) → checkedReport x ≡ checked s k → OneOf (0 ∷ 1 ∷ []) (tagOf the-type x)
+      → Refused s (checkedReport x .number)
   told-unsound x e h =
       ⊎-elim
-      (λ w. absurd (miss (0 ∷ 1 ∷ []) 2 tt (subst (λ (y : Checked). OneOf (0 ∷ 1 ∷ []) (tagOf the-type y)) (e ∙ w .1) h)))
-      (λ (r : Refused s (refusalOf (checked s k))). subst (λ (y : Checked). Refused s (refusalOf y)) (sym e) r) either
+      (λ (w : Queue s × (checked s k ≡ found)). absurd (unsound-number x h (ap CheckReport.number (e ∙ w .1))))
+      (λ (r : Refused s (checked s k .number)). subst (λ (y : CheckReport). Refused s (y .number)) (sym e) r) either
 
 -- the cell that the list leads to in k steps is record k's
 at-step : (l : List ℕ) (a k : ℕ) → k ≤ length l → getD (a ∷ l) k 0 ≡ lastOf a (take k l)

@@ -1,5 +1,5 @@
-pub mod Conditions
 pub mod Checking
-pub mod Refusing
 pub mod Stores
 pub mod Told
+pub mod Refusals
+pub mod Claims

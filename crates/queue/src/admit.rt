@@ -1,17 +1,18 @@
 // What the operations refuse, in 01's order.
 use crate::Answer;
+use profiles::Lookup;
 use profiles::row_of;
 use profiles::symbols_below;
 use soundness::Checked;
 ghost use mathlib.Core.Path.{_≡_};
-ghost use mathlib.Core.Bool.{true};
-ghost use Rattle.sheet.specs.Operations.{enqueueRefusal};
+ghost use Rattle.code.specs.Refusal.{firstRefusal};
+ghost use Rattle.sheet.specs.Operations.{recordTests};
+ghost use Rattle.soundness.specs.Checked.{checkedReport};
 ghost use Rattle.queue.specs.Answer.{numberOf};
-ghost use Rattle.queue.specs.Refusal.{refusalOf};
 
 // What every operation answers for a queue that is not sound: 5 or 6.
 pub(crate) fn refuse(checked: Checked) -> Answer
-    ensures { λ r. ⌜ numberOf r ≡ refusalOf checked ⌝ }
+    ensures { λ r. ⌜ numberOf r ≡ checkedReport checked .number ⌝ }
 {
     match checked {
         Checked::WrongLength => Answer::QueueLength,
@@ -20,17 +21,16 @@ pub(crate) fn refuse(checked: Checked) -> Answer
     }
 }
 
-// What enqueue answers for a record, where there is room for it.
+// What enqueue answers for a record, before it looks for room.
 pub(crate) fn admit(boxno: usize, profile: usize, word: &[u8]) -> Answer
-    ensures { λ r. ⌜ numberOf r ≡ enqueueRefusal true boxno profile (now (word .entry)) ⌝ }
+    ensures { λ r. ⌜ numberOf r ≡ firstRefusal (recordTests boxno profile (now (word .entry))) ⌝ }
 {
     if !((1 <= boxno) & (boxno <= 40)) {
         return Answer::BoxNumber;
     }
-    if !((1 <= profile) & (profile <= 4)) {
+    let Lookup::Found(row) = row_of(profile) else {
         return Answer::NoProfile;
-    }
-    let row = row_of(profile);
+    };
     if word.len() != row.codeword {
         return Answer::Length;
     }

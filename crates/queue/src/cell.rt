@@ -1,17 +1,19 @@
 // The write of a record that has been admitted.
+use cells::CELL_SIZE;
 use cells::copy;
 ghost use mathlib.Core.Path.{_≡_};
 ghost use Rattle.sheet.specs.Chains.{lastUsed};
+ghost use Rattle.sheet.specs.Sound.{recordOf};
 ghost use Rattle.sheet.specs.Operations.{enqueueAnswer, enqueued};
 
 // Puts a record into the first free cell, and that cell after the last used one. The cell's zeros after the word stay.
 pub(crate) fn store(queue: &mut [u8], last: usize, boxno: u8, profile: u8, word: &[u8])
     requires { ⌜ (enqueueAnswer (now queue) boxno profile (now word) ≡ 0) × (last ≡ lastUsed (now queue)) ⌝ }
-    ensures { λ _. ⌜ now (queue .exit) ≡ enqueued (now (queue .entry)) boxno profile (now (word .entry)) ⌝ }
+    ensures { λ _. ⌜ now (queue .exit) ≡ enqueued (now (queue .entry)) (recordOf boxno profile (now (word .entry))) ⌝ }
 {
     let first = queue[1];
-    let at = first as usize * 104;
-    let end = last * 104;
+    let at = first as usize * CELL_SIZE;
+    let end = last * CELL_SIZE;
     queue[1] = queue[at];
     queue[at] = 0;
     queue[end] = first;

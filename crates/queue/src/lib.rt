@@ -1,12 +1,13 @@
 // The dock's queue of received words (01: the sheet): a bounded first-in first-out list in bytes that the caller lends.
-// What each operation answers and leaves is defined in crate `sheet`, and so is the list rule that these definitions meet.
+// What each operation answers and leaves is defined in crate `sheet`; specs/Claims.antt has the list rule by these contracts alone.
 mod admit;
 mod cell;
 
+use cells::CELL_SIZE;
 use soundness::Checked;
 use soundness::check;
 ghost use mathlib.Core.Path.{_≡_};
-ghost use Rattle.sheet.specs.Operations.{formatAnswer, formatQueue, enqueueAnswer, enqueueQueue, peekAnswer, peekOutput, dequeueAnswer, dequeueQueue, dequeueOutput};
+ghost use Rattle.sheet.specs.Allowed.{FormatAllows, EnqueueAllows, PeekAllows, DequeueAllows};
 ghost use Rattle.queue.specs.Answer.{numberOf};
 
 // What an operation answers. A refusal has changed no byte.
@@ -47,12 +48,11 @@ pub fn number(answer: Answer) -> u64
     }
 }
 
-// Lays out an empty queue (01: lay out) that takes all the bytes.
+// Makes an empty queue of all the bytes (01: lay out).
 pub fn format(queue: &mut [u8]) -> Answer
-    ensures { λ r. ⌜ numberOf r ≡ formatAnswer (now (queue .entry)) ⌝ }
-    ensures { λ _. ⌜ now (queue .exit) ≡ formatQueue (now (queue .entry)) ⌝ }
+    ensures { λ r. ⌜ FormatAllows (now (queue .entry)) (numberOf r) (now (queue .exit)) ⌝ }
 {
-    if !cells::lay_out(queue) {
+    if !cells::format_cells(queue) {
         return Answer::QueueLength;
     }
     Answer::Done
@@ -60,8 +60,7 @@ pub fn format(queue: &mut [u8]) -> Answer
 
 // Adds a record at the end of the queue (01: enter). The word is kept as received.
 pub fn enqueue(queue: &mut [u8], boxno: usize, profile: usize, word: &[u8]) -> Answer
-    ensures { λ r. ⌜ numberOf r ≡ enqueueAnswer (now (queue .entry)) boxno profile (now (word .entry)) ⌝ }
-    ensures { λ _. ⌜ now (queue .exit) ≡ enqueueQueue (now (queue .entry)) boxno profile (now (word .entry)) ⌝ }
+    ensures { λ r. ⌜ EnqueueAllows (now (queue .entry)) boxno profile (now (word .entry)) (numberOf r) (now (queue .exit)) ⌝ }
 {
     // no list has more than 255 cells, so this leads to the last one
     let checked = check(queue, 255);
@@ -82,14 +81,13 @@ pub fn enqueue(queue: &mut [u8], boxno: usize, profile: usize, word: &[u8]) -> A
 
 // Shows a record (01: look), counted from 1, and leaves it in the queue.
 pub fn peek(queue: &[u8], number: usize, out: &mut [u8]) -> Answer
-    ensures { λ r. ⌜ numberOf r ≡ peekAnswer (now (queue .entry)) number (now (out .entry)) ⌝ }
-    ensures { λ _. ⌜ now (out .exit) ≡ peekOutput (now (queue .entry)) number (now (out .entry)) ⌝ }
+    ensures { λ r. ⌜ PeekAllows (now (queue .entry)) number (now (out .entry)) (numberOf r) (now (out .exit)) ⌝ }
 {
     let checked = check(queue, number);
     let Checked::Sound(cell, records) = checked else {
         return admit::refuse(checked);
     };
-    if out.len() != 104 {
+    if out.len() != CELL_SIZE {
         return Answer::Length;
     }
     if (1 <= number) & (number <= records) {
@@ -101,9 +99,7 @@ pub fn peek(queue: &[u8], number: usize, out: &mut [u8]) -> Answer
 
 // Takes the first record off the queue (01: take off) and shows it.
 pub fn dequeue(queue: &mut [u8], out: &mut [u8]) -> Answer
-    ensures { λ r. ⌜ numberOf r ≡ dequeueAnswer (now (queue .entry)) (now (out .entry)) ⌝ }
-    ensures { λ _. ⌜ now (queue .exit) ≡ dequeueQueue (now (queue .entry)) (now (out .entry)) ⌝ }
-    ensures { λ _. ⌜ now (out .exit) ≡ dequeueOutput (now (queue .entry)) (now (out .entry)) ⌝ }
+    ensures { λ r. ⌜ DequeueAllows (now (queue .entry)) (now (out .entry)) (numberOf r) (now (queue .exit)) (now (out .exit)) ⌝ }
 {
     let shown = peek(queue, 1, out);
     let Answer::Done = shown else {

@@ -8,7 +8,7 @@ use Rattle.code.specs.Profiles.{profile}
 use Rattle.sheet.specs.Lists.{zeros}
 use Rattle.sheet.specs.Layout.{isQueueLength, capacity}
 use Rattle.sheet.specs.Chains.{used, free, records, lastUsed}
-use Rattle.sheet.specs.Sound.{levels, wordLength, recordOf, isRecord, isCell, isList, eachOnce, sound}
+use Rattle.sheet.specs.Sound.{recordOf, isPadded, isRecord, isHeader, isCell, isList, eachOnce, sound}
 use Rattle.sheet.specs.Operations.{formatted, formatAnswer, formatQueue, enqueued, enqueueAnswer, enqueueQueue, cellOf, shown, peekAnswer, peekOutput, dequeued, dequeueAnswer, dequeueQueue, dequeueOutput}
 use Rattle.sheet.specs.Model.{Call, Reply, enqueue, peek, dequeue, queueReply, queueAfter, listReply, listAfter, replies}
 
@@ -17,10 +17,18 @@ word = replicate 19 2
 
 run : List Call
 unfolding word
-run = enqueue 40 1 word ∷ enqueue 1 1 word ∷ peek 1 (zeros 104) ∷ peek 0 (zeros 104) ∷ dequeue (zeros 104) ∷ dequeue (zeros 104) ∷ enqueue 1 1 word ∷ []
+run =
+    enqueue 40 1 word
+    ∷ enqueue 1 1 word
+    ∷ peek 1 (zeros 104)
+    ∷ peek 0 (zeros 104)
+    ∷ dequeue (zeros 104)
+    ∷ dequeue (zeros 104)
+    ∷ enqueue 1 1 word
+    ∷ []
 
 answers : map Reply.answer (replies queueReply queueAfter (formatQueue (replicate 208 7)) run) ≡ 0 ∷ 8 ∷ 0 ∷ 10 ∷ 0 ∷ 10 ∷ 0 ∷ []
-unfolding word run profile isQueueLength capacity used free records lastUsed levels wordLength recordOf isRecord isCell isList eachOnce sound formatted formatAnswer formatQueue enqueued enqueueAnswer enqueueQueue cellOf shown peekAnswer peekOutput dequeued dequeueAnswer dequeueQueue dequeueOutput
+unfolding word run profile isQueueLength capacity used free records lastUsed recordOf isPadded isRecord isHeader isCell isList eachOnce sound formatted formatAnswer formatQueue enqueued enqueueAnswer enqueueQueue cellOf shown peekAnswer peekOutput dequeued dequeueAnswer dequeueQueue dequeueOutput
 answers = refl
 
 longer : List Call
@@ -40,5 +48,5 @@ longer =
     ∷ []
 
 as-list : replies queueReply queueAfter (formatQueue (replicate 312 7)) longer ≡ replies (listReply 2) (listAfter 2) [] longer
-unfolding word longer profile isQueueLength capacity used free records lastUsed levels wordLength recordOf isRecord isCell isList eachOnce sound formatted formatAnswer formatQueue enqueued enqueueAnswer enqueueQueue cellOf shown peekAnswer peekOutput dequeued dequeueAnswer dequeueQueue dequeueOutput
+unfolding word longer profile isQueueLength capacity used free records lastUsed recordOf isPadded isRecord isHeader isCell isList eachOnce sound formatted formatAnswer formatQueue enqueued enqueueAnswer enqueueQueue cellOf shown peekAnswer peekOutput dequeued dequeueAnswer dequeueQueue dequeueOutput
 as-list = refl

@@ -1,6 +1,7 @@
 -- Every claim of specs/Claims.antt, proved.
 -- Assumes nothing.
 use Rattle.sheet.specs.Claims.{Claims}
+use Rattle.sheet.proofs.Meaning.{record-law, sound-law}
 use Rattle.sheet.proofs.Format.{format-law}
 use Rattle.sheet.proofs.Laws.{lists-fill, enqueue-law, full-law, peek-law, dequeue-law}
 use Rattle.sheet.proofs.Rule.{list-rule-from, list-rule}
@@ -8,6 +9,8 @@ use Rattle.sheet.proofs.Rule.{list-rule-from, list-rule}
 pub claims : Claims
 claims =
     record {
+      record-law = record-law;
+      sound-law = sound-law;
       lists-fill = lists-fill;
       format-law = format-law;
       enqueue-law = enqueue-law;

@@ -105,5 +105,6 @@ counts-once zero l f = refl
 counts-once (suc n) l f = omega (arith, f (suc n) (omega arith) (omega arith), counts-once n l (λ x h k. f x h (omega arith)))
 
 -- a list that has each of 1 to n once, and nothing else, has n numbers
-pub once-length : (n : ℕ) (l : List ℕ) → ((x : ℕ) → 1 ≤ count x l → (1 ≤ x) × (x ≤ n)) → ((x : ℕ) → 1 ≤ x → x ≤ n → count x l ≡ 1) → length l ≡ n
+pub once-length : (n : ℕ) (l : List ℕ) → ((x : ℕ) → 1 ≤ count x l → (1 ≤ x) × (x ≤ n))
+    → ((x : ℕ) → 1 ≤ x → x ≤ n → count x l ≡ 1) → length l ≡ n
 once-length n l f g = sym (counts-length n l f) ∙ counts-once n l g

@@ -1,20 +1,21 @@
 -- Dequeue moves the first used cell, zeroed, to the front of the free list.
 -- Assumes nothing.
-use mathlib.Core.Path.{_≡_, refl, sym, ap, subst, _∙_}
+use mathlib.Core.Path.{_≡_, refl, sym, subst, _∙_}
 use mathlib.Core.Logic.{_≢_, ⊎-elim}
 use mathlib.Core.Bool.{Bool, true, false}
 use mathlib.Core.List.{List, _∷_}
 use Prim.Native.Nat.{ℕ, _+_, _*_, _≤_, _<_}
 use native.Mathlib.Omega.{arith}
 use lib.Dec.{T, eqb}
-use lib.ListN.{length, drop, length-set, length-replicate}
+use lib.ListN.{length, length-set, length-replicate}
 use Rattle.code.proofs.Distance.{equal-or-not}
 use Rattle.sheet.specs.Lists.{allZero, zeros, bit, count}
-use Rattle.sheet.specs.Layout.{cellSize, bodySize, next, firstFree, body, setNext, setFirstFree, setBody}
-use Rattle.sheet.specs.Sound.{isBody}
+use Rattle.sheet.specs.Layout.{cellSize, bodySize, next, firstFree, body, header, setNext, setFirstFree, setBody}
+use Rattle.sheet.specs.Chains.{From}
+use Rattle.sheet.specs.Sound.{isBody, isHeader}
 use Rattle.sheet.proofs.Counts.{bit-same, bit-other, count-append}
-use Rattle.sheet.proofs.Places.{next-set, next-set-other, body-set-next, firstFree-set, next-set-free, body-set-free, spare-set-free, length-set-body, body-set, body-set-other, next-set-body, firstFree-set-body}
-use Rattle.sheet.proofs.Follow.{From, from-same, from-nonzero}
+use Rattle.sheet.proofs.Writes.{next-set, next-set-other, body-set-next, firstFree-set, next-set-free, body-set-free, header-same, header-set-free, length-set-body, body-set, body-set-other, next-set-body, firstFree-set-body}
+use Rattle.sheet.proofs.Follow.{from-same, from-nonzero}
 use Rattle.sheet.proofs.Record.{zeros-zero}
 use Rattle.sheet.proofs.Lists.{Cell, Lists, used-in, free-in, at-most-once}
 
@@ -102,8 +103,9 @@ module _ (s : List ℕ) (R c : ℕ) (u f : List ℕ) (ls : Lists s R (c ∷ u) f
   pub body-other : (j : ℕ) → j ≤ R → j ≢ 0 → j ≢ c → body s′ j ≡ body s j
   body-other j h z d = to-cell j h d ∙ body-set-free s₂ c j z ∙ from-start j
 
-  spare-after : drop 1 (body s′ 0) ≡ drop 1 (body s 0)
-  spare-after = ap (drop 1) (to-cell 0 (omega arith) (λ e. cell-nonzero (sym e))) ∙ spare-set-free s₂ c ∙ ap (drop 1) (from-start 0)
+  header-after : header s′ ≡ header s
+  header-after =
+      header-same s₃ s′ (to-cell 0 (omega arith) (λ e. cell-nonzero (sym e))) ∙ header-set-free s₂ c ∙ header-same s s₂ (from-start 0)
 
   still : (kind : Bool) (x : ℕ) → 1 ≤ x → x ≢ c → Cell s R kind x → Cell s′ R kind x
   still kind x h d k =
@@ -114,16 +116,15 @@ module _ (s : List ℕ) (R c : ℕ) (u f : List ℕ) (ls : Lists s R (c ∷ u) f
 
   used-rest : From s′ (next s′ 0) u
   used-rest =
+      let from = ls .used-from .2 in
       subst (λ (i : ℕ). From s′ i u) (sym next-zero)
-      (from-same s s′ (next s c) u (λ x h. next-other x (from-nonzero s (next s c) u (ls .used-from .2) x h) (used-other x h)) (ls .used-from .2))
+      (from-same s s′ (next s c) u (λ x h. next-other x (from-nonzero s (next s c) u from x h) (used-other x h)) from)
 
   free-after : From s′ (firstFree s′) (c ∷ f)
-  free-after = (
-    free-first,
-    cell-nonzero,
-    subst (λ (i : ℕ). From s′ i f) (sym next-cell)
-        (from-same s s′ (firstFree s) f (λ x h. next-other x (from-nonzero s (firstFree s) f (ls .free-from) x h) (free-other x h)) (ls .free-from)),
-  )
+  free-after =
+      let from = ls .free-from in
+      let rest = from-same s s′ (firstFree s) f (λ x h. next-other x (from-nonzero s (firstFree s) f from x h) (free-other x h)) from in
+      (free-first, cell-nonzero, subst (λ (i : ℕ). From s′ i f) (sym next-cell) rest)
 
   used-good : (x : ℕ) → 1 ≤ count x u → Cell s′ R true x
   used-good x h =
@@ -147,7 +148,7 @@ module _ (s : List ℕ) (R c : ℕ) (u f : List ℕ) (ls : Lists s R (c ∷ u) f
   lists-after =
       record {
         size = record { long = length-after ∙ ls .size .long; some = ls .size .some; few = ls .size .few };
-        spare = subst (λ (b : List ℕ). T (allZero b)) (sym spare-after) (ls .spare);
+        in-header = subst (λ (h : List ℕ). T (isHeader h)) (sym header-after) (ls .in-header);
         used-from = used-rest;
         free-from = free-after;
         used-cells = used-good;

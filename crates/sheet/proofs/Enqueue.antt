@@ -1,21 +1,22 @@
 -- Enqueue moves the first free cell to the end of the used list.
 -- Assumes nothing.
-use mathlib.Core.Path.{_≡_, refl, sym, ap, subst, _∙_}
+use mathlib.Core.Path.{_≡_, refl, sym, subst, _∙_}
 use mathlib.Core.Logic.{_≢_, _⊎_, inl, inr, ⊎-elim}
 use mathlib.Core.Bool.{Bool, true, false}
 use mathlib.Core.List.{List, [], _∷_, _++_}
 use Prim.Native.Nat.{ℕ, _+_, _*_, _≤_, _<_}
 use native.Mathlib.Omega.{arith}
 use lib.Dec.{T, eqb}
-use lib.ListN.{length, drop, length-set}
+use lib.ListN.{length, length-set}
 use Rattle.modular.proofs.Search.{le-or-lt}
 use Rattle.code.proofs.Distance.{equal-or-not}
-use Rattle.sheet.specs.Lists.{allZero, bit, count, lastOf}
-use Rattle.sheet.specs.Layout.{cellSize, bodySize, next, firstFree, body, setNext, setFirstFree, setBody}
-use Rattle.sheet.specs.Sound.{isRecord, isBody}
+use Rattle.sheet.specs.Lists.{bit, count, lastOf}
+use Rattle.sheet.specs.Layout.{cellSize, bodySize, next, firstFree, body, header, setNext, setFirstFree, setBody}
+use Rattle.sheet.specs.Chains.{From}
+use Rattle.sheet.specs.Sound.{isRecord, isBody, isHeader}
 use Rattle.sheet.proofs.Counts.{bit-same, bit-other, count-append, in-last}
-use Rattle.sheet.proofs.Places.{next-set, next-set-other, firstFree-set-next, body-set-next, firstFree-set, next-set-free, body-set-free, spare-set-free, length-set-body, body-set, body-set-other, next-set-body, firstFree-set-body}
-use Rattle.sheet.proofs.Follow.{From, from-same, from-append, from-nonzero}
+use Rattle.sheet.proofs.Writes.{next-set, next-set-other, firstFree-set-next, body-set-next, firstFree-set, next-set-free, body-set-free, header-same, header-set-free, length-set-body, body-set, body-set-other, next-set-body, firstFree-set-body}
+use Rattle.sheet.proofs.Follow.{from-same, from-append, from-nonzero}
 use Rattle.sheet.proofs.Lists.{Cell, Lists, used-in, free-in, at-most-once}
 
 -- c is the first free cell, l the last used one, r the record
@@ -92,7 +93,8 @@ module _ (s : List ℕ) (R c : ℕ) (u f : List ℕ) (r : List ℕ) (ls : Lists 
 
   next-last : next s′ l ≡ c
   next-last =
-      let h : l * cellSize < length s₂ = omega (arith, last-below, length-set s₁ (c * cellSize) 0, length-set s 1 (next s c), ls .size .long) in
+      let same : length s₂ ≡ length s = length-set s₁ (c * cellSize) 0 ∙ length-set s 1 (next s c) in
+      let h : l * cellSize < length s₂ = omega (arith, last-below, ls .size .long) in
       next-set-body s₃ c r fits long l ∙ next-set s₂ l c h
 
   next-cell : next s′ c ≡ 0
@@ -117,8 +119,8 @@ module _ (s : List ℕ) (R c : ℕ) (u f : List ℕ) (r : List ℕ) (ls : Lists 
   pub body-other : (j : ℕ) → j ≤ R → j ≢ 0 → j ≢ c → body s′ j ≡ body s j
   body-other j h z d = to-cell j h d ∙ body-set-free s (next s c) j z
 
-  spare-after : drop 1 (body s′ 0) ≡ drop 1 (body s 0)
-  spare-after = ap (drop 1) (to-cell 0 (omega arith) (λ e. cell-nonzero (sym e))) ∙ spare-set-free s (next s c)
+  header-after : header s′ ≡ header s
+  header-after = header-same s₁ s′ (to-cell 0 (omega arith) (λ e. cell-nonzero (sym e))) ∙ header-set-free s (next s c)
 
   still : (kind : Bool) (x : ℕ) → 1 ≤ x → x ≢ c → Cell s R kind x → Cell s′ R kind x
   still kind x h d k =
@@ -132,7 +134,11 @@ module _ (s : List ℕ) (R c : ℕ) (u f : List ℕ) (r : List ℕ) (ls : Lists 
   with-zero x = ⊎-elim zero-case other-case (equal-or-not x 0)
     where
       zero-case : x ≡ 0 → count x (0 ∷ u) ≤ 1
-      zero-case e = ⊎-elim (λ (h : 1 ≤ count x u). absurd (from-nonzero s (next s 0) u (ls .used-from) x h e)) (λ (k : count x u < 1). omega (arith, bit-same e)) (le-or-lt 1 (count x u))
+      zero-case e =
+          ⊎-elim
+          (λ (h : 1 ≤ count x u). absurd (from-nonzero s (next s 0) u (ls .used-from) x h e))
+          (λ (k : count x u < 1). omega (arith, bit-same e))
+          (le-or-lt 1 (count x u))
 
       other-case : x ≢ 0 → count x (0 ∷ u) ≤ 1
       other-case d = omega (arith, bit-other d, at-most-once ls x)
@@ -175,10 +181,12 @@ module _ (s : List ℕ) (R c : ℕ) (u f : List ℕ) (r : List ℕ) (ls : Lists 
   lists-after g =
       record {
         size = record { long = length-after ∙ ls .size .long; some = ls .size .some; few = ls .size .few };
-        spare = subst (λ (b : List ℕ). T (allZero b)) (sym spare-after) (ls .spare);
+        in-header = subst (λ (h : List ℕ). T (isHeader h)) (sym header-after) (ls .in-header);
         used-from = used-after;
         free-from = free-rest;
         used-cells = used-good g;
         free-cells = free-good;
-        once = λ x h k. omega (arith, count-append x (u ++ (c ∷ [])) f, count-append x u (c ∷ []), count-append x u (c ∷ f), ls .once x h k);
+        once =
+            λ x h k.
+            omega (arith, count-append x (u ++ (c ∷ [])) f, count-append x u (c ∷ []), count-append x u (c ∷ f), ls .once x h k);
       }

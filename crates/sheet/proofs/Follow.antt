@@ -1,4 +1,4 @@
--- The list that is met by following byte 0 from a cell, as a relation, and what changes of next cells do to it.
+-- The list that is met by following byte 0 from a cell, and what changes of next cells do to it.
 -- Assumes nothing.
 use mathlib.Core.Path.{_≡_, refl, sym, subst, _∙_}
 use mathlib.Core.Logic.{_≢_, ⊎-elim}
@@ -11,13 +11,8 @@ use lib.ListN.{length}
 use Rattle.code.proofs.Distance.{equal-or-not}
 use Rattle.sheet.specs.Lists.{bit, count, lastOf}
 use Rattle.sheet.specs.Layout.{next}
-use Rattle.sheet.specs.Chains.{chain, ends}
+use Rattle.sheet.specs.Chains.{From, chain, ends}
 use Rattle.sheet.proofs.Counts.{bit-same, bit-other, in-here, in-later, in-last}
-
--- from cell i the cells of the list are met, and then 0
-abbrev pub From : List ℕ → ℕ → List ℕ → Type 0
-From s i [] = i ≡ 0
-From s i (b ∷ l) = (i ≡ b) × (b ≢ 0) × From s (next s b) l
 
 pub from-chain : (s : List ℕ) (n i : ℕ) → T (ends s n i) → From s i (chain s n i)
 from-chain s zero i h = eqb→eq i 0 h
@@ -48,12 +43,13 @@ from-nonzero s i (b ∷ l) f x h =
 pub from-same : (s s′ : List ℕ) (i : ℕ) (l : List ℕ) → ((x : ℕ) → 1 ≤ count x l → next s′ x ≡ next s x) → From s i l → From s′ i l
 from-same s s′ i [] e f = f
 from-same s s′ i (b ∷ l) e f =
-    (f .0, f .1, subst (λ (z : ℕ). From s′ z l) (sym (e b (in-here b l))) (from-same s s′ (next s b) l (λ x h. e x (in-later x b l h)) (f .2)))
+    let rest = from-same s s′ (next s b) l (λ x h. e x (in-later x b l h)) (f .2) in
+    (f .0, f .1, subst (λ (z : ℕ). From s′ z l) (sym (e b (in-here b l))) rest)
 
 -- c, with no next cell, is linked to the last cell of the list after a
 module _ (s s′ : List ℕ) (c : ℕ) (nonzero : c ≢ 0) (stop : next s′ c ≡ 0) where
-  pub from-append : (a : ℕ) (l : List ℕ) → ((x : ℕ) → 1 ≤ count x (a ∷ l) → x ≢ lastOf a l → next s′ x ≡ next s x) → next s′ (lastOf a l) ≡ c
-      → ((x : ℕ) → count x (a ∷ l) ≤ 1) → From s (next s a) l → From s′ (next s′ a) (l ++ (c ∷ []))
+  pub from-append : (a : ℕ) (l : List ℕ) → ((x : ℕ) → 1 ≤ count x (a ∷ l) → x ≢ lastOf a l → next s′ x ≡ next s x)
+      → next s′ (lastOf a l) ≡ c → ((x : ℕ) → count x (a ∷ l) ≤ 1) → From s (next s a) l → From s′ (next s′ a) (l ++ (c ∷ []))
   from-append a [] e h d f = (h, nonzero, stop)
   from-append a (b ∷ l) e h d f = (
     e a (in-here a (b ∷ l)) first ∙ f .0,

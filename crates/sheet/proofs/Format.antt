@@ -12,20 +12,21 @@ use lib.ListN.{length, getD, take, drop, length-set, length-replicate}
 use Rattle.modular.proofs.Search.{and-left, and-right, and-intro}
 use Rattle.code.proofs.Distance.{equal-or-not}
 use Rattle.sheet.specs.Lists.{all, allZero, zeros, count, upFrom}
-use Rattle.sheet.specs.Layout.{Size, cellSize, bodySize, capacity, next, firstFree, body, setNext, setFirstFree}
-use Rattle.sheet.specs.Chains.{records}
+use Rattle.sheet.specs.Layout.{Size, cellSize, bodySize, headerSize, capacity, next, firstFree, body, header, setNext, setFirstFree}
+use Rattle.sheet.specs.Chains.{From, records}
+use Rattle.sheet.specs.Sound.{isHeader}
 use Rattle.sheet.specs.Operations.{linked, formatted}
 use Rattle.sheet.specs.Claims.{FormatLaw}
 use Rattle.sheet.proofs.Counts.{bit-same, bit-other}
-use Rattle.sheet.proofs.Places.{next-set, next-set-other, body-set-next, firstFree-set, next-set-free, body-set-free, spare-set-free}
-use Rattle.sheet.proofs.Follow.{From}
+use Rattle.sheet.proofs.Writes.{next-set, next-set-other, body-set-next, firstFree-set, next-set-free, body-set-free, header-same, header-set-free}
 use Rattle.sheet.proofs.Record.{zeros-zero}
 use Rattle.sheet.proofs.Lists.{size-of, Cell, Lists, used-is, free-is, queue-is}
 
 pub all-take : (t : ℕ → Bool) (n : ℕ) (l : List ℕ) → T (all t l) → T (all t (take n l))
 all-take t zero l h = tt
 all-take t (suc n) [] h = tt
-all-take t (suc n) (x ∷ l) h = and-intro (t x) (all t (take n l)) (and-left (t x) (all t l) h) (all-take t n l (and-right (t x) (all t l) h))
+all-take t (suc n) (x ∷ l) h =
+    and-intro (t x) (all t (take n l)) (and-left (t x) (all t l) h) (all-take t n l (and-right (t x) (all t l) h))
 
 pub all-drop : (t : ℕ → Bool) (n : ℕ) (l : List ℕ) → T (all t l) → T (all t (drop n l))
 all-drop t zero l h = h
@@ -49,7 +50,8 @@ body-linked s i (suc n) j = body-linked (setNext s i (suc i)) (suc i) n j ∙ bo
 next-linked-out : (s : List ℕ) (i n j : ℕ) → (j < i) ⊎ (i + n ≤ j) → next (linked s i n) j ≡ next s j
 next-linked-out s i zero j h = refl
 next-linked-out s i (suc n) j h =
-    next-linked-out (setNext s i (suc i)) (suc i) n j (⊎-elim (λ (k : j < i). inl (omega arith)) (λ (k : i + suc n ≤ j). inr (omega arith)) h)
+    next-linked-out (setNext s i (suc i)) (suc i) n j
+    (⊎-elim (λ (k : j < i). inl (omega arith)) (λ (k : i + suc n ≤ j). inr (omega arith)) h)
     ∙ next-set-other s i (suc i) j (⊎-elim (λ (k : j < i). omega arith) (λ (k : i + suc n ≤ j). omega arith) h)
 
 next-linked-in : (s : List ℕ) (i n j : ℕ) → (i + n) * cellSize ≤ length s → i ≤ j → j < i + n → next (linked s i n) j ≡ suc j
@@ -64,7 +66,8 @@ next-linked-in s i (suc n) j f h k =
     (equal-or-not j i)
 
 -- The numbers from i up.
-from-up : (s : List ℕ) (n i : ℕ) → 1 ≤ i → ((j : ℕ) → i ≤ j → j < i + n → next s j ≡ suc j) → next s (i + n) ≡ 0 → From s i (upFrom i (suc n))
+from-up : (s : List ℕ) (n i : ℕ) → 1 ≤ i → ((j : ℕ) → i ≤ j → j < i + n → next s j ≡ suc j) → next s (i + n) ≡ 0
+    → From s i (upFrom i (suc n))
 from-up s zero i h f e = (refl, omega arith, subst (λ (k : ℕ). next s k ≡ 0) (omega arith) e)
 from-up s (suc n) i h f e =
     let link : next s i ≡ suc i = f i (omega arith) (omega arith) in
@@ -109,11 +112,18 @@ module _ (s : List ℕ) (n : ℕ) (z : Size s (suc n)) where
   pub long′ : length s′ ≡ length s
   long′ = length-set s₁ 1 1 ∙ length-linked s₀ 1 n ∙ long₀
 
-  zero₀ : (j : ℕ) → T (allZero (body s₀ j))
-  zero₀ j = all-take (λ x. eqb x 0) bodySize (drop (j * cellSize + 1) s₀) (all-drop (λ x. eqb x 0) (j * cellSize + 1) s₀ (zeros-zero (length s)))
+  zero-part : (n k : ℕ) → T (allZero (take n (drop k s₀)))
+  zero-part n k = all-take (λ x. eqb x 0) n (drop k s₀) (all-drop (λ x. eqb x 0) k s₀ (zeros-zero (length s)))
 
   zero₁ : (j : ℕ) → T (allZero (body s₁ j))
-  zero₁ j = subst (λ (b : List ℕ). T (allZero b)) (sym (body-linked s₀ 1 n j)) (zero₀ j)
+  zero₁ j = subst (λ (b : List ℕ). T (allZero b)) (sym (body-linked s₀ 1 n j)) (zero-part bodySize (j * cellSize + 1))
+
+  header-is : header s′ ≡ header s₀
+  header-is = header-set-free s₁ 1 ∙ header-same s₀ s₁ (body-linked s₀ 1 n 0)
+
+  header-good : T (isHeader (header s′))
+  unfolding isHeader
+  header-good = subst (λ (h : List ℕ). T (isHeader h)) (sym header-is) (zero-part headerSize 2)
 
   next-out : (j : ℕ) → (j < 1) ⊎ (1 + n ≤ j) → next s′ j ≡ 0
   next-out j h = next-set-free s₁ 1 j ∙ next-linked-out s₀ 1 n j h ∙ getD-zeros (length s) (j * cellSize)
@@ -136,15 +146,18 @@ module _ (s : List ℕ) (n : ℕ) (z : Size s (suc n)) where
   lists-formatted =
       record {
         size = record { long = long′ ∙ z .long; some = z .some; few = z .few };
-        spare = subst (λ (b : List ℕ). T (allZero b)) (sym (spare-set-free s₁ 1)) (all-drop (λ x. eqb x 0) 1 (body s₁ 0) (zero₁ 0));
+        in-header = header-good;
         used-from = next-out 0 (inl (omega arith));
-        free-from = subst (λ (i : ℕ). From s′ i (upFrom 1 (suc n))) (sym first) (from-up s′ n 1 (omega arith) next-in (next-out (1 + n) (inr (omega arith))));
+        free-from =
+            subst (λ (i : ℕ). From s′ i (upFrom 1 (suc n))) (sym first)
+            (from-up s′ n 1 (omega arith) next-in (next-out (1 + n) (inr (omega arith))));
         used-cells = λ x h. absurd (not-suc-le-zero h);
         free-cells = free-good;
         once = λ x h k. up-once (suc n) 1 x h (omega arith);
       }
 
-pub formatted-lists : (s : List ℕ) (R : ℕ) → Size s R → capacity s ≡ R → (length (formatted s) ≡ length s) × Lists (formatted s) R [] (upFrom 1 R)
+pub formatted-lists : (s : List ℕ) (R : ℕ) → Size s R → capacity s ≡ R
+    → (length (formatted s) ≡ length s) × Lists (formatted s) R [] (upFrom 1 R)
 unfolding formatted
 formatted-lists s zero z e = let a : ⊥ = omega (arith, z .some) in absurd a
 formatted-lists s (suc n) z e =

@@ -11,12 +11,11 @@ use lib.Dec.{T}
 use lib.ListN.{length, getD, length-map, List·getD-eq-default}
 use Rattle.modular.proofs.Search.{le-or-lt}
 use Rattle.sheet.specs.Layout.{bodySize, capacity, next, firstFree, body}
-use Rattle.sheet.specs.Chains.{used, free, records, lastUsed}
+use Rattle.sheet.specs.Chains.{From, used, free, records, lastUsed}
 use Rattle.sheet.specs.Sound.{recordOf, isRecord, Queue}
 use Rattle.sheet.specs.Operations.{enqueued, cellOf, shown, dequeued, dequeueAnswer}
 use Rattle.sheet.specs.Claims.{ListsFill, EnqueueLaw, Enqueues, FullLaw, PeekLaw, DequeueLaw, Dequeues}
 use Rattle.sheet.proofs.Counts.{map-same, in-later}
-use Rattle.sheet.proofs.Follow.{From}
 use Rattle.sheet.proofs.Record.{word-fits, length-record, record-good}
 use Rattle.sheet.proofs.Lists.{Lists, lists-of, fill, used-in, used-is, free-is, queue-is}
 use Rattle.sheet.proofs.Answers.{Entering, entering, full, showing}
@@ -45,10 +44,10 @@ module _ (s : List ℕ) (b p : ℕ) (w : List ℕ) (e : Entering s b p w) where
   r = recordOf b p w
 
   pub length-r : length r ≡ bodySize
-  length-r = length-record b p w (omega (arith, e .admits .word, word-fits p (e .admits .profile)))
+  length-r = length-record b p w (omega (arith, e .admits .long, word-fits p (e .admits .profiled)))
 
   good-r : T (isRecord r)
-  good-r = record-good b p w (e .admits .box) (e .admits .profile) (e .admits .word) (e .admits .symbols)
+  good-r = record-good b p w (e .admits .box) (e .admits .profiled) (e .admits .long) (e .admits .symbols)
 
   pub parts : (f : List ℕ) × (free s ≡ firstFree s ∷ f)
   parts = split s (firstFree s) (free s) (lists-of s (e .queue) .free-from) (e .room)
@@ -57,7 +56,7 @@ module _ (s : List ℕ) (b p : ℕ) (w : List ℕ) (e : Entering s b p w) where
   pub lists-before : Lists s (capacity s) (used s) (firstFree s ∷ parts .0)
   lists-before = subst (λ (l : List ℕ). Lists s (capacity s) (used s) l) (parts .1) (lists-of s (e .queue))
 
-  enqueue-result : Enqueues s b p w (enqueued s b p w)
+  enqueue-result : Enqueues s r (enqueued s r)
   unfolding enqueued lastUsed records
   enqueue-result =
       let c = firstFree s in
@@ -66,17 +65,22 @@ module _ (s : List ℕ) (b p : ℕ) (w : List ℕ) (e : Entering s b p w) where
       let f = parts .0 in
       let after = enq.lists-after s R c u f r lists-before length-r good-r in
       let kept = enq.body-other s R c u f r lists-before length-r in
+      let unused = enq.not-used s R c u f r lists-before length-r in
+      let other = enq.not-cell s R c u f r lists-before length-r u unused in
+      let same : map (body (enqueued s r)) u ≡ map (body s) u =
+      map-same (body (enqueued s r)) (body s) u
+      (λ x h.
+      let k = used-in lists-before x h in
+      kept x (k .1) (omega (arith, k .0)) (other x h)) in
       record {
         kept-length = enq.length-after s R c u f r lists-before length-r;
         queue = queue-is after;
         used-after = used-is after;
         free-before = parts .1 ∙ ap (λ (l : List ℕ). c ∷ l) (sym (free-is after));
         records-after =
-            ap (map (body (enqueued s b p w))) (used-is after)
-            ∙ map-append (body (enqueued s b p w)) u (c ∷ [])
-            ∙ ap₂ _++_
-            (map-same (body (enqueued s b p w)) (body s) u (λ x h. kept x (used-in lists-before x h .1) (omega (arith, used-in lists-before x h .0)) (enq.not-cell s R c u f r lists-before length-r u (enq.not-used s R c u f r lists-before length-r) x h)))
-            (ap (λ (z : List ℕ). z ∷ []) (enq.body-cell s R c u f r lists-before length-r));
+            ap (map (body (enqueued s r))) (used-is after)
+            ∙ map-append (body (enqueued s r)) u (c ∷ [])
+            ∙ ap₂ _++_ same (ap (λ (z : List ℕ). z ∷ []) (enq.body-cell s R c u f r lists-before length-r));
         others =
             λ i h z d k. record { next-kept = enq.next-other s R c u f r lists-before length-r i d k; body-kept = kept i h z d };
         last-body = kept;
@@ -140,7 +144,8 @@ module _ (s : List ℕ) (q : Queue s) (d : next s 0 ≢ 0) where
         used-before = first-parts .1 ∙ ap (λ (l : List ℕ). c ∷ l) (sym (used-is after));
         free-after = free-is after;
         records-before =
-            ap (map (body s)) (first-parts .1) ∙ ap (λ (m : List (List ℕ)). body s c ∷ m) (sym same ∙ ap (map (body (dequeued s))) (sym (used-is after)));
+            ap (map (body s)) (first-parts .1)
+            ∙ ap (λ (m : List (List ℕ)). body s c ∷ m) (sym same ∙ ap (map (body (dequeued s))) (sym (used-is after)));
         cleared = deq.body-cell s R c u f lists-first;
         reused = deq.free-first s R c u f lists-first;
         others = λ i h z k. record { next-kept = deq.next-other s R c u f lists-first i z k; body-kept = kept i h z k };

@@ -1,8 +1,9 @@
 pub mod Counts
-pub mod Places
+pub mod Writes
 pub mod Follow
 pub mod Record
 pub mod Lists
+pub mod Meaning
 pub mod Enqueue
 pub mod Dequeue
 pub mod Format

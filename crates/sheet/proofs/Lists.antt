@@ -7,23 +7,24 @@ use mathlib.Core.List.{List, _++_}
 use Prim.Native.Nat.{ℕ, zero, suc, _+_, _/_, _%_, _≤_, _<_}
 use native.Mathlib.Omega.{arith}
 use lib.Dec.{T, eqb, leb, eqb→eq, leb→le, le→leb}
-use lib.ListN.{length, drop, length-append}
+use lib.ListN.{length, length-append}
 use Rattle.modular.proofs.Search.{and-left, and-right, and-intro, le-or-lt, all-at, all-of}
-use Rattle.sheet.specs.Lists.{all, allZero, count}
-use Rattle.sheet.specs.Layout.{Size, isQueueLength, capacity, next, firstFree, body}
-use Rattle.sheet.specs.Chains.{chain, ends, used, free}
-use Rattle.sheet.specs.Sound.{isBody, isCell, isList, eachOnce, sound, Queue}
+use Rattle.sheet.specs.Lists.{all, count}
+use Rattle.sheet.specs.Layout.{cellSize, Size, isQueueLength, capacity, next, firstFree, body, header}
+use Rattle.sheet.specs.Chains.{From, chain, ends, used, free}
+use Rattle.sheet.specs.Sound.{isBody, isCell, isHeader, isList, eachOnce, sound, Queue}
 use Rattle.sheet.proofs.Counts.{count-append, all-in, all-from, once-length}
-use Rattle.sheet.proofs.Follow.{From, from-chain, chain-from, from-nonzero}
+use Rattle.sheet.proofs.Follow.{from-chain, chain-from, from-nonzero}
 
 pub size-of : (s : List ℕ) → T (isQueueLength (length s)) → Size s (capacity s)
 unfolding isQueueLength capacity
 size-of s h =
     let n : ℕ = length s in
-    let a : n % 104 ≡ 0 = eqb→eq (n % 104) 0 (and-left (eqb (n % 104) 0) (leb 2 (n / 104) && leb (n / 104) 256) h) in
-    let k : T (leb 2 (n / 104) && leb (n / 104) 256) = and-right (eqb (n % 104) 0) (leb 2 (n / 104) && leb (n / 104) 256) h in
-    let b : 2 ≤ n / 104 = leb→le 2 (n / 104) (and-left (leb 2 (n / 104)) (leb (n / 104) 256) k) in
-    let c : n / 104 ≤ 256 = leb→le (n / 104) 256 (and-right (leb 2 (n / 104)) (leb (n / 104) 256) k) in
+    let cells : ℕ = n / cellSize in
+    let a : n % cellSize ≡ 0 = eqb→eq (n % cellSize) 0 (and-left (eqb (n % cellSize) 0) (leb 2 cells && leb cells 256) h) in
+    let k : T (leb 2 cells && leb cells 256) = and-right (eqb (n % cellSize) 0) (leb 2 cells && leb cells 256) h in
+    let b : 2 ≤ cells = leb→le 2 cells (and-left (leb 2 cells) (leb cells 256) k) in
+    let c : cells ≤ 256 = leb→le cells 256 (and-right (leb 2 cells) (leb cells 256) k) in
     record { long = omega arith; some = omega arith; few = omega arith }
 
 pub capacity-is : (s : List ℕ) (R : ℕ) → Size s R → capacity s ≡ R
@@ -34,9 +35,11 @@ pub size-good : (s : List ℕ) (R : ℕ) → Size s R → T (isQueueLength (leng
 unfolding isQueueLength
 size-good s R z =
     let n : ℕ = length s in
-    let a : n % 104 ≡ 0 = omega (arith, z .long) in
-    and-intro (eqb (n % 104) 0) _ (subst (λ (k : ℕ). T (eqb k 0)) (sym a) tt)
-    (and-intro (leb 2 (n / 104)) (leb (n / 104) 256) (le→leb 2 (n / 104) (omega (arith, z .long, z .some))) (le→leb (n / 104) 256 (omega (arith, z .long, z .few))))
+    let cells : ℕ = n / cellSize in
+    let a : n % cellSize ≡ 0 = omega (arith, z .long) in
+    let least : T (leb 2 cells) = le→leb 2 cells (omega (arith, z .long, z .some)) in
+    let most : T (leb cells 256) = le→leb cells 256 (omega (arith, z .long, z .few)) in
+    and-intro (eqb (n % cellSize) 0) _ (subst (λ (k : ℕ). T (eqb k 0)) (sym a) tt) (and-intro (leb 2 cells) (leb cells 256) least most)
 
 -- x is a cell, and its body is as the kind has it
 pub record Cell (s : List ℕ) (R : ℕ) (kind : Bool) (x : ℕ) : Type 0 where
@@ -45,7 +48,7 @@ pub record Cell (s : List ℕ) (R : ℕ) (kind : Bool) (x : ℕ) : Type 0 where
 
 pub record Lists (s : List ℕ) (R : ℕ) (u f : List ℕ) : Type 0 where
   pub size : Size s R
-  pub spare : T (allZero (drop 1 (body s 0)))
+  pub in-header : T (isHeader (header s))
   pub used-from : From s (next s 0) u
   pub free-from : From s (firstFree s) f
   pub used-cells : (x : ℕ) → 1 ≤ count x u → Cell s R true x
@@ -112,6 +115,12 @@ module _ {s : List ℕ} {R : ℕ} {u f : List ℕ} (ls : Lists s R u f) where
       (and-intro (ends s R i) (all (isCell s kind) (chain s R i)) h
       (rw e (all-from (isCell s kind) l (λ x k. cell-test kind x (f x k)))))
 
+  used-test : T (isList s true (capacity s) (next s 0))
+  used-test = list-test true (next s 0) u (used-met .0) (used-met .1) (ls .used-cells)
+
+  free-test : T (isList s false (capacity s) (firstFree s))
+  free-test = list-test false (firstFree s) f (free-met .0) (free-met .1) (ls .free-cells)
+
   once-test : T (eachOnce (capacity s) (used s ++ free s))
   unfolding eachOnce
   once-test =
@@ -125,9 +134,9 @@ module _ {s : List ℕ} {R : ℕ} {u f : List ℕ} (ls : Lists s R u f) where
       record {
         size = size-good s R (ls .size);
         is-sound =
-            and-intro (allZero (drop 1 (body s 0))) _ (ls .spare)
-            (and-intro (isList s true (capacity s) (next s 0)) _ (list-test true (next s 0) u (used-met .0) (used-met .1) (ls .used-cells))
-            (and-intro (isList s false (capacity s) (firstFree s)) (eachOnce (capacity s) (used s ++ free s)) (list-test false (firstFree s) f (free-met .0) (free-met .1) (ls .free-cells)) once-test));
+            and-intro (isHeader (header s)) _ (ls .in-header)
+            (and-intro (isList s true (capacity s) (next s 0)) _ used-test
+            (and-intro (isList s false (capacity s) (firstFree s)) (eachOnce (capacity s) (used s ++ free s)) free-test once-test));
       }
 
 -- the other way
@@ -144,18 +153,19 @@ module _ (s : List ℕ) where
   unfolding isList
   list-ends kind i h = and-left (ends s (capacity s) i) (all (isCell s kind) (chain s (capacity s) i)) h
 
-  list-cells : (kind : Bool) (i : ℕ) → T (isList s kind (capacity s) i) → (x : ℕ) → 1 ≤ count x (chain s (capacity s) i) → Cell s (capacity s) kind x
+  list-cells : (kind : Bool) (i : ℕ) → T (isList s kind (capacity s) i) → (x : ℕ) → 1 ≤ count x (chain s (capacity s) i)
+      → Cell s (capacity s) kind x
   unfolding isList
   list-cells kind i h x k =
-      cell-of kind x
-      (all-in (isCell s kind) (chain s (capacity s) i) (and-right (ends s (capacity s) i) (all (isCell s kind) (chain s (capacity s) i)) h) x k)
+      let cells = chain s (capacity s) i in
+      cell-of kind x (all-in (isCell s kind) cells (and-right (ends s (capacity s) i) (all (isCell s kind) cells) h) x k)
 
   pub lists-of : Queue s → Lists s (capacity s) (used s) (free s)
   unfolding sound used free eachOnce
   lists-of q =
       record {
         size = size-of s (q .size);
-        spare = and-left A B (q .is-sound);
+        in-header = and-left A B (q .is-sound);
         used-from = from-chain s (capacity s) (next s 0) (list-ends true (next s 0) l1);
         free-from = from-chain s (capacity s) (firstFree s) (list-ends false (firstFree s) l2);
         used-cells = list-cells true (next s 0) l1;
@@ -164,7 +174,7 @@ module _ (s : List ℕ) where
       }
     where
       A : Bool
-      A = allZero (drop 1 (body s 0))
+      A = isHeader (header s)
 
       U : Bool
       U = isList s true (capacity s) (next s 0)

@@ -10,15 +10,16 @@ use native.Mathlib.Omega.{arith}
 use lib.Dec.{T, eqb, leb, ltb, leb→le, le→leb, ltb→lt, lt→ltb, not-T, eqb→eq}
 use lib.ListN.{length, getD, drop}
 use Rattle.modular.proofs.Search.{same-test, and-right, and-intro}
+use Rattle.code.specs.Refusal.{firstRefusal, onSuccess}
+use Rattle.code.proofs.Refusal.{past, wrote}
 use Rattle.sheet.specs.Layout.{isQueueLength, capacity, next, firstFree}
-use Rattle.sheet.specs.Chains.{used, free, records}
+use Rattle.sheet.specs.Chains.{From, used, free, records}
 use Rattle.sheet.specs.Sound.{recordOf, Queue}
-use Rattle.sheet.specs.Operations.{onSuccess, enqueueRefusal, showRefusal, formatted, formatAnswer, formatQueue, enqueued, enqueueAnswer, enqueueQueue, cellOf, shown, peekAnswer, peekOutput, dequeued, dequeueAnswer, dequeueQueue, dequeueOutput}
+use Rattle.sheet.specs.Operations.{lengthTests, enqueueTests, showTests, formatted, formatAnswer, formatQueue, enqueued, enqueueAnswer, enqueueQueue, cellOf, shown, peekAnswer, peekOutput, dequeued, dequeueAnswer, dequeueQueue, dequeueOutput}
 use Rattle.sheet.specs.Model.{Call, enqueue, peek, dequeue, reply, queueReply, queueAfter, shownRecord, hasRecord, showRecord, listReply, listAfter}
 use Rattle.sheet.specs.Claims.{AnswersAsList, ListRule, ListRuleFrom}
-use Rattle.sheet.proofs.Follow.{From}
 use Rattle.sheet.proofs.Lists.{Lists, lists-of, fill}
-use Rattle.sheet.proofs.Answers.{true-of, nonzero, on-sound, showing}
+use Rattle.sheet.proofs.Answers.{nonzero, on-sound, showing}
 use Rattle.sheet.proofs.Laws.{split, empty, length-records, getD-within, enqueue-law, shown-record, dequeue-law}
 use Rattle.sheet.proofs.Format.{format-law}
 
@@ -52,15 +53,18 @@ module _ (s : List ℕ) (q : Queue s) where
           let z : free s ≡ [] = empty s (free s) (subst (λ (i : ℕ). From s i (free s)) (eqb→eq (firstFree s) 0 k) (ls .free-from)) in
           omega (arith, length-records s, fill ls, ap length z, ltb→lt (length (records s)) (capacity s) h))
 
-  enqueue-answer : (b p : ℕ) (w : List ℕ) → enqueueAnswer s b p w ≡ enqueueRefusal (ltb (length (records s)) (capacity s)) b p w
+  enqueue-answer : (b p : ℕ) (w : List ℕ)
+      → enqueueAnswer s b p w ≡ firstRefusal (enqueueTests (ltb (length (records s)) (capacity s)) b p w)
   unfolding enqueueAnswer
-  enqueue-answer b p w = on-sound s _ q ∙ ap (λ (room : Bool). enqueueRefusal room b p w) room-same
+  enqueue-answer b p w =
+      on-sound s (enqueueTests (not (eqb (firstFree s) 0)) b p w) q
+      ∙ ap (λ (room : Bool). firstRefusal (enqueueTests room b p w)) room-same
 
   enqueue-step : (b p : ℕ) (w : List ℕ) (n : ℕ) → enqueueAnswer s b p w ≡ n
-      → Holds (capacity s) (onSuccess n (enqueued s b p w) s) (onSuccess n (records s ++ (recordOf b p w ∷ [])) (records s))
+      → Holds (capacity s) (onSuccess n (enqueued s (recordOf b p w)) s) (onSuccess n (records s ++ (recordOf b p w ∷ [])) (records s))
   enqueue-step b p w zero h =
       let e = enqueue-law s b p w h in
-      record { queue = e .queue; same = e .records-after; room = same-capacity s (enqueued s b p w) (e .kept-length) }
+      record { queue = e .queue; same = e .records-after; room = same-capacity s (enqueued s (recordOf b p w)) (e .kept-length) }
   enqueue-step b p w (suc n) h = record { queue = q; same = refl; room = refl }
 
   -- record k is found exactly where the list has it
@@ -82,13 +86,16 @@ module _ (s : List ℕ) (q : Queue s) where
 
       none : T (hasRecord (records s) (suc k)) → T (not (eqb (getD (used s) k 0) 0))
       none h =
-          let d : suc k ≤ length (records s) = leb→le (suc k) (length (records s)) (and-right (leb 1 (suc k)) (leb (suc k) (length (records s))) h) in
+          let n = length (records s) in
+          let d : suc k ≤ n = leb→le (suc k) n (and-right (leb 1 (suc k)) (leb (suc k) n) h) in
           let z : getD (used s) k 0 ≢ 0 = cell-nonzero (used s) (next s 0) (ls .used-from) k (omega (arith, length-records s)) in
           not-T (eqb (getD (used s) k 0) 0) (λ t. z (eqb→eq (getD (used s) k 0) 0 t))
 
-  peek-answer : (k : ℕ) (out : List ℕ) → peekAnswer s k out ≡ showRefusal (hasRecord (records s) k) out
+  peek-answer : (k : ℕ) (out : List ℕ) → peekAnswer s k out ≡ firstRefusal (showTests (hasRecord (records s) k) out)
   unfolding peekAnswer
-  peek-answer k out = on-sound s _ q ∙ ap (λ (found : Bool). showRefusal found out) (found-same k)
+  peek-answer k out =
+      on-sound s (showTests (not (eqb (cellOf s k) 0)) out) q
+      ∙ ap (λ (found : Bool). firstRefusal (showTests found out)) (found-same k)
 
   peek-output : (k : ℕ) (out : List ℕ) (n : ℕ) → peekAnswer s k out ≡ n
       → onSuccess n (shown s (cellOf s k)) out ≡ onSuccess n (shownRecord (records s) k) out
@@ -138,19 +145,26 @@ run-same R s l h (c ∷ cs) =
     reply-same s (h .queue) c ∙ ap₂ (λ (n : ℕ) (m : List (List ℕ)). listReply n m c) (h .room) (h .same) in
     let next-holds : Holds R (queueAfter s c) (listAfter R l c) =
     subst (λ (n : ℕ). Holds n (queueAfter s c) (listAfter n l c)) (h .room)
-    (subst (λ (m : List (List ℕ)). Holds (capacity s) (queueAfter s c) (listAfter (capacity s) m c)) (h .same) (after-same s (h .queue) c)) in
+    (subst (λ (m : List (List ℕ)). Holds (capacity s) (queueAfter s c) (listAfter (capacity s) m c)) (h .same)
+    (after-same s (h .queue) c)) in
     let rest = run-same R (queueAfter s c) (listAfter R l c) next-holds cs in
     record { replies-same = ap₂ _∷_ first (rest .replies-same); queue = rest .queue; records-same = rest .records-same }
 
 pub list-rule-from : ListRuleFrom
 list-rule-from s q calls = run-same (capacity s) s (records s) (record { queue = q; same = refl; room = refl }) calls
 
+pub format-succeeds : (s : List ℕ) → T (isQueueLength (length s)) → formatAnswer s ≡ 0
+unfolding formatAnswer
+format-succeeds s h = past (lengthTests s) [] (h, tt)
+
 format-queue : (s : List ℕ) → T (isQueueLength (length s)) → formatQueue s ≡ formatted s
-unfolding formatQueue formatAnswer
-format-queue s h = rw (true-of (isQueueLength (length s)) h)
+unfolding formatQueue
+format-queue s h = sym (wrote (formatAnswer s) (formatted s) s (format-succeeds s h))
 
 pub list-rule : ListRule
 list-rule s h calls =
     let f = format-law s h in
+    let empty : Holds (capacity s) (formatted s) [] =
+    record { queue = f .queue; same = f .no-records; room = same-capacity s (formatted s) (f .kept-length) } in
     subst (λ (t : List ℕ). AnswersAsList (capacity s) t [] calls) (sym (format-queue s h))
-    (run-same (capacity s) (formatted s) [] (record { queue = f .queue; same = f .no-records; room = same-capacity s (formatted s) (f .kept-length) }) calls)
+    (run-same (capacity s) (formatted s) [] empty calls)

@@ -1,11 +1,18 @@
 -- The used and the free list (01: chain): the cells met from a first one by going to the next cell, until that is 0.
 -- Assumes nothing.
+use mathlib.Core.Path.{_≡_}
+use mathlib.Core.Logic.{_≢_}
 use mathlib.Core.Bool.{Bool, true}
 use mathlib.Core.List.{List, [], _∷_, map}
 use Prim.Native.Nat.{ℕ, zero, suc}
 use lib.Dec.{eqb}
 use Rattle.sheet.specs.Lists.{lastOf}
 use Rattle.sheet.specs.Layout.{capacity, next, firstFree, body}
+
+-- from cell i the cells of the list are met, and then 0: they end
+abbrev pub From : List ℕ → ℕ → List ℕ → Type 0
+From s i [] = i ≡ 0
+From s i (b ∷ l) = (i ≡ b) × (b ≢ 0) × From s (next s b) l
 
 -- the cells met from cell i in at most n steps
 abbrev pub chain : List ℕ → ℕ → ℕ → List ℕ

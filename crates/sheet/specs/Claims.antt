@@ -1,7 +1,7 @@
 -- What is claimed of a queue, each claim a named type, all of them fields of one record. proofs/Claims.antt has a term of it.
 -- Assumes nothing.
 use mathlib.Core.Path.{_≡_}
-use mathlib.Core.Logic.{_≢_}
+use mathlib.Core.Logic.{_≢_, _↔_}
 use mathlib.Core.List.{List, [], _∷_, _++_}
 use Prim.Native.Nat.{ℕ, _+_, _≤_}
 use lib.Dec.{T}
@@ -9,9 +9,18 @@ use lib.ListN.{length, getD}
 use Rattle.sheet.specs.Lists.{zeros, upFrom}
 use Rattle.sheet.specs.Layout.{bodySize, isQueueLength, capacity, next, firstFree, body}
 use Rattle.sheet.specs.Chains.{used, free, records, lastUsed}
-use Rattle.sheet.specs.Sound.{recordOf, Queue}
+use Rattle.sheet.specs.Sound.{recordOf, isRecord, sound, Queue}
+use Rattle.sheet.specs.Meaning.{Record, SoundQueue}
 use Rattle.sheet.specs.Operations.{formatted, enqueued, enqueueAnswer, peekAnswer, shown, cellOf, dequeued, dequeueAnswer, formatQueue}
 use Rattle.sheet.specs.Model.{Call, queueReply, queueAfter, listReply, listAfter, replies, left}
+
+-- 103 bytes pass as a used cell's exactly where they are a record.
+abbrev pub RecordLaw : Type 0
+RecordLaw = (r : List ℕ) → ((length r ≡ 103) × T (isRecord r)) ↔ Record r
+
+-- Bytes of a queue's length pass as sound exactly where they are what 01 calls sound.
+abbrev pub SoundLaw : Type 0
+SoundLaw = (s : List ℕ) → T (isQueueLength (length s)) → T (sound s) ↔ SoundQueue s
 
 -- cell i is the same in both, byte for byte
 pub record Unchanged (s s′ : List ℕ) (i : ℕ) : Type 0 where
@@ -34,19 +43,20 @@ abbrev pub FormatLaw : Type 0
 FormatLaw = (s : List ℕ) → T (isQueueLength (length s)) → Formatted s
 
 -- Enqueue (01: enter).
-pub record Enqueues (s : List ℕ) (b p : ℕ) (w : List ℕ) (s′ : List ℕ) : Type 0 where
+pub record Enqueues (s r s′ : List ℕ) : Type 0 where
   pub kept-length : length s′ ≡ length s
   pub queue : Queue s′
   pub used-after : used s′ ≡ used s ++ (firstFree s ∷ [])
   pub free-before : free s ≡ firstFree s ∷ free s′
-  pub records-after : records s′ ≡ records s ++ (recordOf b p w ∷ [])
+  pub records-after : records s′ ≡ records s ++ (r ∷ [])
   -- only the new cell, cell 0 and the former last cell change
   pub others : (i : ℕ) → i ≤ capacity s → i ≢ 0 → i ≢ firstFree s → i ≢ lastUsed s → Unchanged s s′ i
   -- and of the former last cell only the next cell
   pub last-body : (i : ℕ) → i ≤ capacity s → i ≢ 0 → i ≢ firstFree s → body s′ i ≡ body s i
 
 abbrev pub EnqueueLaw : Type 0
-EnqueueLaw = (s : List ℕ) (b p : ℕ) (w : List ℕ) → enqueueAnswer s b p w ≡ 0 → Enqueues s b p w (enqueued s b p w)
+EnqueueLaw =
+    (s : List ℕ) (b p : ℕ) (w : List ℕ) → enqueueAnswer s b p w ≡ 0 → let r = recordOf b p w in Enqueues s r (enqueued s r)
 
 -- 8 is met only with R records
 abbrev pub FullLaw : Type 0
@@ -87,6 +97,8 @@ abbrev pub ListRuleFrom : Type 0
 ListRuleFrom = (s : List ℕ) → Queue s → (calls : List Call) → AnswersAsList (capacity s) s (records s) calls
 
 pub record Claims : Type 0 where
+  pub record-law : RecordLaw
+  pub sound-law : SoundLaw
   pub lists-fill : ListsFill
   pub format-law : FormatLaw
   pub enqueue-law : EnqueueLaw

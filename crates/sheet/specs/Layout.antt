@@ -12,7 +12,15 @@ abbrev pub cellSize : ℕ
 cellSize = 104
 
 abbrev pub bodySize : ℕ
-bodySize = 103
+bodySize = cellSize - 1
+
+-- a used cell's body without box and profile: the word and the zeros after it
+abbrev pub paddedSize : ℕ
+paddedSize = bodySize - 2
+
+-- what cell 0 holds besides the first cells of both lists
+abbrev pub headerSize : ℕ
+headerSize = cellSize - 2
 
 -- 01, number 5: the length is 104 times a number from 2 to 256
 unfoldable pub isQueueLength : ℕ → Bool
@@ -39,6 +47,10 @@ firstFree s = getD s 1 0
 -- cell i without byte 0
 abbrev pub body : List ℕ → ℕ → List ℕ
 body s i = take bodySize (drop (i * cellSize + 1) s)
+
+-- cell 0 after the first cells of both lists: bytes 2 to 103
+abbrev pub header : List ℕ → List ℕ
+header s = take headerSize (drop 2 s)
 
 -- the queue with another number in each of those places
 abbrev pub setNext : List ℕ → ℕ → ℕ → List ℕ

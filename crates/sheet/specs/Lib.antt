@@ -2,6 +2,8 @@ pub mod Lists
 pub mod Layout
 pub mod Chains
 pub mod Sound
+pub mod Meaning
 pub mod Operations
+pub mod Allowed
 pub mod Model
 pub mod Claims

@@ -5,8 +5,9 @@ use mathlib.Core.List.{List, [], _∷_, _++_}
 use Prim.Native.Nat.{ℕ, _-_}
 use lib.Dec.{leb, ltb}
 use lib.ListN.{length, getD, drop}
+use Rattle.code.specs.Refusal.{firstRefusal, onSuccess}
 use Rattle.sheet.specs.Sound.{recordOf}
-use Rattle.sheet.specs.Operations.{onSuccess, enqueueRefusal, showRefusal, enqueueAnswer, enqueueQueue, peekAnswer, peekOutput, dequeueAnswer, dequeueQueue, dequeueOutput}
+use Rattle.sheet.specs.Operations.{enqueueTests, showTests, enqueueAnswer, enqueueQueue, peekAnswer, peekOutput, dequeueAnswer, dequeueQueue, dequeueOutput}
 
 -- a call with its arguments: box, profile and word; a record's number and the output's bytes; the output's bytes
 pub data Call : Type 0 where
@@ -44,18 +45,18 @@ hasRecord l k = leb 1 k && leb k (length l)
 
 abbrev pub showRecord : List (List ℕ) → ℕ → List ℕ → Reply
 showRecord l k out =
-    let n = showRefusal (hasRecord l k) out in
+    let n = firstRefusal (showTests (hasRecord l k) out) in
     reply n (onSuccess n (shownRecord l k) out)
 
 abbrev pub listReply : ℕ → List (List ℕ) → Call → Reply
-listReply R l (enqueue b p w) = reply (enqueueRefusal (ltb (length l) R) b p w) []
+listReply R l (enqueue b p w) = reply (firstRefusal (enqueueTests (ltb (length l) R) b p w)) []
 listReply R l (peek k out) = showRecord l k out
 listReply R l (dequeue out) = showRecord l 1 out
 
 abbrev pub listAfter : ℕ → List (List ℕ) → Call → List (List ℕ)
-listAfter R l (enqueue b p w) = onSuccess (enqueueRefusal (ltb (length l) R) b p w) (l ++ (recordOf b p w ∷ [])) l
+listAfter R l (enqueue b p w) = onSuccess (firstRefusal (enqueueTests (ltb (length l) R) b p w)) (l ++ (recordOf b p w ∷ [])) l
 listAfter R l (peek k out) = l
-listAfter R l (dequeue out) = onSuccess (showRefusal (hasRecord l 1) out) (drop 1 l) l
+listAfter R l (dequeue out) = onSuccess (firstRefusal (showTests (hasRecord l 1) out)) (drop 1 l) l
 
 -- the replies to a run of calls, and what it leaves, from a state
 abbrev pub replies : {S : Type 0} → (S → Call → Reply) → (S → Call → S) → S → List Call → List Reply

@@ -1,41 +1,50 @@
 -- The operations on a queue (01: Operations and their numbers), each as a function of the bytes that it is lent and its arguments:
 -- the answer, which is 0 or a refusal's number, and each buffer at exit.
 -- Assumes nothing.
-use mathlib.Core.Bool.{Bool, true, false, not}
-use mathlib.Core.List.{List, _∷_}
+use mathlib.Core.Bool.{Bool, not}
+use mathlib.Core.List.{List, [], _∷_, _++_}
 use Prim.Native.Nat.{ℕ, zero, suc, _-_}
 use lib.Dec.{eqb}
 use lib.ListN.{length, getD}
-use Rattle.code.specs.Component.{symbolsBelow}
-use Rattle.code.specs.Profiles.{isProfile}
+use Rattle.code.specs.Refusal.{Test, asks, firstRefusal, onSuccess}
+use Rattle.code.specs.Parameters.{codewordLength}
+use Rattle.code.specs.Component.{isReceived}
+use Rattle.code.specs.Profiles.{isProfile, profile}
 use Rattle.sheet.specs.Lists.{zeros}
 use Rattle.sheet.specs.Layout.{cellSize, bodySize, isQueueLength, capacity, next, firstFree, body, setNext, setFirstFree, setBody}
 use Rattle.sheet.specs.Chains.{used, lastUsed}
-use Rattle.sheet.specs.Sound.{isBox, levels, wordLength, recordOf, sound}
+use Rattle.sheet.specs.Sound.{isBox, recordOf, sound}
 
--- the refusal n where the test fails, and otherwise what the later tests say
-abbrev pub check : Bool → ℕ → ℕ → ℕ
-check true n later = later
-check false n later = n
+-- What is tested, each in 01's order.
 
--- a buffer at exit: written where the answer is 0, and as it was at a refusal
-abbrev pub onSuccess {ℓ} : {A : Type ℓ} → ℕ → A → A → A
-onSuccess zero written before = written
-onSuccess (suc n) written before = before
+-- of the bytes' length, before anything else
+abbrev pub lengthTests : List ℕ → List Test
+lengthTests s = asks (isQueueLength (length s)) 5 ∷ []
 
--- what enqueue refuses, over its arguments and whether there is room
-abbrev pub enqueueRefusal : Bool → ℕ → ℕ → List ℕ → ℕ
-enqueueRefusal room b p w =
-    check (isBox b) 7
-    (check (isProfile p) 1 (check (eqb (length w) (wordLength p)) 2 (check (symbolsBelow (levels p) w) 3 (check room 8 0))))
+-- of the bytes, by every operation on a queue
+abbrev pub soundTests : List ℕ → List Test
+soundTests s = lengthTests s ++ (asks (sound s) 6 ∷ [])
 
--- what peek and dequeue refuse, over the output and whether there is such a record
-abbrev pub showRefusal : Bool → List ℕ → ℕ
-showRefusal found out = check (eqb (length out) cellSize) 2 (check found 10 0)
+-- of a record's box, profile and word
+abbrev pub recordTests : ℕ → ℕ → List ℕ → List Test
+recordTests b p w =
+    asks (isBox b) 7
+    ∷ asks (isProfile p) 1
+    ∷ asks (eqb (length w) (codewordLength (profile p))) 2
+    ∷ asks (isReceived (profile p) w) 3
+    ∷ []
 
--- an answer of an operation on a queue's bytes: 5, then 6, then its own refusals
-abbrev pub onSound : List ℕ → ℕ → ℕ
-onSound s own = check (isQueueLength (length s)) 5 (check (sound s) 6 own)
+-- whether there is room for it
+abbrev pub roomTests : Bool → List Test
+roomTests room = asks room 8 ∷ []
+
+-- enqueue's own tests
+abbrev pub enqueueTests : Bool → ℕ → ℕ → List ℕ → List Test
+enqueueTests room b p w = recordTests b p w ++ roomTests room
+
+-- peek's and dequeue's own: of the output, and whether there is such a record
+abbrev pub showTests : Bool → List ℕ → List Test
+showTests found out = asks (eqb (length out) cellSize) 2 ∷ asks found 10 ∷ []
 
 -- 01: lay out
 
@@ -49,24 +58,24 @@ unfoldable pub formatted : List ℕ → List ℕ
 formatted s = setFirstFree (linked (zeros (length s)) 1 (capacity s - 1)) 1
 
 unfoldable pub formatAnswer : List ℕ → ℕ
-formatAnswer s = check (isQueueLength (length s)) 5 0
+formatAnswer s = firstRefusal (lengthTests s)
 
 unfoldable pub formatQueue : List ℕ → List ℕ
 formatQueue s = onSuccess (formatAnswer s) (formatted s) s
 
 -- 01: enter
 
--- the first free cell, with the record in it, goes to the end of the used list
-unfoldable pub enqueued : List ℕ → ℕ → ℕ → List ℕ → List ℕ
-enqueued s b p w =
+-- the first free cell, with the record r in it, goes to the end of the used list
+unfoldable pub enqueued : List ℕ → List ℕ → List ℕ
+enqueued s r =
     let c = firstFree s in
-    setBody (setNext (setNext (setFirstFree s (next s c)) c 0) (lastUsed s) c) c (recordOf b p w)
+    setBody (setNext (setNext (setFirstFree s (next s c)) c 0) (lastUsed s) c) c r
 
 unfoldable pub enqueueAnswer : List ℕ → ℕ → ℕ → List ℕ → ℕ
-enqueueAnswer s b p w = onSound s (enqueueRefusal (not (eqb (firstFree s) 0)) b p w)
+enqueueAnswer s b p w = firstRefusal (soundTests s ++ enqueueTests (not (eqb (firstFree s) 0)) b p w)
 
 unfoldable pub enqueueQueue : List ℕ → ℕ → ℕ → List ℕ → List ℕ
-enqueueQueue s b p w = onSuccess (enqueueAnswer s b p w) (enqueued s b p w) s
+enqueueQueue s b p w = onSuccess (enqueueAnswer s b p w) (enqueued s (recordOf b p w)) s
 
 -- 01: look
 
@@ -79,7 +88,7 @@ unfoldable pub shown : List ℕ → ℕ → List ℕ
 shown s i = 0 ∷ body s i
 
 unfoldable pub peekAnswer : List ℕ → ℕ → List ℕ → ℕ
-peekAnswer s k out = onSound s (showRefusal (not (eqb (cellOf s k) 0)) out)
+peekAnswer s k out = firstRefusal (soundTests s ++ showTests (not (eqb (cellOf s k) 0)) out)
 
 unfoldable pub peekOutput : List ℕ → ℕ → List ℕ → List ℕ
 peekOutput s k out = onSuccess (peekAnswer s k out) (shown s (cellOf s k)) out

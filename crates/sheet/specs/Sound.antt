@@ -7,34 +7,33 @@ use lib.Dec.{T, eqb, leb}
 use lib.ListN.{length, getD, take, drop}
 use Rattle.modular.specs.Search.{allBelow}
 use Rattle.code.specs.Parameters.{codewordLength}
-use Rattle.code.specs.Component.{symbolsBelow}
+use Rattle.code.specs.Component.{isReceived}
 use Rattle.code.specs.Profiles.{isProfile, profile}
 use Rattle.sheet.specs.Lists.{all, allZero, zeros, count}
-use Rattle.sheet.specs.Layout.{bodySize, isQueueLength, capacity, next, firstFree, body}
+use Rattle.sheet.specs.Layout.{paddedSize, isQueueLength, capacity, next, firstFree, body, header}
 use Rattle.sheet.specs.Chains.{chain, ends, used, free}
 
 -- 01: the box number is 1 to 40
 abbrev pub isBox : ℕ → Bool
 isBox b = leb 1 b && leb b 40
 
--- 01: q and N of a profile
-unfoldable pub levels : ℕ → ℕ
-levels p = profile p .q
-
-unfoldable pub wordLength : ℕ → ℕ
-wordLength p = codewordLength (profile p)
-
 -- the body of a used cell: box, profile, the word's symbols, then zeros
 unfoldable pub recordOf : ℕ → ℕ → List ℕ → List ℕ
-recordOf b p w = b ∷ p ∷ (w ++ zeros (bodySize - 2 - length w))
+recordOf b p w = b ∷ p ∷ (w ++ zeros (paddedSize - length w))
 
--- and the test of it: any box number with any profile, and words as received
+-- the test of its bytes after box and profile p: a word as received, and then zeros
+unfoldable pub isPadded : ℕ → List ℕ → Bool
+isPadded p l =
+    let n = codewordLength (profile p) in
+    isProfile p && (isReceived (profile p) (take n l) && allZero (drop n l))
+
+-- and of all of them: any box number with any profile
 unfoldable pub isRecord : List ℕ → Bool
-isRecord r =
-    let p = getD r 1 0 in
-    isBox (getD r 0 0)
-    && (isProfile p
-    && (symbolsBelow (levels p) (take (wordLength p) (drop 2 r)) && allZero (drop (wordLength p) (drop 2 r))))
+isRecord r = isBox (getD r 0 0) && isPadded (getD r 1 0) (drop 2 r)
+
+-- the test of cell 0 besides the first cells of both lists (01: the rest zero)
+unfoldable pub isHeader : List ℕ → Bool
+isHeader h = allZero h
 
 -- by kind, true for used: the body of a used cell is a record, and that of a free one is zero
 abbrev pub isBody : Bool → List ℕ → Bool
@@ -53,10 +52,10 @@ isList s kind n i = ends s n i && all (isCell s kind) (chain s n i)
 unfoldable pub eachOnce : ℕ → List ℕ → Bool
 eachOnce n l = allBelow (λ i. eqb (count (suc i) l) 1) n
 
--- 01: sound; of cell 0 only bytes 0 and 1 may not be zero
+-- 01: sound, in cell 0 and in the lists
 unfoldable pub sound : List ℕ → Bool
 sound s =
-    allZero (drop 1 (body s 0))
+    isHeader (header s)
     && (isList s true (capacity s) (next s 0)
     && (isList s false (capacity s) (firstFree s) && eachOnce (capacity s) (used s ++ free s)))
 

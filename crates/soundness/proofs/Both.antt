@@ -5,12 +5,11 @@ use mathlib.Core.Bool.{Bool, true, false, _&&_, and-false}
 use mathlib.Core.List.{List, _++_}
 use Prim.Native.Nat.{ℕ, suc}
 use lib.Dec.{T, eqb}
-use lib.ListN.{length, getD, drop}
+use lib.ListN.{length, getD}
 use Rattle.modular.specs.Search.{allBelow}
-use Rattle.sheet.specs.Lists.{allZero}
-use Rattle.sheet.specs.Layout.{isQueueLength, capacity, next, firstFree, body}
+use Rattle.sheet.specs.Layout.{isQueueLength, capacity, next, firstFree, header}
 use Rattle.sheet.specs.Chains.{chain, used, free}
-use Rattle.sheet.specs.Sound.{isList, eachOnce, sound}
+use Rattle.sheet.specs.Sound.{isHeader, isList, eachOnce, sound}
 use Rattle.sheet.proofs.Lists.{size-of}
 use Rattle.soundness.specs.declared.lists.Walked.{Walked}
 use Rattle.soundness.specs.Checked.{reached}
@@ -20,12 +19,13 @@ use Rattle.soundness.proofs.Conditions.{second-off, no-truth}
 use Rattle.soundness.proofs.Tallies.{noneSeen, few-seen, both-seen}
 
 -- the free list's test first, and the last test only where that one passed
-four-tests : (spare used free once f s o : Bool) → used ≡ true → f ≡ free → s ≡ spare → (free ≡ true → o ≡ once)
-    → (f && (s && o)) ≡ (spare && (used && (free && once)))
-four-tests spare used true once f s o u e a d = rw (e, a, u, d refl)
-four-tests spare used false once f s o u e a d = rw (e, u) (sym (and-false spare))
+four-tests : (head used free once f h o : Bool) → used ≡ true → f ≡ free → h ≡ head → (free ≡ true → o ≡ once)
+    → (f && (h && o)) ≡ (head && (used && (free && once)))
+four-tests head used true once f h o u e a d = rw (e, a, u, d refl)
+four-tests head used false once f h o u e a d = rw (e, u) (sym (and-false head))
 
-module _ (s : List ℕ) (k i : ℕ) (t : List ℕ) (u : Walked) (size : T (isQueueLength (length s))) (first : i ≡ next s 0) (walked : Walks s true i k noneSeen t u) where
+module _ (s : List ℕ) (k i : ℕ) (t : List ℕ) (u : Walked) (size : T (isQueueLength (length s))) (first : i ≡ next s 0)
+    (walked : Walks s true i k noneSeen t u) where
   abbrev R : ℕ
   R = capacity s
 
@@ -36,7 +36,7 @@ module _ (s : List ℕ) (k i : ℕ) (t : List ℕ) (u : Walked) (size : T (isQue
   unfolding sound
   unsound e =
       record {
-        good-is = e ∙ second-off (allZero (drop 1 (body s 0))) (isList s true R (next s 0)) _ (sym list-is ∙ e);
+        good-is = e ∙ second-off (isHeader (header s)) (isList s true R (next s 0)) _ (sym list-is ∙ e);
         cell-is = λ g. no-truth g e;
         records-is = λ g. no-truth g e;
       }
@@ -48,11 +48,11 @@ module _ (s : List ℕ) (k i : ℕ) (t : List ℕ) (u : Walked) (size : T (isQue
     pub few-after : AtMost 255 t
     few-after = subst (AtMost 255) (sym (found .seen)) (few-seen s R (next s 0) (size-of s size .few))
 
-    pub checks : (j : ℕ) (t′ : List ℕ) (f : Walked) (spare once : Bool) → j ≡ firstFree s → Walks s false j 0 t t′ f → spare ≡ allZero (drop 1 (body s 0))
-        → once ≡ allBelow (λ c. eqb (getD t′ (suc c) 0) 1) R
-        → Checks s k (record { good = f .good && (spare && once); cell = u .cell; records = u .records })
+    pub checks : (j : ℕ) (t′ : List ℕ) (f : Walked) (head once : Bool) → j ≡ firstFree s → Walks s false j 0 t t′ f
+        → head ≡ isHeader (header s) → once ≡ allBelow (λ c. eqb (getD t′ (suc c) 0) 1) R
+        → Checks s k (record { good = f .good && (head && once); cell = u .cell; records = u .records })
     unfolding sound reached used free
-    checks j t′ f spare once second w a o =
+    checks j t′ f head once second w a o =
         let U = chain s R (next s 0) in
         let F = chain s R (firstFree s) in
         let free-is : f .good ≡ isList s false R (firstFree s) = w .good-is ∙ ap (isList s false R) second in
@@ -60,7 +60,8 @@ module _ (s : List ℕ) (k i : ℕ) (t : List ℕ) (u : Walked) (size : T (isQue
         λ g. w .found g .seen ∙ ap₂ (λ (l : List ℕ) (c : ℕ). tallied l (chain s R c)) (found .seen) second in
         record {
           good-is =
-              four-tests (allZero (drop 1 (body s 0))) (isList s true R (next s 0)) (isList s false R (firstFree s)) (eachOnce R (used s ++ free s)) (f .good) spare once (sym list-is ∙ good) free-is a
+              four-tests (isHeader (header s)) (isList s true R (next s 0)) (isList s false R (firstFree s)) (eachOnce R (used s ++ free s))
+              (f .good) head once (sym list-is ∙ good) free-is a
               (λ g. o
               ∙ ap (λ (l : List ℕ). allBelow (λ c. eqb (getD l (suc c) 0) 1) R) (tally (free-is ∙ g))
               ∙ both-seen R U F (size-of s size .few));

@@ -1,5 +1,4 @@
 pub mod Rows
-pub mod Bytes
 pub mod Conditions
 pub mod Walks
 pub mod Tallies

@@ -1,18 +1,13 @@
--- q and N of a profile, from its row.
+-- Which symbols a received word of a profile may have, from the profile's row.
 -- Assumes nothing.
-use mathlib.Core.Path.{_≡_}
+use mathlib.Core.Path.{_≡_, ap}
+use mathlib.Core.List.{List}
 use Prim.Native.Nat.{ℕ}
-use Rattle.code.specs.Profiles.{derivedRow}
-use Rattle.sheet.specs.Sound.{levels, wordLength}
+use Rattle.code.specs.Component.{symbolsBelow, isReceived}
+use Rattle.code.specs.Profiles.{profile}
 use Rattle.profiles.specs.declared.row.Row.{Row}
-use Rattle.profiles.specs.Row.{cells}
-use Rattle.profiles.proofs.Table.{levels-are, codeword-is}
+use Rattle.profiles.specs.Row.{RowOf}
+use Rattle.profiles.proofs.Table.{levels-are}
 
-module _ (p : ℕ) (t : Row) (row : cells p t ≡ derivedRow p) where
-  pub levels-is : t .q ≡ levels p
-  unfolding levels
-  levels-is = levels-are p row
-
-  pub length-is : t .codeword ≡ wordLength p
-  unfolding wordLength
-  length-is = codeword-is p row
+pub received-is : {p : ℕ} {t : Row} → RowOf p t → (w : List ℕ) → symbolsBelow (t .q) w ≡ isReceived (profile p) w
+received-is of w = ap (λ (q : ℕ). symbolsBelow q w) (levels-are of)

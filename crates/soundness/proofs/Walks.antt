@@ -93,7 +93,8 @@ pub record Walk (s : List ℕ) (kind : Bool) (first k : ℕ) (t₀ t : List ℕ)
   pub bound : (j : ℕ) → getD t j 0 + n ≤ 255 + capacity s
   pub steps : met + n ≡ capacity s
 
-pub walk-start : (s : List ℕ) (kind : Bool) (first k : ℕ) (t₀ : List ℕ) (n : ℕ) → AtMost 255 t₀ → n ≡ capacity s → Walk s kind first k t₀ t₀ n first 0 0
+pub walk-start : (s : List ℕ) (kind : Bool) (first k : ℕ) (t₀ : List ℕ) (n : ℕ) → AtMost 255 t₀ → n ≡ capacity s
+    → Walk s kind first k t₀ t₀ n first 0 0
 walk-start s kind first k t₀ n h e =
     subst (λ (m : ℕ). Walk s kind first k t₀ t₀ m first 0 0) (sym e)
     (record {
@@ -105,7 +106,7 @@ walk-start s kind first k t₀ n h e =
       steps = omega arith;
     })
 
-module _ (s : List ℕ) (kind : Bool) (first k : ℕ) (t₀ t : List ℕ) (n i cell met : ℕ) (w : Walk s kind first k t₀ t n i cell met) where
+module _ {s : List ℕ} {kind : Bool} {first k : ℕ} {t₀ t : List ℕ} {n i cell met : ℕ} (w : Walk s kind first k t₀ t n i cell met) where
   -- the list has ended
   pub walk-ended : i ≡ 0 → Walks s kind first k t₀ t (record { good = true; cell = cell; records = met })
   walk-ended e =
@@ -115,7 +116,8 @@ module _ (s : List ℕ) (kind : Bool) (first k : ℕ) (t₀ t : List ℕ) (n i c
         found =
             λ _. record {
               seen = sym (w .seen ∙ ap (tallied t) none);
-              cell-is = sym (w .cell-is ∙ ap (λ (l : List ℕ). lastOf cell (take (k - met) l)) none ∙ ap (lastOf cell) (take-none (k - met)));
+              cell-is =
+                  sym (w .cell-is ∙ ap (λ (l : List ℕ). lastOf cell (take (k - met) l)) none ∙ ap (lastOf cell) (take-none (k - met)));
               records-is = omega (arith, w .records-is, ap length none);
             };
       }

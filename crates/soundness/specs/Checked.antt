@@ -1,13 +1,12 @@
 -- What a check of a queue answers.
 -- Assumes nothing.
-use mathlib.Core.Bool.{Bool, true, false}
 use mathlib.Core.List.{List}
 use Prim.Native.Nat.{ℕ}
 use lib.ListN.{length, take}
+use Rattle.code.specs.Refusal.{firstRefusal, onSuccess}
 use Rattle.sheet.specs.Lists.{lastOf}
-use Rattle.sheet.specs.Layout.{isQueueLength}
 use Rattle.sheet.specs.Chains.{used}
-use Rattle.sheet.specs.Sound.{sound}
+use Rattle.sheet.specs.Operations.{soundTests}
 use Rattle.soundness.specs.declared.Checked.{Checked}
 use Rattle.soundness.specs.declared.Checked.the-variants.{WrongLength, Unsound, Sound}
 
@@ -15,11 +14,22 @@ use Rattle.soundness.specs.declared.Checked.the-variants.{WrongLength, U
 unfoldable pub reached : List ℕ → ℕ → ℕ
 reached s k = lastOf 0 (take k (used s))
 
-abbrev pub pick : Bool → Checked → Checked → Checked
-pick true a b = a
-pick false a b = b
+-- what a check tells: 01's number, or 0 for a sound queue, and of a sound queue the cell that was asked for and the number of records
+pub record CheckReport : Type 0 where
+  pub number : ℕ
+  pub cell : ℕ
+  pub records : ℕ
+
+abbrev pub checkReport : ℕ → ℕ → ℕ → CheckReport
+checkReport n cell records = record { number = n; cell = cell; records = records }
+
+abbrev pub checkedReport : Checked → CheckReport
+checkedReport WrongLength = checkReport 5 0 0
+checkedReport Unsound = checkReport 6 0 0
+checkedReport (Sound cell records) = checkReport 0 cell records
 
 -- 5, then 6, and otherwise the cell of record k, or the last used one, and the number of records
-unfoldable pub checked : List ℕ → ℕ → Checked
+unfoldable pub checked : List ℕ → ℕ → CheckReport
 checked s k =
-    pick (isQueueLength (length s)) (pick (sound s) (Sound (reached s k) (length (used s))) Unsound) WrongLength
+    let n = firstRefusal (soundTests s) in
+    checkReport n (onSuccess n (reached s k) 0) (onSuccess n (length (used s)) 0)

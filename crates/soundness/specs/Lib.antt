@@ -1,4 +1,3 @@
-pub mod Word
 pub mod Tally
 pub mod Checked
 pub mod Walked

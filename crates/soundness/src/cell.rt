@@ -1,30 +1,35 @@
 // Whether a cell is as a used or a free one has to be.
+use cells::BODY_SIZE;
+use cells::CELL_SIZE;
+use cells::all_zero;
 use cells::capacity;
+use profiles::Lookup;
 use profiles::row_of;
 use profiles::symbols_below;
 ghost use mathlib.Core.Path.{_≡_};
 ghost use lib.Dec.{T};
 ghost use lib.ListN.{length};
-ghost use Rattle.code.specs.Profiles.{isProfile};
-ghost use Rattle.sheet.specs.Layout.{isQueueLength};
-ghost use Rattle.sheet.specs.Sound.{isRecord, isCell};
-ghost use Rattle.soundness.specs.Word.{isWord};
+ghost use Rattle.sheet.specs.Layout.{bodySize, paddedSize, isQueueLength, header};
+ghost use Rattle.sheet.specs.Sound.{isPadded, isRecord, isHeader, isCell};
 
-// Whether the bytes are a word of the profile, and then zeros.
+// Whether the bytes after box and profile are a word of the profile, and then zeros.
 fn is_padded(bytes: &[u8], profile: usize) -> bool
-    requires { ⌜ T (isProfile profile) × (length (now bytes) ≡ 101) ⌝ }
-    ensures { λ r. ⌜ r ≡ isWord profile (now (bytes .entry)) ⌝ }
+    requires { ⌜ length (now bytes) ≡ paddedSize ⌝ }
+    ensures { λ r. ⌜ r ≡ isPadded profile (now (bytes .entry)) ⌝ }
 {
-    let row = row_of(profile);
+    let Lookup::Found(row) = row_of(profile) else {
+        return false;
+    };
     let q = row.q;
     let n = row.codeword;
-    symbols_below(&bytes[..n], q) & symbols_below(&bytes[n..], 1)
+    symbols_below(&bytes[..n], q) & all_zero(&bytes[n..])
 }
 
-// The same for a number that may be no profile's. Each profile has a call of its own, so that the compiler knows the loops' lengths.
+// The same. Each profile has an arm of its own, so that the compiler knows the loops' lengths: without the arms a look at a full queue of
+// 255 cells takes twice as long.
 fn is_word(bytes: &[u8], profile: u8) -> bool
-    requires { ⌜ length (now bytes) ≡ 101 ⌝ }
-    ensures { λ r. ⌜ r ≡ isWord profile (now (bytes .entry)) ⌝ }
+    requires { ⌜ length (now bytes) ≡ paddedSize ⌝ }
+    ensures { λ r. ⌜ r ≡ isPadded profile (now (bytes .entry)) ⌝ }
 {
     match profile {
         1 => is_padded(bytes, 1),
@@ -35,13 +40,21 @@ fn is_word(bytes: &[u8], profile: u8) -> bool
     }
 }
 
-// Whether the 103 bytes of a cell after byte 0 are a record.
+// Whether the bytes of a cell after byte 0 are a record.
 fn is_record(body: &[u8]) -> bool
-    requires { ⌜ length (now body) ≡ 103 ⌝ }
+    requires { ⌜ length (now body) ≡ bodySize ⌝ }
     ensures { λ r. ⌜ r ≡ isRecord (now (body .entry)) ⌝ }
 {
     let boxno = body[0];
     ((1 <= boxno) & (boxno <= 40)) & is_word(&body[2..], body[1])
+}
+
+// Whether cell 0 is as it has to be, besides the first cells of both lists.
+pub(crate) fn is_header(queue: &[u8]) -> bool
+    requires { ⌜ T (isQueueLength (length (now queue))) ⌝ }
+    ensures { λ r. ⌜ r ≡ isHeader (header (now (queue .entry))) ⌝ }
+{
+    all_zero(&queue[2..CELL_SIZE])
 }
 
 // Whether a number is a cell's, and the cell is as a used or a free one has to be.
@@ -52,11 +65,11 @@ pub(crate) fn is_cell(queue: &[u8], used: bool, cell: usize) -> bool
     if cell > capacity(queue) {
         return false;
     }
-    let a = cell * 104 + 1;
-    let body = &queue[a..a + 103];
+    let a = cell * CELL_SIZE + 1;
+    let body = &queue[a..a + BODY_SIZE];
     if used {
         is_record(body)
     } else {
-        symbols_below(body, 1)
+        all_zero(body)
     }
 }

@@ -1,7 +1,8 @@
 // The two lists of a queue (01: chains), each walked once. A table counts how often each cell is met, so the test is linear in the bytes.
 use crate::cell::is_cell;
+use crate::cell::is_header;
+use cells::CELL_SIZE;
 use cells::capacity;
-use profiles::symbols_below;
 ghost use mathlib.Core.Path.{_≡_};
 ghost use Prim.Native.Nat.{suc, _≤_};
 ghost use lib.Dec.{T, eqb};
@@ -53,7 +54,7 @@ fn walk(queue: &[u8], used: bool, first: usize, number: usize, seen: &mut [u16; 
         seen[cell] += 1;
         met += 1;
         reached = go_on(cell, reached, met, number);
-        let at = cell * 104;
+        let at = cell * CELL_SIZE;
         cell = queue[at] as usize;
         left -= 1;
     }
@@ -89,10 +90,10 @@ pub(crate) fn walk_both(queue: &[u8], number: usize) -> Walked
         return used;
     }
     let free = walk(queue, false, queue[1] as usize, 0, &mut seen);
-    let spare = symbols_below(&queue[2..104], 1);
+    let header = is_header(queue);
     let once = each_once(&seen, capacity(queue));
     Walked {
-        good: free.good & (spare & once),
+        good: free.good & (header & once),
         cell: used.cell,
         records: used.records,
     }

@@ -5,7 +5,7 @@ use Prim.Native.Nat.{ℕ, _+_, _-_, _*_, _≤_}
 use native.Mathlib.Omega.{arith}
 use lib.ListN.{length, length-set}
 use denote.Ref.{now}
-use Rattle.sheet.specs.Layout.{Size}
+use Rattle.sheet.specs.Layout.{cellSize, Size}
 use Rattle.sheet.specs.Operations.{linked}
 use Rattle.sheet.proofs.Lists.{size-of}
 use borrow.Author.Needs.{needs}
@@ -52,7 +52,7 @@ loop-again : tie.Need-loop-again Inv-loop μ-loop
 loop-again c =
     let l = c .before .loop in (
       l .inv .0 ∙ link-on (l .queue) (l .i) (c .before .before .capacity .result) (c .loop-test .taken),
-      length-set (l .queue) (l .i * 104) (l .i + 1) ∙ l .inv .1,
+      length-set (l .queue) (l .i * cellSize) (l .i + 1) ∙ l .inv .1,
       omega arith,
     )
 

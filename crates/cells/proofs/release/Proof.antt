@@ -8,7 +8,7 @@ use lib.ListN.{length, length-set}
 use lib.Seq.{getD-set-other}
 use denote.Ref.{now}
 use Rattle.sheet.specs.Lists.{zeros}
-use Rattle.sheet.specs.Layout.{bodySize, next}
+use Rattle.sheet.specs.Layout.{cellSize, bodySize, next}
 use Rattle.cells.proofs.Cells.{freed, stays}
 use borrow.Author.Needs.{needs}
 use Rattle.cells.proofs.release.Statement.{statement}
@@ -17,7 +17,7 @@ use Rattle.cells.proofs.release.Tie as tie
 abbrev S : tie.After-slice-known2 → List ℕ
 S c = now (c .before .before .before .args .queue)
 
-fit : (c : tie.Else2) → (next (S (c .before)) 0 + 1) * 104 ≤ length (S (c .before))
+fit : (c : tie.Else2) → (next (S (c .before)) 0 + 1) * cellSize ≤ length (S (c .before))
 fit c = omega arith
 
 returns : tie.Need-returns

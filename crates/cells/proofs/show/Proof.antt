@@ -11,6 +11,7 @@ use Rattle.cells.proofs.Bytes.{part, copied-same}
 use Rattle.cells.proofs.Cells.{fits, fits-both, shows, keeps, cell-shown}
 use borrow.Author.Needs.{needs}
 use Rattle.modular.proofs.Search.{holds}
+use Rattle.sheet.specs.Layout.{cellSize}
 use Rattle.cells.proofs.show.Statement.{statement}
 use Rattle.cells.proofs.show.Tie as tie
 
@@ -23,7 +24,7 @@ S c = now (start c .args .queue)
 abbrev O : tie.Then1 → List ℕ
 O c = now (start c .args .out)
 
-fit : (c : tie.Then1) → ((start c .args .cell + 1) * 104 ≤ length (S c)) × (length (O c) ≡ 104)
+fit : (c : tie.Then1) → ((start c .args .cell + 1) * cellSize ≤ length (S c)) × (length (O c) ≡ cellSize)
 fit c =
     let i = start c .args .cell in
     fits-both (S c) (O c) i (holds (fits (S c) (O c) i) (c .if1 .taken))
@@ -60,8 +61,8 @@ returns c =
     let s = S e in
     let i = start e .args .cell in
     let long = k .before .copy-arg2 .given .2 in
-    let fills : length (O e) ≡ i * 104 + 104 - i * 104 = omega (arith, fit e) in
-    ap (λ (l : List ℕ). set l 0 0) (k .copy .ensures ∙ copied-same (O e) _ (fills ∙ sym long) ∙ part s (i * 104) 104)
+    let fills : length (O e) ≡ i * cellSize + cellSize - i * cellSize = omega (arith, fit e) in
+    ap (λ (l : List ℕ). set l 0 0) (k .copy .ensures ∙ copied-same (O e) _ (fills ∙ sym long) ∙ part s (i * cellSize) cellSize)
     ∙ cell-shown s i (fit e .0)
     ∙ sym (shows s (O e) i (fit e .0) (fit e .1))
 

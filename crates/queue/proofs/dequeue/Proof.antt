@@ -1,12 +1,14 @@
 -- `dequeue` meets its contract: what `peek` refuses leaves the queue, and otherwise the first cell is released.
 -- Assumes nothing.
 use mathlib.Core.Path.{_≡_, sym, _∙_}
+use mathlib.Core.List.{List}
+use Prim.Native.Nat.{ℕ}
 use denote.Ref.{now}
+use Rattle.code.proofs.Refusal.{kept, wrote}
 use Rattle.sheet.specs.Operations.{peekAnswer, dequeueAnswer, dequeueQueue, dequeueOutput}
 use Rattle.sheet.proofs.Answers.{Showing, showing}
 use Rattle.sheet.proofs.Laws.{first-cell}
 use Rattle.cells.proofs.Cells.{releases}
-use Rattle.queue.proofs.Conditions.{kept, wrote}
 use Rattle.queue.proofs.Told.{told-done, told-refused}
 use Rattle.queue.proofs.Stores.{first-fits}
 use borrow.Author.Needs.{needs}
@@ -16,10 +18,20 @@ use Rattle.queue.proofs.dequeue.Tie as tie
 abbrev start : tie.After-peek → tie.Start
 start c = c .before .before .before .before .before
 
-shown-at : (c : tie.After-enum-told) → peekAnswer (now (start (c .before .before .before .before) .args .queue)) 1 (now (start (c .before .before .before .before) .args .out)) ≡ 0
-shown-at c = sym (c .before .before .before .before .peek .ensures .0) ∙ told-done (c .before .before .before .before .peek .result) (c .before .match .keys1)
+-- the call of `peek`, where it has shown a record
+abbrev peeked : tie.After-enum-told → tie.After-peek
+peeked c = c .before .before .before .before
 
-shows : (c : tie.After-enum-told) → Showing (now (start (c .before .before .before .before) .args .queue)) 1 (now (start (c .before .before .before .before) .args .out))
+abbrev S : tie.After-peek → List ℕ
+S c = now (start c .args .queue)
+
+abbrev O : tie.After-peek → List ℕ
+O c = now (start c .args .out)
+
+shown-at : (c : tie.After-enum-told) → peekAnswer (S (peeked c)) 1 (O (peeked c)) ≡ 0
+shown-at c = sym (peeked c .peek .ensures .answer) ∙ told-done (peeked c .peek .result) (c .before .match .keys1)
+
+shows : (c : tie.After-enum-told) → Showing (S (peeked c)) 1 (O (peeked c))
 shows c = showing _ _ _ (shown-at c)
 
 peek-requires : tie.Need-peek-requires
@@ -38,7 +50,12 @@ returns : tie.Need-returns
 unfolding dequeueAnswer dequeueQueue dequeueOutput
 returns c =
     let k = c .before .before .before in
-    (k .peek .ensures .0, (kept _ _ (now (start k .args .queue)) (λ e. told-refused (k .peek .result) (c .match .keys2) (k .peek .ensures .0 ∙ e)), k .peek .ensures .1))
+    let allowed = k .peek .ensures in
+    record {
+      answer = allowed .answer;
+      queue = kept _ _ (S k) (λ e. told-refused (k .peek .result) (c .match .keys2) (allowed .answer ∙ e));
+      output = allowed .output;
+    }
 
 release-requires : tie.Need-release-requires
 release-requires c κs = search needs
@@ -55,10 +72,14 @@ returns-2 c =
     let k = c .before .before in
     let t = k .before .before in
     let e = shown-at t in
-    let s = now (start (t .before .before .before .before) .args .queue) in
+    let s = S (peeked t) in
     let q = shows t .queue in
     let fits = first-fits s q (λ z. shows t .found (first-cell s q ∙ z)) in
-    (sym e, (k .release .ensures ∙ releases s fits ∙ wrote _ _ _ e, t .before .before .before .before .peek .ensures .1))
+    record {
+      answer = sym e;
+      queue = k .release .ensures ∙ releases s fits ∙ wrote _ _ _ e;
+      output = peeked t .peek .ensures .output;
+    }
 
 pub dequeue-spec : {M : Type 1} → statement M
 dequeue-spec =

@@ -1,22 +1,28 @@
 -- `enqueue` meets its contract: what is refused leaves the queue, and what is admitted is stored after the last used cell.
 -- Assumes nothing.
-use mathlib.Core.Path.{_≡_, refl, sym, _∙_}
+use mathlib.Core.Path.{_≡_, sym, ap, _∙_}
 use mathlib.Core.Logic.{_≢_}
-use mathlib.Core.Bool.{Bool, true, not}
-use mathlib.Core.List.{List}
+use mathlib.Core.Bool.{Bool, not}
+use mathlib.Core.List.{List, []}
 use Prim.Native.Nat.{ℕ}
 use native.Mathlib.Omega.{arith}
 use lib.Dec.{eqb, leb, leb→le}
 use denote.Ref.{now}
 use borrow.Author.Tests.{not-true, not-false}
-use Rattle.modular.proofs.Search.{and-right}
+use Rattle.modular.proofs.Search.{and-right, holds}
+use Rattle.code.specs.Refusal.{Test, asks, firstRefusal}
+use Rattle.code.proofs.Refusal.{past, past-none, stops, refused-first, kept, wrote}
 use Rattle.sheet.specs.Layout.{firstFree}
-use Rattle.sheet.specs.Operations.{check, enqueueRefusal, enqueueAnswer, enqueueQueue}
+use Rattle.sheet.specs.Sound.{recordOf}
+use Rattle.sheet.specs.Operations.{recordTests, roomTests, enqueueTests, enqueued, enqueueAnswer, enqueueQueue}
 use Rattle.sheet.proofs.Lists.{size-of}
 use Rattle.sheet.proofs.Answers.{Entering, on-sound, entering}
-use Rattle.queue.proofs.Conditions.{refuses, admits, kept, wrote}
+use Rattle.soundness.specs.Checked.{checkedReport}
+use Rattle.queue.specs.declared.Answer.{Answer}
+use Rattle.queue.specs.declared.Answer.the-variants.{Full}
+use Rattle.sheet.specs.Allowed.{EnqueueAllows}
+use Rattle.queue.specs.Answer.{numberOf}
 use Rattle.queue.proofs.Checking.{Told, told-sound, told-unsound, last-at}
-use Rattle.queue.proofs.Refusing.{refused-anyhow, room-decides}
 use Rattle.queue.proofs.Told.{told-done, told-refused}
 use borrow.Author.Needs.{needs}
 use Rattle.queue.proofs.enqueue.Statement.{statement}
@@ -43,42 +49,59 @@ W c = now (c .args .word)
 abbrev room : tie.Start → Bool
 room c = not (eqb (firstFree (S c)) 0)
 
+-- the tests after those of the bytes: the record's, and then whether there is room
+abbrev of-record : tie.Start → List Test
+of-record a = recordTests (B a) (P a) (W a)
+
+abbrev own : tie.Start → List Test
+own a = enqueueTests (room a) (B a) (P a) (W a)
+
+-- what the contract fixes of the answer
+abbrev answer-of : tie.Start → ℕ
+answer-of a = enqueueAnswer (S a) (B a) (P a) (W a)
+
 -- the last used cell, as the check gave it
 abbrev last-of : tie.After-known-told → ℕ
 last-of c = c .before .checked .given .0 .0
 
-told : (c : tie.After-known-told) → Told (S (begin c)) 255 (last-of c) (c .before .checked .given .0 .1 .0)
+-- and the number of records
+abbrev count-of : tie.After-known-told → ℕ
+count-of c = c .before .checked .given .0 .1 .0
+
+told : (c : tie.After-known-told) → Told (S (begin c)) 255 (last-of c) (count-of c)
 told c =
     let k = c .before .before .before in
-    told-sound (S (start k)) 255 (last-of c) (c .before .checked .given .0 .1 .0) (sym (c .before .checked .given .1) ∙ k .check .ensures)
+    told-sound (S (start k)) 255 (last-of c) (count-of c) (ap checkedReport (sym (c .before .checked .given .1)) ∙ k .check .ensures)
 
 -- a refusal keeps the queue
-refused : (s : List ℕ) (b p : ℕ) (w : List ℕ) (n : ℕ) → n ≢ 0 → n ≡ enqueueAnswer s b p w → (n ≡ enqueueAnswer s b p w) × (s ≡ enqueueQueue s b p w)
+refused : (s : List ℕ) (b p : ℕ) (w : List ℕ) (a : Answer) → numberOf a ≢ 0 → numberOf a ≡ enqueueAnswer s b p w → EnqueueAllows s b p w (numberOf a) s
 unfolding enqueueQueue
-refused s b p w n d e = (e, kept _ _ s (λ z. d (e ∙ z)))
+refused s b p w a d e = record { answer = e; queue = kept _ _ s (λ z. d (e ∙ z)) }
 
 -- the answer of a sound queue
-answer : (c : tie.After-known-told) (n : ℕ) → n ≡ enqueueRefusal (room (begin c)) (B (begin c)) (P (begin c)) (W (begin c))
-    → n ≡ enqueueAnswer (S (begin c)) (B (begin c)) (P (begin c)) (W (begin c))
+answer : (c : tie.After-known-told) → firstRefusal (own (begin c)) ≡ answer-of (begin c)
 unfolding enqueueAnswer
-answer c n e = e ∙ sym (on-sound (S (begin c)) _ (told c .queue))
+answer c = sym (on-sound (S (begin c)) (own (begin c)) (told c .queue))
 
 abbrev asked : tie.After-slice-known2 → tie.After-known-told
 asked c = c .before .before .before .before
 
 -- the record is right, and so the answer is whether there is room
-by-room : (c : tie.After-slice-known2) (n : ℕ) → n ≡ check (room (begin (asked c))) 8 0
-    → n ≡ enqueueAnswer (S (begin (asked c))) (B (begin (asked c))) (P (begin (asked c))) (W (begin (asked c)))
-by-room c n e =
+by-room : (c : tie.After-slice-known2) → firstRefusal (roomTests (room (begin (asked c)))) ≡ answer-of (begin (asked c))
+by-room c =
     let m = c .before .before .before in
     let a = begin (asked c) in
-    let done : enqueueRefusal true (B a) (P a) (W a) ≡ 0 = sym (m .admit .ensures) ∙ told-done (m .admit .result) (c .before .before .match2 .keys1) in
-    answer (asked c) n (e ∙ sym (room-decides (room a) (B a) (P a) (W a) done))
+    let done : firstRefusal (of-record a) ≡ 0 = sym (m .admit .ensures) ∙ told-done (m .admit .result) (c .before .before .match2 .keys1) in
+    sym (past-none (of-record a) (roomTests (room a)) tt done) ∙ answer (asked c)
 
-entered : (c : tie.Else1) → enqueueAnswer (S (begin (asked (c .before)))) (B (begin (asked (c .before)))) (P (begin (asked (c .before)))) (W (begin (asked (c .before)))) ≡ 0
-entered c = sym (by-room (c .before) 0 (admits (room (begin (asked (c .before)))) 8 0 0 (not-false _ (c .if1 .left)) refl))
+-- the start of a call that has found room
+abbrev origin : tie.Else1 → tie.Start
+origin c = begin (asked (c .before))
 
-enters : (c : tie.Else1) → Entering (S (begin (asked (c .before)))) (B (begin (asked (c .before)))) (P (begin (asked (c .before)))) (W (begin (asked (c .before))))
+entered : (c : tie.Else1) → answer-of (origin c) ≡ 0
+entered c = sym (by-room (c .before)) ∙ past (roomTests (room (origin c))) [] (holds (room (origin c)) (not-false _ (c .if1 .left)), tt)
+
+enters : (c : tie.Else1) → Entering (S (origin c)) (B (origin c)) (P (origin c)) (W (origin c))
 enters c = entering _ _ _ _ (entered c)
 
 check-requires : tie.Need-check-requires
@@ -99,7 +122,7 @@ returns c =
     let k = c .before .before in
     let a = start k in
     let r = told-unsound (S a) 255 (k .check .result) (k .check .ensures) (c .before .match .keys2) in
-    refused (S a) (B a) (P a) (W a) _ (λ e. r .nonzero (sym (c .refuse .ensures) ∙ e)) (c .refuse .ensures ∙ r .answer _)
+    refused (S a) (B a) (P a) (W a) (c .refuse .result) (λ e. r .nonzero (sym (c .refuse .ensures) ∙ e)) (c .refuse .ensures ∙ r .answer (own a))
 
 admit-requires : tie.Need-admit-requires
 admit-requires c κs = search needs
@@ -115,9 +138,8 @@ returns-2 c =
     let m = c .before in
     let a = begin (m .before) in
     let d = told-refused (m .admit .result) (c .match2 .keys2) in
-    refused (S a) (B a) (P a) (W a) _ d
-    (answer (m .before) _
-    (m .admit .ensures ∙ refused-anyhow (room a) (B a) (P a) (W a) (λ e. d (m .admit .ensures ∙ e))))
+    refused (S a) (B a) (P a) (W a) (m .admit .result) d
+    (m .admit .ensures ∙ sym (refused-first (of-record a) (roomTests (room a)) (λ e. d (m .admit .ensures ∙ e))) ∙ answer (m .before))
 
 slice-read-room : tie.Need-slice-read-room
 slice-read-room c =
@@ -130,22 +152,23 @@ same-length-3 c = search needs
 returns-3 : tie.Need-returns-3
 returns-3 c =
     let a = begin (asked (c .before)) in
-    refused (S a) (B a) (P a) (W a) 8 (omega arith) (by-room (c .before) 8 (refuses (room a) 8 0 (not-true _ (c .if1 .taken))))
+    let number = stops [] (asks (room a) 8) [] tt (not-true _ (c .if1 .taken)) in
+    refused (S a) (B a) (P a) (W a) Full (omega arith) (sym number ∙ by-room (c .before))
 
 cast-store : tie.Need-cast-store
 cast-store c =
-    let b = B (begin (asked (c .before .before))) in
+    let b = B (origin (c .before)) in
     omega (arith, leb→le b 40 (and-right (leb 1 b) (leb b 40) (enters (c .before) .admits .box)))
 
 cast-store-2 : tie.Need-cast-store-2
 cast-store-2 c =
-    let p = P (begin (asked (c .before .before))) in
-    omega (arith, leb→le p 4 (and-right (leb 1 p) (leb p 4) (enters (c .before) .admits .profile)))
+    let p = P (origin (c .before)) in
+    omega (arith, leb→le p 4 (and-right (leb 1 p) (leb p 4) (enters (c .before) .admits .profiled)))
 
 store-requires : tie.Need-store-requires
 store-requires c κs =
     let t = asked (c .before .before) in
-    (entered (c .before), last-at (S (begin t)) (last-of t) (t .before .checked .given .0 .1 .0) (told t))
+    (entered (c .before), last-at (S (begin t)) (last-of t) (count-of t) (told t))
 
 same-length-4 : tie.Need-same-length-4
 same-length-4 c = search needs
@@ -154,8 +177,9 @@ returns-4 : tie.Need-returns-4
 unfolding enqueueQueue
 returns-4 c =
     let k = c .before .before in
+    let a = origin (k .before .before) in
     let e = entered (k .before .before) in
-    (sym e, k .store .ensures ∙ wrote _ _ _ e)
+    record { answer = sym e; queue = k .store .ensures ∙ wrote (answer-of a) (enqueued (S a) (recordOf (B a) (P a) (W a))) (S a) e }
 
 pub enqueue-spec : {M : Type 1} → statement M
 enqueue-spec =

@@ -1,21 +1,28 @@
 -- `peek` meets its contract: what is refused leaves the output, and otherwise the cell that the check led to is shown.
 -- Assumes nothing.
-use mathlib.Core.Path.{_≡_, refl, sym, ap, _∙_}
+use mathlib.Core.Path.{_≡_, sym, ap, _∙_}
 use mathlib.Core.Logic.{_≢_}
-use mathlib.Core.Bool.{Bool, _&&_}
-use mathlib.Core.List.{List}
+use mathlib.Core.Bool.{Bool, not, _&&_}
+use mathlib.Core.List.{List, [], _∷_}
 use Prim.Native.Nat.{ℕ}
 use native.Mathlib.Omega.{arith}
 use lib.Dec.{eqb, leb, leb→le}
 use lib.ListN.{length}
 use denote.Ref.{now}
-use borrow.Author.Tests.{eq-eqb, ne-eqb}
-use Rattle.modular.proofs.Search.{and-right, holds}
-use Rattle.sheet.specs.Operations.{showRefusal, cellOf, peekAnswer, peekOutput}
+use borrow.Author.Tests.{ne-eqb}
+use Rattle.modular.proofs.Search.{eq-test, and-right, holds}
+use Rattle.code.specs.Refusal.{Test, asks, firstRefusal}
+use Rattle.code.proofs.Refusal.{past, stops, kept, wrote}
+use Rattle.sheet.specs.Operations.{showTests, cellOf, peekAnswer, peekOutput}
 use Rattle.sheet.proofs.Answers.{on-sound, showing}
 use Rattle.cells.specs.Cells.{shownAt}
 use Rattle.cells.proofs.Cells.{shows}
-use Rattle.queue.proofs.Conditions.{refuses, admits, kept, wrote}
+use Rattle.soundness.specs.Checked.{checkedReport}
+use Rattle.sheet.specs.Layout.{cellSize}
+use Rattle.queue.specs.declared.Answer.{Answer}
+use Rattle.queue.specs.declared.Answer.the-variants.{Length, NoRecord}
+use Rattle.sheet.specs.Allowed.{PeekAllows}
+use Rattle.queue.specs.Answer.{numberOf}
 use Rattle.queue.proofs.Checking.{Told, told-sound, told-unsound, found-is, found-at}
 use Rattle.queue.proofs.Stores.{record-fits}
 use borrow.Author.Needs.{needs}
@@ -44,6 +51,13 @@ cell-of c = c .before .checked .given .0 .0
 abbrev count-of : tie.After-known-told → ℕ
 count-of c = c .before .checked .given .0 .1 .0
 
+-- the tests after those of the bytes
+abbrev own : tie.Start → List Test
+own a = showTests (not (eqb (cellOf (S a) (K a)) 0)) (O a)
+
+abbrev length-test : tie.Start → Test
+length-test a = asks (eqb (length (O a)) cellSize) 2
+
 -- whether there is such a record
 abbrev hit : tie.After-known-told → Bool
 hit c = leb 1 (K (begin c)) && leb (K (begin c)) (count-of c)
@@ -51,28 +65,34 @@ hit c = leb 1 (K (begin c)) && leb (K (begin c)) (count-of c)
 told : (c : tie.After-known-told) → Told (S (begin c)) (K (begin c)) (cell-of c) (count-of c)
 told c =
     let k = c .before .before .before in
-    told-sound (S (start k)) (K (start k)) (cell-of c) (count-of c) (sym (c .before .checked .given .1) ∙ k .check .ensures)
+    let a = start k in
+    told-sound (S a) (K a) (cell-of c) (count-of c) (ap checkedReport (sym (c .before .checked .given .1)) ∙ k .check .ensures)
 
 -- a refusal keeps the output
-refused : (s : List ℕ) (k : ℕ) (out : List ℕ) (n : ℕ) → n ≢ 0 → n ≡ peekAnswer s k out → (n ≡ peekAnswer s k out) × (out ≡ peekOutput s k out)
+refused : (s : List ℕ) (k : ℕ) (out : List ℕ) (a : Answer) → numberOf a ≢ 0 → numberOf a ≡ peekAnswer s k out → PeekAllows s k out (numberOf a) out
 unfolding peekOutput
-refused s k out n d e = (e, kept _ _ out (λ z. d (e ∙ z)))
+refused s k out a d e = record { answer = e; output = kept _ _ out (λ z. d (e ∙ z)) }
 
 -- the answer of a sound queue, by whether there is such a record
-answer : (c : tie.After-known-told) (n : ℕ) → n ≡ showRefusal (hit c) (O (begin c)) → n ≡ peekAnswer (S (begin c)) (K (begin c)) (O (begin c))
+answer : (c : tie.After-known-told) → firstRefusal (showTests (hit c) (O (begin c))) ≡ peekAnswer (S (begin c)) (K (begin c)) (O (begin c))
 unfolding peekAnswer
-answer c n e =
+answer c =
     let a = begin c in
-    e ∙ ap (λ (found : Bool). showRefusal found (O a)) (found-is (S a) (K a) (cell-of c) (count-of c) (told c)) ∙ sym (on-sound (S a) _ (told c .queue))
+    ap (λ (found : Bool). firstRefusal (showTests found (O a))) (found-is (S a) (K a) (cell-of c) (count-of c) (told c))
+    ∙ sym (on-sound (S a) (own a) (told c .queue))
 
-found : (c : tie.Then2) → peekAnswer (S (begin (c .before .before))) (K (begin (c .before .before))) (O (begin (c .before .before))) ≡ 0
+-- the moment at which a record is there to show
+abbrev hitting : tie.Then2 → tie.After-known-told
+hitting c = c .before .before
+
+found : (c : tie.Then2) → peekAnswer (S (begin (hitting c))) (K (begin (hitting c))) (O (begin (hitting c))) ≡ 0
 found c =
-    let t = c .before .before in
-    sym (answer t 0 (admits (eqb (length (O (begin t))) 104) 2 0 _ (eq-eqb _ _ (c .before .if1 .left)) (admits (hit t) 10 0 0 (c .if2 .taken) refl)))
+    let t = hitting c in
+    sym (answer t) ∙ past (showTests (hit t) (O (begin t))) [] (eq-test (c .before .if1 .left), (holds (hit t) (c .if2 .taken), tt))
 
-at-cell : (c : tie.Then2) → cell-of (c .before .before) ≡ cellOf (S (begin (c .before .before))) (K (begin (c .before .before)))
+at-cell : (c : tie.Then2) → cell-of (hitting c) ≡ cellOf (S (begin (hitting c))) (K (begin (hitting c)))
 at-cell c =
-    let t = c .before .before in
+    let t = hitting c in
     let k = K (begin t) in
     found-at (S (begin t)) k (cell-of t) (count-of t) (told t) (leb→le k (count-of t) (and-right (leb 1 k) (leb k (count-of t)) (holds (hit t) (c .if2 .taken))))
 
@@ -91,12 +111,14 @@ returns c =
     let k = c .before .before in
     let a = start k in
     let r = told-unsound (S a) (K a) (k .check .result) (k .check .ensures) (c .before .match .keys2) in
-    refused (S a) (K a) (O a) _ (λ e. r .nonzero (sym (c .refuse .ensures) ∙ e)) (c .refuse .ensures ∙ r .answer _)
+    refused (S a) (K a) (O a) (c .refuse .result) (λ e. r .nonzero (sym (c .refuse .ensures) ∙ e)) (c .refuse .ensures ∙ r .answer (own a))
 
 returns-2 : tie.Need-returns-2
 returns-2 c =
-    let a = begin (c .before) in
-    refused (S a) (K a) (O a) 2 (omega arith) (answer (c .before) 2 (refuses (eqb (length (O a)) 104) 2 _ (ne-eqb _ _ (c .if1 .taken))))
+    let t = c .before in
+    let a = begin t in
+    refused (S a) (K a) (O a) Length (omega arith)
+    (sym (stops [] (length-test a) (asks (hit t) 10 ∷ []) tt (ne-eqb _ _ (c .if1 .taken))) ∙ answer t)
 
 show-requires : tie.Need-show-requires
 show-requires c κs = search needs
@@ -110,20 +132,22 @@ returns-3 c =
     let k = c .before .before in
     let e = k .before .before in
     let a = begin (e .before .before) in
-    let h = showing (S a) (K a) (O a) (found e) in (
-      sym (found e),
-      k .show .ensures
+    let h = showing (S a) (K a) (O a) (found e) in
+    record {
+      answer = sym (found e);
+      output =
+          k .show .ensures
           ∙ ap (λ (i : ℕ). shownAt (S a) i (O a)) (at-cell e)
           ∙ shows (S a) (O a) (cellOf (S a) (K a)) (record-fits (S a) (h .queue) (K a) (h .found)) (h .long)
-          ∙ wrote _ _ _ (found e),
-    )
+          ∙ wrote _ _ _ (found e);
+    }
 
 returns-4 : tie.Need-returns-4
 returns-4 c =
     let t = c .before .before in
     let a = begin t in
-    refused (S a) (K a) (O a) 10 (omega arith)
-    (answer t 10 (admits (eqb (length (O a)) 104) 2 10 _ (eq-eqb _ _ (c .before .if1 .left)) (refuses (hit t) 10 0 (c .if2 .left))))
+    refused (S a) (K a) (O a) NoRecord (omega arith)
+    (sym (stops (length-test a ∷ []) (asks (hit t) 10) [] (eq-test (c .before .if1 .left), tt) (c .if2 .left)) ∙ answer t)
 
 pub peek-spec : {M : Type 1} → statement M
 peek-spec =

@@ -8,8 +8,7 @@ use lib.ListN.{length}
 use denote.Ref.{now}
 use borrow.Author.Tests.{not-true, not-false}
 use Rattle.sheet.specs.Layout.{isQueueLength}
-use Rattle.soundness.specs.declared.Checked.the-variants.{Sound}
-use Rattle.soundness.specs.Checked.{checked}
+use Rattle.soundness.specs.Checked.{checkReport, checked}
 use borrow.Author.Needs.{needs}
 use Rattle.modular.proofs.Search.{holds}
 use Rattle.soundness.proofs.check.Statement.{statement}
@@ -43,7 +42,7 @@ returns-3 c =
     let w = c .before .before in
     let good = not-false _ (c .if2 .left) in
     rw (length-ok (w .before), sym (w .walk-both .ensures .good-is) ∙ good)
-    (ap₂ Sound (w .walk-both .ensures .cell-is good) (w .walk-both .ensures .records-is good))
+    (ap₂ (checkReport 0) (w .walk-both .ensures .cell-is good) (w .walk-both .ensures .records-is good))
 
 pub check-spec : {M : Type 1} → statement M
 check-spec = tie.close (tie.spec is-length-requires returns walk-both-requires returns-2 returns-3)

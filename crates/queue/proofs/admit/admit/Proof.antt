@@ -1,18 +1,23 @@
 -- `admit` meets its contract, test by test.
 -- Assumes nothing.
-use mathlib.Core.Path.{_≡_, refl, sym, ap, _∙_}
-use mathlib.Core.List.{List}
+use mathlib.Core.Path.{_≡_, sym, _∙_}
+use mathlib.Core.List.{List, [], _∷_}
 use Prim.Native.Nat.{ℕ}
 use lib.Dec.{eqb}
 use lib.ListN.{length}
 use denote.Ref.{now}
-use borrow.Author.Tests.{not-true, not-false, eq-eqb, ne-eqb}
-use Rattle.code.specs.Component.{symbolsBelow}
-use Rattle.code.specs.Profiles.{isProfile}
-use Rattle.sheet.specs.Sound.{isBox, levels, wordLength}
-use Rattle.sheet.specs.Operations.{check}
-use Rattle.soundness.proofs.Rows.{levels-is, length-is}
-use Rattle.queue.proofs.Conditions.{refuses, admits}
+use borrow.Author.Tests.{not-true, not-false, ne-eqb}
+use Rattle.modular.proofs.Search.{eq-test, holds}
+use Rattle.code.specs.Refusal.{Test, asks}
+use Rattle.code.proofs.Refusal.{AllPass, past, stops}
+use Rattle.code.specs.Parameters.{codewordLength}
+use Rattle.code.specs.Component.{isReceived}
+use Rattle.code.specs.Profiles.{isProfile, profile}
+use Rattle.profiles.specs.Row.{RowOf}
+use Rattle.profiles.proofs.Table.{row-found, none-found, codeword-is}
+use Rattle.sheet.specs.Sound.{isBox}
+use Rattle.sheet.specs.Operations.{recordTests}
+use Rattle.soundness.proofs.Rows.{received-is}
 use borrow.Author.Needs.{needs}
 use Rattle.queue.proofs.admit.admit.Statement.{statement}
 use Rattle.queue.proofs.admit.admit.Tie as tie
@@ -20,56 +25,83 @@ use Rattle.queue.proofs.admit.admit.Tie as tie
 abbrev start : tie.Else1 → tie.Start
 start c = c .before .before
 
-abbrev start₂ : tie.Else2 → tie.Start
-start₂ c = start (c .before)
+-- the moment after the box number's test
+abbrev boxed : tie.After-known-told → tie.Else1
+boxed c = c .before .before .before .before
 
-abbrev start₃ : tie.After-struct-known → tie.Start
-start₃ c = start₂ (c .before .before)
+abbrev begin : tie.After-known-told → tie.Start
+begin c = start (boxed c)
 
 abbrev W : tie.Start → List ℕ
 W c = now (c .args .word)
 
 -- the row is the profile's
-levels-at : (c : tie.After-row-of) → c .row-of .result .q ≡ levels (start₂ (c .before) .args .profile)
-levels-at c = levels-is (start₂ (c .before) .args .profile) (c .row-of .result) (c .row-of .ensures)
+of : (c : tie.After-known-told) → RowOf (begin c .args .profile) (c .before .row .given .0 .0)
+of c = row-found _ (c .before .before .before .row-of .ensures) (c .before .row .given .1)
 
-length-at : (c : tie.After-row-of) → c .row-of .result .codeword ≡ wordLength (start₂ (c .before) .args .profile)
-length-at c = length-is (start₂ (c .before) .args .profile) (c .row-of .result) (c .row-of .ensures)
+abbrev found : tie.After-struct-known → tie.After-known-told
+found c = c .before
 
-symbols-is : (c : tie.After-symbols-below)
-    → c .symbols-below .result ≡ symbolsBelow (levels (start₃ (c .before .before) .args .profile)) (W (start₃ (c .before .before)))
+-- the tests of the record, in their order
+abbrev box-test : tie.Start → Test
+box-test a = asks (isBox (a .args .boxno)) 7
+
+abbrev profile-test : tie.Start → Test
+profile-test a = asks (isProfile (a .args .profile)) 1
+
+abbrev length-test : tie.Start → Test
+length-test a = asks (eqb (length (W a)) (codewordLength (profile (a .args .profile)))) 2
+
+abbrev symbols-test : tie.Start → Test
+symbols-test a = asks (isReceived (profile (a .args .profile)) (W a)) 3
+
+symbols-is : (c : tie.After-symbols-below) → c .symbols-below .result ≡ symbols-test (begin (found (c .before .before))) .passes
 symbols-is c =
-    c .symbols-below .ensures ∙ ap (λ (q : ℕ). symbolsBelow q (W (start₃ (c .before .before)))) (levels-at (c .before .before .before))
+    let f = found (c .before .before) in
+    c .symbols-below .ensures ∙ received-is (of f) (W (begin f))
 
--- past the tests, one by one
-past-box : (c : tie.Else1) (n own : ℕ) → n ≡ own → n ≡ check (isBox (start c .args .boxno)) 7 own
-past-box c n own = admits (isBox (start c .args .boxno)) 7 n own (not-false _ (c .if1 .left))
+-- and what passes, one by one
+box-passes : (c : tie.Else1) → AllPass (box-test (start c) ∷ [])
+box-passes c = (holds (isBox (start c .args .boxno)) (not-false _ (c .if1 .left)), tt)
 
-past-profile : (c : tie.Else2) (n own : ℕ) → n ≡ own → n ≡ check (isBox (start₂ c .args .boxno)) 7 (check (isProfile (start₂ c .args .profile)) 1 own)
-past-profile c n own e = past-box (c .before) n _ (admits (isProfile (start₂ c .args .profile)) 1 n own (not-false _ (c .if2 .left)) e)
+profile-passes : (c : tie.After-known-told) → AllPass (box-test (begin c) ∷ profile-test (begin c) ∷ [])
+profile-passes c = (box-passes (boxed c) .0, (of c .known, tt))
 
-past-length : (c : tie.Else3) (n own : ℕ) → n ≡ own
-    → n
-    ≡ check (isBox (start₃ (c .before) .args .boxno)) 7 (check (isProfile (start₃ (c .before) .args .profile)) 1 (check (eqb (length (W (start₃ (c .before)))) (wordLength (start₃ (c .before) .args .profile))) 2 own))
-past-length c n own e =
-    let s = start₃ (c .before) in
-    past-profile (c .before .before .before) n _
-    (admits (eqb (length (W s)) (wordLength (s .args .profile))) 2 n own (eq-eqb _ _ (c .if3 .left ∙ length-at (c .before .before))) e)
+length-passes : (c : tie.Else2) → let a = begin (found (c .before)) in AllPass (box-test a ∷ profile-test a ∷ length-test a ∷ [])
+length-passes c =
+    let f = found (c .before) in
+    let (box, (profile, none)) = profile-passes f in
+    (box, (profile, (eq-test (c .if2 .left ∙ codeword-is (of f)), tt)))
 
 returns : tie.Need-returns
-returns c = refuses (isBox (c .before .before .args .boxno)) 7 _ (not-true _ (c .if1 .taken))
-
-returns-2 : tie.Need-returns-2
-returns-2 c = past-box (c .before) 1 _ (refuses (isProfile (start (c .before) .args .profile)) 1 _ (not-true _ (c .if2 .taken)))
+returns c =
+    let a = c .before .before in
+    sym (stops [] (box-test a) (profile-test a ∷ length-test a ∷ symbols-test a ∷ []) tt (not-true _ (c .if1 .taken)))
 
 row-of-requires : tie.Need-row-of-requires
 row-of-requires c κs = search needs
 
+enum-known-row : tie.Need-enum-known-row
+enum-known-row c = search needs
+
+enum-told : tie.Need-enum-told
+enum-told c = search needs
+
+returns-2 : tie.Need-returns-2
+returns-2 c =
+    let looked = c .before .before in
+    let a = start (looked .before) in
+    sym
+    (stops (box-test a ∷ []) (profile-test a) (length-test a ∷ symbols-test a ∷ []) (box-passes (looked .before))
+    (none-found _ (looked .row-of .ensures) (c .enum-told .given .1)))
+
 returns-3 : tie.Need-returns-3
 returns-3 c =
-    let s = start₃ (c .before) in
-    past-profile (c .before .before .before) 2 _
-    (refuses (eqb (length (W s)) (wordLength (s .args .profile))) 2 _ (ne-eqb _ _ (λ e. c .if3 .taken (e ∙ sym (length-at (c .before .before))))))
+    let f = found (c .before) in
+    let a = begin f in
+    sym
+    (stops (box-test a ∷ profile-test a ∷ []) (length-test a) (symbols-test a ∷ []) (profile-passes f)
+    (ne-eqb _ _ (λ e. c .if2 .taken (e ∙ sym (codeword-is (of f))))))
 
 symbols-below-requires : tie.Need-symbols-below-requires
 symbols-below-requires c κs = search needs
@@ -77,22 +109,28 @@ symbols-below-requires c κs = search needs
 returns-4 : tie.Need-returns-4
 returns-4 c =
     let e = c .before .before in
-    let s = start₃ (e .before) in
-    past-length e 3 _ (refuses (symbolsBelow (levels (s .args .profile)) (W s)) 3 _ (sym (symbols-is (c .before)) ∙ not-true _ (c .if4 .taken)))
+    let a = begin (found (e .before)) in
+    sym
+    (stops (box-test a ∷ profile-test a ∷ length-test a ∷ []) (symbols-test a) [] (length-passes e)
+    (sym (symbols-is (c .before)) ∙ not-true _ (c .if3 .taken)))
 
 returns-5 : tie.Need-returns-5
 returns-5 c =
     let e = c .before .before in
-    let s = start₃ (e .before) in
-    past-length e 0 _ (admits (symbolsBelow (levels (s .args .profile)) (W s)) 3 0 0 (sym (symbols-is (c .before)) ∙ not-false _ (c .if4 .left)) refl)
+    let a = begin (found (e .before)) in
+    let (box, (profile, (long, none))) = length-passes e in
+    let symbols = holds (symbols-test a .passes) (sym (symbols-is (c .before)) ∙ not-false _ (c .if3 .left)) in
+    sym (past (recordTests (a .args .boxno) (a .args .profile) (W a)) [] (box, (profile, (long, (symbols, tt)))))
 
 pub admit-spec : {M : Type 1} → statement M
 admit-spec =
     tie.close
     (tie.spec
     returns
-    returns-2
     row-of-requires
+    enum-known-row
+    enum-told
+    returns-2
     returns-3
     symbols-below-requires
     returns-4

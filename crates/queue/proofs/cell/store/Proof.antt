@@ -5,23 +5,22 @@ use mathlib.Core.List.{List}
 use Prim.Native.Nat.{ℕ, _+_, _-_, _*_, _≤_}
 use native.Mathlib.Omega.{arith}
 use lib.ListN.{length, getD, set, length-set}
-use borrow.Rule.Slice.PartMut.{putMid}
 use denote.Ref.{now}
-use Rattle.sheet.specs.Layout.{firstFree, setBody}
+use Rattle.sheet.specs.Layout.{cellSize, firstFree, setBody}
 use Rattle.sheet.specs.Sound.{recordOf}
 use Rattle.sheet.specs.Operations.{enqueued}
 use Rattle.sheet.proofs.Lists.{size-of}
 use Rattle.sheet.proofs.Record.{word-fits}
 use Rattle.sheet.proofs.Answers.{Entering, entering}
 use Rattle.cells.proofs.Bytes.{copied-same}
-use Rattle.queue.proofs.Stores.{cell-fits, last-fits, cell-zero, store-put}
+use Rattle.queue.proofs.Stores.{putFields, cell-fits, last-fits, cell-zero, store-put}
 use borrow.Author.Needs.{needs}
 use Rattle.queue.proofs.cell.store.Statement.{statement}
 use Rattle.queue.proofs.cell.store.Tie as tie
 
 -- the queue with its links written, x the cell and l the last used one
 abbrev links : List ℕ → ℕ → ℕ → List ℕ
-links s x l = set (set (set s 1 (getD s (x * 104) 0)) (x * 104) 0) (l * 104) (getD s 1 0)
+links s x l = set (set (set s 1 (getD s (x * cellSize) 0)) (x * cellSize) 0) (l * cellSize) (getD s 1 0)
 
 abbrev start : tie.After-slice-known2 → tie.Start
 start c = c .before .before .before
@@ -49,26 +48,28 @@ enters : (c : tie.Start) → Entering (Q c) (B c) (P c) (W c)
 enters c = entering (Q c) (B c) (P c) (W c) (c .pre .0)
 
 -- both cells lie in the bytes, and the word in its cell
-fit : (c : tie.Start) → ((X c + 1) * 104 ≤ length (Q c)) × ((L c + 1) * 104 ≤ length (Q c)) × (208 ≤ length (Q c)) × (length (W c) ≤ 99)
+fit : (c : tie.Start)
+    → ((X c + 1) * cellSize ≤ length (Q c)) × ((L c + 1) * cellSize ≤ length (Q c)) × (208 ≤ length (Q c)) × (length (W c) ≤ 99)
 fit c =
     let e = enters c in
     let z = size-of (Q c) (e .queue .size) in (
       cell-fits (Q c) (B c) (P c) (W c) e,
       omega (arith, c .pre .1, last-fits (Q c) (B c) (P c) (W c) e),
       omega (arith, z .long, z .some),
-      omega (arith, e .admits .word, word-fits (P c) (e .admits .profile)),
+      omega (arith, e .admits .long, word-fits (P c) (e .admits .profiled)),
     )
 
 -- what the whole operation leaves
 stored : (c : tie.Start) (w : List ℕ) → w ≡ W c
-    → putMid (X c * 104 + 3) (X c * 104 + 3 + length (W c) - (X c * 104 + 3)) (set (set (links (Q c) (X c) (L c)) (X c * 104 + 1) (B c)) (X c * 104 + 2) (P c)) w
+    → putFields (links (Q c) (X c) (L c)) (X c) (B c) (P c) (length (W c)) w
     ≡ setBody (links (Q c) (X c) (L c)) (X c) (recordOf (B c) (P c) (W c))
 stored c w e =
     let x = X c in
     let s = links (Q c) x (L c) in
     let same : length s ≡ length (Q c) = simp length-set in
-    ap (putMid (x * 104 + 3) (x * 104 + 3 + length (W c) - (x * 104 + 3)) (set (set s (x * 104 + 1) (B c)) (x * 104 + 2) (P c))) e
-    ∙ store-put s (W c) x (B c) (P c) (omega (arith, fit c)) (cell-zero (Q c) (B c) (P c) (W c) (enters c) (getD (Q c) (x * 104) 0) (L c) x) (omega (arith, fit c))
+    let free = cell-zero (Q c) (B c) (P c) (W c) (enters c) (getD (Q c) (x * cellSize) 0) (L c) x in
+    ap (putFields s x (B c) (P c) (length (W c))) e
+    ∙ store-put s (W c) x (B c) (P c) (omega (arith, fit c)) free (omega (arith, fit c))
 
 slice-read-first : tie.Need-slice-read-first
 slice-read-first c = omega (arith, fit (start c))

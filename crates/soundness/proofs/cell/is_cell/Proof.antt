@@ -10,13 +10,11 @@ use lib.ListN.{length}
 use denote.Ref.{now}
 use borrow.Author.Needs.{needs}
 use borrow.Author.Tests.{le-leb, lt-leb}
-use Rattle.sheet.specs.Layout.{capacity, body}
+use Rattle.sheet.specs.Layout.{cellSize, bodySize, capacity, body}
 use Rattle.sheet.specs.Sound.{isBody, isCell, isRecord}
 use Rattle.sheet.specs.Lists.{allZero}
 use Rattle.sheet.proofs.Lists.{size-of}
-use Rattle.code.specs.Component.{symbolsBelow}
 use Rattle.cells.proofs.Bytes.{part}
-use Rattle.soundness.proofs.Bytes.{zero-below}
 use Rattle.soundness.proofs.Conditions.{off, on}
 use Rattle.soundness.proofs.cell.is_cell.Statement.{statement}
 use Rattle.soundness.proofs.cell.is_cell.Tie as tie
@@ -28,7 +26,7 @@ Q c = now (c .before .before .args .queue)
 in-queue : (c : tie.Else1) → leb (c .before .before .before .args .cell) (capacity (Q (c .before))) ≡ true
 in-queue c = le-leb _ _ (subst (λ (n : ℕ). c .before .before .before .args .cell ≤ n) (c .before .capacity .ensures) (c .if1 .left))
 
-fits : (c : tie.Else1) → c .before .before .before .args .cell * 104 + 1 + 103 ≤ length (Q (c .before))
+fits : (c : tie.Else1) → c .before .before .before .args .cell * cellSize + 1 + bodySize ≤ length (Q (c .before))
 fits c = omega (arith, size-of (Q (c .before)) (c .before .before .before .pre) .long, c .before .capacity .ensures, c .if1 .left)
 
 capacity-requires : tie.Need-capacity-requires
@@ -37,8 +35,10 @@ capacity-requires c κs = search needs
 returns : tie.Need-returns
 unfolding isCell
 returns c =
-    off (leb (c .before .before .before .args .cell) (capacity (Q (c .before)))) (isBody (c .before .before .before .args .used) (body (Q (c .before)) (c .before .before .before .args .cell)))
-    (lt-leb _ _ (subst (λ (n : ℕ). n < c .before .before .before .args .cell) (c .before .capacity .ensures) (c .if1 .taken)))
+    let s = Q (c .before) in
+    let a = c .before .before .before .args in
+    off (leb (a .cell) (capacity s)) (isBody (a .used) (body s (a .cell)))
+    (lt-leb _ _ (subst (λ (n : ℕ). n < a .cell) (c .before .capacity .ensures) (c .if1 .taken)))
 
 mul-a : tie.Need-mul-a
 mul-a c = omega (arith, fits c)
@@ -61,24 +61,28 @@ part-body-end c = fits c
 is-record-requires : tie.Need-is-record-requires
 is-record-requires c κs = omega (arith, c .before .body .given .2)
 
-symbols-below-requires : tie.Need-symbols-below-requires
-symbols-below-requires c κs = search needs
+all-zero-requires : tie.Need-all-zero-requires
+all-zero-requires c κs = search needs
 
 returns-2 : tie.Need-returns-2
 unfolding isCell
 returns-2 c =
     let e = c .before .before .before in
     let a = e .before .before .before .args in
-    let r : c .is-record .result ≡ isRecord (body (now (a .queue)) (a .cell)) = c .is-record .ensures ∙ ap isRecord (part (now (a .queue)) (a .cell * 104 + 1) 103) in
-    rw (c .before .if2 .taken) (on (leb (a .cell) (capacity (now (a .queue)))) (isRecord (body (now (a .queue)) (a .cell))) (c .is-record .result) (in-queue e) r)
+    let s = now (a .queue) in
+    let r : c .is-record .result ≡ isRecord (body s (a .cell)) =
+    c .is-record .ensures ∙ ap isRecord (part s (a .cell * cellSize + 1) bodySize) in
+    rw (c .before .if2 .taken) (on (leb (a .cell) (capacity s)) (isRecord (body s (a .cell))) (c .is-record .result) (in-queue e) r)
 
 returns-3 : tie.Need-returns-3
 unfolding isCell
 returns-3 c =
     let e = c .before .before .before in
     let a = e .before .before .before .args in
-    let r : c .symbols-below .result ≡ allZero (body (now (a .queue)) (a .cell)) = c .symbols-below .ensures ∙ ap (symbolsBelow 1) (part (now (a .queue)) (a .cell * 104 + 1) 103) ∙ zero-below (body (now (a .queue)) (a .cell)) in
-    rw (c .before .if2 .left) (on (leb (a .cell) (capacity (now (a .queue)))) (allZero (body (now (a .queue)) (a .cell))) (c .symbols-below .result) (in-queue e) r)
+    let s = now (a .queue) in
+    let r : c .all-zero .result ≡ allZero (body s (a .cell)) =
+    c .all-zero .ensures ∙ ap allZero (part s (a .cell * cellSize + 1) bodySize) in
+    rw (c .before .if2 .left) (on (leb (a .cell) (capacity s)) (allZero (body s (a .cell))) (c .all-zero .result) (in-queue e) r)
 
 pub is-cell-spec : {M : Type 1} → statement M
 is-cell-spec =
@@ -93,6 +97,6 @@ is-cell-spec =
     part-body-start
     part-body-end
     is-record-requires
-    symbols-below-requires
+    all-zero-requires
     returns-2
     returns-3)

@@ -1,4 +1,4 @@
--- `is_padded` meets its contract: the row is the profile's, and a byte below 1 is 0.
+-- `is_padded` meets its contract: the row is the profile's, where there is one.
 -- Assumes nothing.
 use mathlib.Core.Path.{sym, ap, ap₂, _∙_}
 use mathlib.Core.Bool.{_&&_}
@@ -9,35 +9,57 @@ use lib.ListN.{length, take, drop}
 use lib.Seq.{length-take-le}
 use denote.Ref.{now}
 use Rattle.modular.proofs.Search.{passes}
-use Rattle.code.specs.Component.{symbolsBelow}
-use Rattle.code.specs.Profiles.{isProfile}
+use Rattle.code.specs.Component.{isReceived}
+use Rattle.code.specs.Profiles.{isProfile, profile}
+use Rattle.profiles.specs.declared.row.Row.{Row}
+use Rattle.profiles.specs.Row.{RowOf}
+use Rattle.profiles.proofs.Table.{row-found, none-found, codeword-is}
 use Rattle.sheet.specs.Lists.{allZero}
+use Rattle.sheet.specs.Sound.{isPadded}
 use Rattle.sheet.proofs.Record.{word-fits}
-use Rattle.soundness.specs.Word.{isWord}
-use Rattle.soundness.proofs.Bytes.{zero-below, part-rest}
-use Rattle.soundness.proofs.Conditions.{on}
-use Rattle.soundness.proofs.Rows.{levels-is, length-is}
+use Rattle.cells.proofs.Bytes.{part-rest}
+use Rattle.soundness.proofs.Conditions.{on, off}
+use Rattle.soundness.proofs.Rows.{received-is}
 use borrow.Author.Needs.{needs}
 use Rattle.soundness.proofs.cell.is_padded.Statement.{statement}
 use Rattle.soundness.proofs.cell.is_padded.Tie as tie
 
-abbrev start : tie.After-row-of → tie.Start
-start c = c .before .before
+abbrev start : tie.After-known-told → tie.Start
+start c = c .before .before .before .before .before
 
-abbrev P : tie.After-row-of → ℕ
+abbrev P : tie.After-known-told → ℕ
 P c = start c .args .profile
 
-abbrev N : tie.After-row-of → ℕ
-N c = c .row-of .result .codeword
+abbrev row : tie.After-known-told → Row
+row c = c .before .row .given .0 .0
 
-abbrev W : tie.After-row-of → List ℕ
+abbrev N : tie.After-known-told → ℕ
+N c = row c .codeword
+
+abbrev W : tie.After-known-told → List ℕ
 W c = now (start c .args .bytes)
 
-fits : (c : tie.After-row-of) → N c ≤ length (W c)
-fits c = omega (arith, length-is (P c) (c .row-of .result) (c .row-of .ensures), word-fits (P c) (start c .pre .0), start c .pre .1)
+-- the row is the profile's
+of : (c : tie.After-known-told) → RowOf (P c) (row c)
+of c = row-found _ (c .before .before .before .row-of .ensures) (c .before .row .given .1)
+
+fits : (c : tie.After-known-told) → N c ≤ length (W c)
+fits c = omega (arith, codeword-is (of c), word-fits (P c) (of c .known), start c .pre)
 
 row-of-requires : tie.Need-row-of-requires
 row-of-requires c κs = search needs
+
+enum-known-row : tie.Need-enum-known-row
+enum-known-row c = search needs
+
+enum-told : tie.Need-enum-told
+enum-told c = search needs
+
+returns : tie.Need-returns
+unfolding isPadded
+returns c =
+    let looked = c .before .before in
+    off (isProfile (looked .before .before .args .profile)) _ (none-found _ (looked .row-of .ensures) (c .enum-told .given .1))
 
 slice-aggregate-symbols-below : tie.Need-slice-aggregate-symbols-below
 slice-aggregate-symbols-below c = sym (length-take-le (N (c .before)) (W (c .before)) (fits (c .before)))
@@ -45,37 +67,40 @@ slice-aggregate-symbols-below c = sym (length-take-le (N (c .before)) (W (c .bef
 symbols-below-requires : tie.Need-symbols-below-requires
 symbols-below-requires c κs = search needs
 
-sub-symbols-below : tie.Need-sub-symbols-below
-sub-symbols-below c = omega (arith, fits (c .before .before))
+sub-all-zero : tie.Need-sub-all-zero
+sub-all-zero c = omega (arith, fits (c .before .before))
 
-part-symbols-below-start : tie.Need-part-symbols-below-start
-part-symbols-below-start c = omega (arith, fits (c .before .before))
+part-all-zero-start : tie.Need-part-all-zero-start
+part-all-zero-start c = omega (arith, fits (c .before .before))
 
-part-symbols-below-end : tie.Need-part-symbols-below-end
-part-symbols-below-end c = search needs
+part-all-zero-end : tie.Need-part-all-zero-end
+part-all-zero-end c = search needs
 
-symbols-below-requires-2 : tie.Need-symbols-below-requires-2
-symbols-below-requires-2 c κs = search needs
+all-zero-requires : tie.Need-all-zero-requires
+all-zero-requires c κs = search needs
 
-returns : tie.Need-returns
-unfolding isWord
-returns c =
-    let r = c .before .before .before .before in
-    let t = r .row-of .result in
-    let w = W r in
-    on (isProfile (P r)) _ _ (passes (start r .pre .0))
-    (ap₂ _&&_ (c .before .before .symbols-below .ensures) (c .symbols-below2 .ensures ∙ ap (symbolsBelow 1) (part-rest w (N r)) ∙ zero-below (drop (N r) w))
-    ∙ ap₂ (λ (q n : ℕ). symbolsBelow q (take n w) && allZero (drop n w)) (levels-is (P r) t (r .row-of .ensures)) (length-is (P r) t (r .row-of .ensures)))
+returns-2 : tie.Need-returns-2
+unfolding isPadded
+returns-2 c =
+    let found = c .before .before .before .before in
+    let w = W found in
+    let symbols = c .before .before .symbols-below .ensures ∙ received-is (of found) (take (N found) w) in
+    let rest = c .all-zero .ensures ∙ ap allZero (part-rest w (N found)) in
+    on (isProfile (P found)) _ _ (passes (of found .known))
+    (ap₂ _&&_ symbols rest ∙ ap (λ (n : ℕ). isReceived (profile (P found)) (take n w) && allZero (drop n w)) (codeword-is (of found)))
 
 pub is-padded-spec : {M : Type 1} → statement M
 is-padded-spec =
     tie.close
     (tie.spec
     row-of-requires
+    enum-known-row
+    enum-told
+    returns
     slice-aggregate-symbols-below
     symbols-below-requires
-    sub-symbols-below
-    part-symbols-below-start
-    part-symbols-below-end
-    symbols-below-requires-2
-    returns)
+    sub-all-zero
+    part-all-zero-start
+    part-all-zero-end
+    all-zero-requires
+    returns-2)

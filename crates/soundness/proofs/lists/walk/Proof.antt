@@ -2,12 +2,13 @@
 -- Assumes nothing.
 use mathlib.Core.Path.{_≡_, refl, sym, _∙_}
 use mathlib.Core.Bool.{true}
-use Prim.Native.Nat.{_*_, _≤_}
+use mathlib.Core.List.{List}
+use Prim.Native.Nat.{ℕ, _*_, _≤_}
 use native.Mathlib.Omega.{arith}
 use denote.Ref.{now}
 use borrow.Author.Needs.{needs}
 use borrow.Author.Tests.{not-true, not-false}
-use Rattle.sheet.specs.Layout.{Size, capacity}
+use Rattle.sheet.specs.Layout.{cellSize, Size, capacity}
 use Rattle.sheet.specs.Sound.{isCell}
 use Rattle.sheet.proofs.Lists.{size-of}
 use Rattle.soundness.proofs.Walks.{Walk, walk-start, walk-ended, walk-over, walk-fails, walk-on, cell-below}
@@ -15,7 +16,8 @@ use Rattle.soundness.proofs.lists.walk.Statement.{statement}
 use Rattle.soundness.proofs.lists.walk.Tie as tie
 
 abbrev Inv-loop : tie.InvT-loop
-Inv-loop queue used first number seen₀ left₀ cell₀ reached₀ met₀ seen left cell reached met = Walk queue used first number seen₀ seen left cell reached met
+Inv-loop queue used first number seen₀ left₀ cell₀ reached₀ met₀ seen left cell reached met =
+    Walk queue used first number seen₀ seen left cell reached met
 
 abbrev μ-loop : tie.MeasureT-loop
 μ-loop queue used first number seen₀ left₀ cell₀ reached₀ met₀ seen left cell reached met = left
@@ -23,21 +25,24 @@ abbrev μ-loop : tie.MeasureT-loop
 abbrev start : tie.In-loop Inv-loop μ-loop → tie.Start Inv-loop μ-loop
 start c = c .before .before .before .before
 
-size : (c : tie.In-loop Inv-loop μ-loop) → Size (now (start c .args .queue)) (capacity (now (start c .args .queue)))
-size c = size-of (now (start c .args .queue)) (start c .pre .0)
+abbrev S : tie.In-loop Inv-loop μ-loop → List ℕ
+S c = now (start c .args .queue)
+
+-- the cell that the walk is at
+abbrev cell-at : tie.In-loop Inv-loop μ-loop → ℕ
+cell-at c = c .before .loop .cell
+
+size : (c : tie.In-loop Inv-loop μ-loop) → Size (S c) (capacity (S c))
+size c = size-of (S c) (start c .pre .0)
 
 abbrev in-loop : tie.Else2 Inv-loop μ-loop → tie.In-loop Inv-loop μ-loop
 in-loop c = c .before .before .before
 
-good : (c : tie.Else2 Inv-loop μ-loop) → isCell (now (start (in-loop c) .args .queue)) (start (in-loop c) .args .used) (in-loop c .before .loop .cell) ≡ true
+good : (c : tie.Else2 Inv-loop μ-loop) → isCell (S (in-loop c)) (start (in-loop c) .args .used) (cell-at (in-loop c)) ≡ true
 good c = sym (c .before .is-cell .ensures) ∙ not-false _ (c .if2 .left)
 
-cell-in : (c : tie.Else2 Inv-loop μ-loop)
-    → (in-loop c .before .loop .cell ≤ capacity (now (start (in-loop c) .args .queue))) × (capacity (now (start (in-loop c) .args .queue)) ≤ 255)
-cell-in c =
-    let m = in-loop c in
-    let a = start m .args in
-    (cell-below (now (a .queue)) (a .used) (m .before .loop .cell) (good c), size m .few)
+cell-in : (c : tie.Else2 Inv-loop μ-loop) → (cell-at (in-loop c) ≤ capacity (S (in-loop c))) × (capacity (S (in-loop c)) ≤ 255)
+cell-in c = let m = in-loop c in (cell-below (S m) (start m .args .used) (cell-at m) (good c), size m .few)
 
 capacity-requires : tie.Need-capacity-requires Inv-loop μ-loop
 capacity-requires c κs = search needs
@@ -45,14 +50,11 @@ capacity-requires c κs = search needs
 loop-holds : tie.Need-loop-holds Inv-loop μ-loop
 loop-holds c =
     let a = c .before .before .args in
-    walk-start (now (a .queue)) (a .used) (a .first) (a .number) (now (a .seen)) (c .capacity .result) (c .before .before .pre .1) (c .capacity .ensures)
+    let n = c .capacity in
+    walk-start (now (a .queue)) (a .used) (a .first) (a .number) (now (a .seen)) (n .result) (c .before .before .pre .1) (n .ensures)
 
 returns : tie.Need-returns Inv-loop μ-loop
-returns c =
-    let m = c .before in
-    let l = m .before .loop in
-    let a = start m .args in
-    walk-over (now (a .queue)) (a .used) (a .first) (a .number) (now (a .seen)) (l .seen) (l .left) (l .cell) (l .reached) (l .met) (l .inv) (c .if1 .taken) (m .loop-test .taken) _ refl
+returns c = let m = c .before in walk-over (m .before .loop .inv) (c .if1 .taken) (m .loop-test .taken) _ refl
 
 is-cell-requires : tie.Need-is-cell-requires Inv-loop μ-loop
 is-cell-requires c κs = start (c .before) .pre .0
@@ -60,11 +62,8 @@ is-cell-requires c κs = start (c .before) .pre .0
 returns-2 : tie.Need-returns-2 Inv-loop μ-loop
 returns-2 c =
     let m = c .before .before .before in
-    let l = m .before .loop in
-    let a = start m .args in
     let bad = not-true _ (c .if2 .taken) in
-    walk-fails (now (a .queue)) (a .used) (a .first) (a .number) (now (a .seen)) (l .seen) (l .left) (l .cell) (l .reached) (l .met) (l .inv) (c .before .before .if1 .left) (m .loop-test .taken)
-    (sym (c .before .is-cell .ensures) ∙ bad) _ bad
+    walk-fails (m .before .loop .inv) (c .before .before .if1 .left) (m .loop-test .taken) (sym (c .before .is-cell .ensures) ∙ bad) _ bad
 
 mul-seen : tie.Need-mul-seen Inv-loop μ-loop
 mul-seen c = omega (arith, cell-in c)
@@ -95,7 +94,7 @@ shared-slice-read-cell : tie.Need-shared-slice-read-cell Inv-loop μ-loop
 shared-slice-read-cell c = omega (arith, cell-in (c .before .before .before), size (in-loop (c .before .before .before)) .long)
 
 cast-cell : tie.Need-cast-cell Inv-loop μ-loop
-cast-cell c = omega (arith, c .shared-slice-known2 .given (in-loop (c .before .before .before) .before .loop .cell * 104))
+cast-cell c = omega (arith, c .shared-slice-known2 .given (in-loop (c .before .before .before) .before .loop .cell * cellSize))
 
 sub-left : tie.Need-sub-left Inv-loop μ-loop
 sub-left c = omega (arith, c .before .before .before .before .before .if1 .left)
@@ -107,16 +106,11 @@ loop-again : tie.Need-loop-again Inv-loop μ-loop
 loop-again c =
     let e = c .before .before .before in
     let m = in-loop e in
-    let l = m .before .loop in
-    let a = start m .args in
-    walk-on (now (a .queue)) (a .used) (a .first) (a .number) (now (a .seen)) (l .seen) (l .left) (l .cell) (l .reached) (l .met) (l .inv) (e .before .before .if1 .left) (m .loop-test .taken)
-    (good e) _ (c .before .go-on .result) refl (c .before .go-on .ensures)
+    walk-on (m .before .loop .inv) (e .before .before .if1 .left) (m .loop-test .taken) (good e) _ (c .before .go-on .result) refl
+    (c .before .go-on .ensures)
 
 returns-3 : tie.Need-returns-3 Inv-loop μ-loop
-returns-3 c =
-    let l = c .before .loop in
-    let a = c .before .before .before .before .args in
-    walk-ended (now (a .queue)) (a .used) (a .first) (a .number) (now (a .seen)) (l .seen) (l .left) (l .cell) (l .reached) (l .met) (l .inv) (c .loop-test .left)
+returns-3 c = walk-ended (c .before .loop .inv) (c .loop-test .left)
 
 pub walk-spec : {M : Type 1} → statement M
 walk-spec =

@@ -1,4 +1,4 @@
--- What each place of a queue's bytes holds after another has been written: the places do not overlap.
+-- What each part of a queue's bytes holds after another has been written: the parts do not overlap.
 -- Assumes nothing.
 use mathlib.Core.Path.{_≡_, refl, sym, ap, _∙_}
 use mathlib.Core.Logic.{_≢_, _⊎_, inl, inr, ⊎-elim}
@@ -8,14 +8,32 @@ use native.Mathlib.Omega.{arith}
 use lib.ListN.{length, getD, take, drop, set, length-append, length-drop, List·getD-append}
 use lib.Seq.{getD-set-same, getD-set-other, drop-set-lt, drop-set-add, take-set-le, drop-at, take-at, getD-take, getD-drop, getD-append-add, length-take-le, ext-getD}
 use Rattle.modular.proofs.Search.{le-or-lt}
-use Rattle.sheet.specs.Layout.{cellSize, bodySize, next, firstFree, body, setNext, setFirstFree, setBody}
+use Rattle.sheet.specs.Layout.{cellSize, bodySize, headerSize, next, firstFree, body, header, setNext, setFirstFree, setBody}
+
+pub length-body : (s : List ℕ) (i : ℕ) → (i + 1) * cellSize ≤ length s → length (body s i) ≡ bodySize
+length-body s i h = length-take-le bodySize (drop (i * cellSize + 1) s) (omega (arith, length-drop (i * cellSize + 1) s))
+
+-- cell 0 from byte 2 on
+header-part : (s : List ℕ) → header s ≡ drop 1 (body s 0)
+header-part [] = refl
+header-part (a ∷ []) = refl
+header-part (a ∷ b ∷ s) = refl
+
+-- it stays where the body of cell 0 does
+pub header-same : (s s′ : List ℕ) → body s′ 0 ≡ body s 0 → header s′ ≡ header s
+header-same s s′ e = header-part s′ ∙ ap (drop 1) e ∙ sym (header-part s)
+
+pub length-header : (s : List ℕ) → cellSize ≤ length s → length (header s) ≡ headerSize
+length-header s h = length-take-le headerSize (drop 2 s) (omega (arith, length-drop 2 s))
 
 -- a write outside a part leaves the part
 part-set : (n m k x : ℕ) (l : List ℕ) → (k < n) ⊎ (n + m ≤ k) → take m (drop n (set l k x)) ≡ take m (drop n l)
 part-set n m k x l (inl h) = ap (take m) (drop-set-lt n l k x h)
 part-set n m k x l (inr h) =
     let e : k ≡ n + (k - n) = omega arith in
-    ap (λ (z : ℕ). take m (drop n (set l z x))) e ∙ ap (take m) (drop-set-add n l (k - n) x) ∙ take-set-le m (drop n l) (k - n) x (omega arith)
+    ap (λ (z : ℕ). take m (drop n (set l z x))) e
+    ∙ ap (take m) (drop-set-add n l (k - n) x)
+    ∙ take-set-le m (drop n l) (k - n) x (omega arith)
 
 -- a part replaced by one as long
 module _ (s b : List ℕ) (n m : ℕ) (fits : n + m ≤ length s) (same : length b ≡ m) where
@@ -56,7 +74,8 @@ module _ (s b : List ℕ) (n m : ℕ) (fits : n + m ≤ length s) (same : length
 
   -- another part of the same length
   pub part-outside : (i : ℕ) → i + m ≤ length s → (i + m ≤ n) ⊎ (n + m ≤ i) → take m (drop i replaced) ≡ take m (drop i s)
-  part-outside i h w = ext-getD 0 (take m (drop i replaced)) (take m (drop i s)) (long replaced (omega (arith, length-replaced)) ∙ sym (long s h)) each
+  part-outside i h w =
+      ext-getD 0 (take m (drop i replaced)) (take m (drop i s)) (long replaced (omega (arith, length-replaced)) ∙ sym (long s h)) each
     where
       long : (l : List ℕ) → i + m ≤ length l → length (take m (drop i l)) ≡ m
       long l q = length-take-le m (drop i l) (omega (arith, length-drop i l))
@@ -102,10 +121,10 @@ module _ (s : List ℕ) (x : ℕ) where
   body-set-free j h = part-set (j * cellSize + 1) bodySize 1 x s (inl (omega arith))
 
 -- of cell 0 the bytes after it stay
-pub spare-set-free : (s : List ℕ) (x : ℕ) → drop 1 (body (setFirstFree s x) 0) ≡ drop 1 (body s 0)
-spare-set-free [] x = refl
-spare-set-free (a ∷ []) x = refl
-spare-set-free (a ∷ b ∷ s) x = refl
+pub header-set-free : (s : List ℕ) (x : ℕ) → header (setFirstFree s x) ≡ header s
+header-set-free [] x = refl
+header-set-free (a ∷ []) x = refl
+header-set-free (a ∷ b ∷ s) x = refl
 
 -- Writes to the body of cell i.
 module _ (s : List ℕ) (i : ℕ) (b : List ℕ) (fits : (i + 1) * cellSize ≤ length s) (same : length b ≡ bodySize) where

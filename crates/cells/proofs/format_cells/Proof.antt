@@ -1,4 +1,4 @@
--- `lay_out` meets its contract: cleared, linked, and the first free cell is 1.
+-- `format_cells` meets its contract: cleared, linked, and the first free cell is 1.
 -- Assumes nothing.
 use mathlib.Core.Bool.{true, false}
 use mathlib.Core.Path.{_≡_, sym, ap, subst, _∙_}
@@ -17,8 +17,8 @@ use Rattle.sheet.proofs.Format.{length-linked}
 use Rattle.sheet.proofs.Rule.{same-capacity}
 use borrow.Author.Needs.{needs}
 use Rattle.modular.proofs.Search.{holds}
-use Rattle.cells.proofs.lay_out.Statement.{statement}
-use Rattle.cells.proofs.lay_out.Tie as tie
+use Rattle.cells.proofs.format_cells.Statement.{statement}
+use Rattle.cells.proofs.format_cells.Tie as tie
 
 abbrev Q : tie.After-is-length → List ℕ
 Q c = now (c .before .before .args .queue)
@@ -73,8 +73,8 @@ returns-2 c =
     ∙ ap (λ (t : List ℕ). linked t 1 (capacity s - 1)) (k .clear .ensures) in
     (sym e, rw e (ap (λ (t : List ℕ). set t 1 1) same))
 
-pub lay-out-spec : {M : Type 1} → statement M
-lay-out-spec =
+pub format-cells-spec : {M : Type 1} → statement M
+format-cells-spec =
     tie.close
     (tie.spec
     is-length-requires
