@@ -146,8 +146,8 @@ pub reworded : {old new x y : List ℕ} {at end : ℕ} → x ≡ y → Written o
 reworded e w = rw e at w
 
 -- the contract of an answer that begins its buffer
-pub overwrites : {old new bytes : List ℕ} {end : ℕ} → length old ≡ 101 → Written old new 0 end bytes
-    → (end ≡ length bytes) × ((end ≤ 101) × (new ≡ overwritten bytes old))
+pub overwrites : {old new bytes : List ℕ} {end : ℕ} → length old ≡ 128 → Written old new 0 end bytes
+    → (end ≡ length bytes) × ((end ≤ 128) × (new ≡ overwritten bytes old))
 unfolding overwritten
 overwrites {old} {new} {bytes} {end} long w =
     let e : end ≡ length bytes = w .ends ∙ zero-add (length bytes) in

@@ -4,8 +4,9 @@ use mathlib.Core.Path.{_≡_}
 use mathlib.Core.List.{List, [], _∷_, _++_}
 use Prim.Native.Nat.{ℕ, _+_, _≤_}
 use lib.ListN.{length, take, drop}
-use Rattle.code.specs.Operations.{Report, refusal, success}
-use Rattle.code.proofs.Merge.{Below}
+use Rattle.code.specs.Component.{Below}
+use Rattle.code.specs.Reading.{correction}
+use Rattle.code.specs.Operations.{Report, refusal, failure, success}
 use Rattle.stream.specs.Line.{digit, decimal, letter, refusalLine, readingLine}
 
 -- bytes stand from index at on, up to end, and all else is as it was
@@ -21,9 +22,11 @@ headingOf i c place y = digit i ∷ 32 ∷ c ∷ 32 ∷ decimal place (32 ∷ di
 -- the output line from what decoding reports and leaves in its two outputs
 abbrev pub shownLine : ℕ → Report → List ℕ → List ℕ → List ℕ
 shownLine i (refusal n) a b = refusalLine n
-shownLine i (success k place y) a b = readingLine i (letter k) place y a b
+shownLine i failure a b = refusalLine 4
+shownLine i (success f) a b = readingLine i (letter f) (correction f .position) (correction f .symbol) a b
 
 -- its numbers are of at most two digits, one digit, one digit a symbol
 abbrev pub Small : Report → List ℕ → List ℕ → Type 0
 Small (refusal n) a b = n ≤ 9
-Small (success k place y) a b = (place ≤ 99) × (y ≤ 9) × Below 10 a × Below 10 b
+Small failure a b = Unit {0}
+Small (success f) a b = (correction f .position ≤ 99) × (correction f .symbol ≤ 9) × Below 10 a × Below 10 b

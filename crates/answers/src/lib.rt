@@ -10,14 +10,14 @@ ghost use Rattle.stream.specs.Line.{lineAnswer};
 ghost use Rattle.stream.specs.Feed.{overwritten};
 use crate::form::Form;
 
-// 01: a line of at most 101 bytes; no answer is longer.
-pub type Line = [u8; 101];
+// What an answer is written into. The longest, byte 10 included, has 101 bytes.
+pub type AnswerBuffer = [u8; 128];
 
 // Writes the answer to a line, byte 10 included, and returns its length. 01: 9 for a line that is not of the form; else
 // the order of Read.
-pub fn answer(line: &[u8], out: &mut Line) -> usize
+pub fn answer(line: &[u8], out: &mut AnswerBuffer) -> usize
     ensures length { λ r. ⌜ r ≡ length (lineAnswer (now (line .entry))) ⌝ }
-    ensures fits { λ r. ⌜ r ≤ 101 ⌝ }
+    ensures fits { λ r. ⌜ r ≤ 128 ⌝ }
     ensures bytes { λ _. ⌜ now (out .exit) ≡ overwritten (lineAnswer (now (line .entry))) (now (out .entry)) ⌝ }
 {
     let mut word = [0u8; 99];

@@ -8,17 +8,19 @@ ghost use Rattle.decoder.specs.Decode.{decodedReport};
 ghost use Rattle.stream.specs.Line.{answerLine, readAnswer};
 ghost use Rattle.answers.specs.Writing.{Written, shownLine, Small};
 use decoder::Decoded;
+use profiles::Lookup;
+use profiles::row_of;
 
 // What decoding answered, as a line.
 fn show(decoded: Decoded, profile: usize, first: &[u8], second: &[u8], out: &mut [u8]) -> usize
-    requires { ⌜ (profile ≤ 9) × (length (now out) ≡ 101) × (length (now first) ≤ 45) × (length (now second) ≤ 45) ⌝ }
+    requires { ⌜ (profile ≤ 9) × (length (now out) ≡ 128) × (length (now first) ≤ 45) × (length (now second) ≤ 45) ⌝ }
     requires { ⌜ Small (decodedReport decoded) (now first) (now second) ⌝ }
     ensures { λ r. ⌜ Written (now (out .entry)) (now (out .exit)) 0 r (shownLine profile (decodedReport decoded) (now (first .entry)) (now (second .entry))) ⌝ }
 {
     match decoded {
         Decoded::Clean => crate::text::reading(out, profile, b'C', 0, 0, first, second),
-        Decoded::Corrected(place, symbol) => {
-            crate::text::reading(out, profile, b'M', place, symbol, first, second)
+        Decoded::Corrected(c) => {
+            crate::text::reading(out, profile, b'M', c.position, c.symbol, first, second)
         }
         Decoded::Unreadable => crate::text::refusal(out, 4),
         Decoded::Refused(number) => crate::text::refusal(out, number),
@@ -33,7 +35,7 @@ fn respond(
     second: &mut [u8],
     out: &mut [u8],
 ) -> usize
-    requires { ⌜ (profile ≤ 9) × (length (now out) ≡ 101) × (messageLength (Profiles.profile profile) ≤ 45) ⌝ }
+    requires { ⌜ (profile ≤ 9) × (length (now out) ≡ 128) × (messageLength (Profiles.profile profile) ≤ 45) ⌝ }
     requires { ⌜ (length (now first) ≡ messageLength (Profiles.profile profile)) × (length (now second) ≡ messageLength (Profiles.profile profile)) ⌝ }
     ensures { λ r. ⌜ Written (now (out .entry)) (now (out .exit)) 0 r (answerLine profile (readAnswer profile (now (word .entry)))) ⌝ }
 {
@@ -41,13 +43,22 @@ fn respond(
     show(decoded, profile, first, second, out)
 }
 
+// 01: k, and 0 for a number that is no profile's.
+fn message_length(profile: usize) -> usize
+    ensures { λ r. ⌜ (r ≡ messageLength (Profiles.profile profile)) × (r ≤ 45) ⌝ }
+{
+    let Lookup::Found(row) = row_of(profile) else {
+        return 0;
+    };
+    row.message
+}
+
 // The same, with the words, of k symbols each.
 pub(crate) fn reply(profile: usize, word: &[u8], out: &mut [u8]) -> usize
-    requires { ⌜ (profile ≤ 9) × (length (now out) ≡ 101) ⌝ }
+    requires { ⌜ (profile ≤ 9) × (length (now out) ≡ 128) ⌝ }
     ensures { λ r. ⌜ Written (now (out .entry)) (now (out .exit)) 0 r (answerLine profile (readAnswer profile (now (word .entry)))) ⌝ }
 {
-    let row = profiles::row_of(profile);
-    let k = row.message;
+    let k = message_length(profile);
     let mut first = [0u8; 45];
     let mut second = [0u8; 45];
     respond(profile, word, &mut first[..k], &mut second[..k], out)

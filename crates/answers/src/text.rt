@@ -3,7 +3,7 @@ ghost use mathlib.Core.Path.{_≡_};
 ghost use mathlib.Core.List.{[], _∷_, _++_, map};
 ghost use Prim.Native.Nat.{_+_, _≤_, _<_};
 ghost use lib.ListN.{length};
-ghost use Rattle.code.proofs.Merge.{Below};
+ghost use Rattle.code.specs.Component.{Below};
 ghost use Rattle.stream.specs.Line.{digit, decimal, refusalLine, readingLine};
 ghost use Rattle.answers.specs.Writing.{Written, headingOf};
 
@@ -46,7 +46,7 @@ fn word(out: &mut [u8], at: usize, symbols: &[u8], last: u8) -> usize
 
 // 01: "For a refused one: R, a space and the number."
 pub(crate) fn refusal(out: &mut [u8], n: u8) -> usize
-    requires { ⌜ (n ≤ 9) × (length (now out) ≡ 101) ⌝ }
+    requires { ⌜ (n ≤ 9) × (length (now out) ≡ 128) ⌝ }
     ensures { λ r. ⌜ Written (now (out .entry)) (now (out .exit)) 0 r (refusalLine n) ⌝ }
 {
     let at = pair(out, 0, b'R', b' ');
@@ -55,7 +55,7 @@ pub(crate) fn refusal(out: &mut [u8], n: u8) -> usize
 
 // The fields before the words: profile, kind, place and sent symbol, each with a space.
 fn heading(out: &mut [u8], profile: usize, kind: u8, place: usize, symbol: u8) -> usize
-    requires { ⌜ (profile ≤ 9) × (place ≤ 99) × (symbol ≤ 9) × (length (now out) ≡ 101) ⌝ }
+    requires { ⌜ (profile ≤ 9) × (place ≤ 99) × (symbol ≤ 9) × (length (now out) ≡ 128) ⌝ }
     ensures text { λ r. ⌜ Written (now (out .entry)) (now (out .exit)) 0 r (headingOf profile kind place symbol) ⌝ }
     ensures short { λ r. ⌜ r ≤ 9 ⌝ }
 {
@@ -75,7 +75,7 @@ pub(crate) fn reading(
     first: &[u8],
     second: &[u8],
 ) -> usize
-    requires { ⌜ (profile ≤ 9) × (place ≤ 99) × (symbol ≤ 9) × (length (now out) ≡ 101) ⌝ }
+    requires { ⌜ (profile ≤ 9) × (place ≤ 99) × (symbol ≤ 9) × (length (now out) ≡ 128) ⌝ }
     requires { ⌜ (length (now first) ≤ 45) × (length (now second) ≤ 45) × Below 10 (now first) × Below 10 (now second) ⌝ }
     ensures { λ r. ⌜ Written (now (out .entry)) (now (out .exit)) 0 r (readingLine profile kind place symbol (now (first .entry)) (now (second .entry))) ⌝ }
 {

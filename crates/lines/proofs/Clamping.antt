@@ -11,7 +11,7 @@ use Rattle.modular.proofs.Search.{le-or-lt}
 use Rattle.lines.specs.States.{pendingOf}
 
 -- the least of a number and a bound
-abbrev Least : ℕ → ℕ → ℕ → Type 0
+abbrev pub Least : ℕ → ℕ → ℕ → Type 0
 Least r a b = (r ≤ a) × (r ≤ b) × (r < a → r ≡ b)
 
 take-least : (l : List ℕ) (a r : ℕ) → Least r a (length l) → take r l ≡ take a l
@@ -25,7 +25,7 @@ drop-least l a r h =
     (λ (k : r < a). drop-of-length-le l {i = r} (omega (arith, h .2 k)) ∙ sym (drop-of-length-le l {i = a} (omega (arith, h .2 k)))) (le-or-lt a r)
 
 -- indices past the array's end, or out of order, mean what the nearest ones mean
-pub clamped : (answer : List ℕ) (from to from′ to′ : ℕ) → length answer ≡ 101 → Least to′ to 101 → Least from′ from to′
+pub clamped : (answer : List ℕ) (from to from′ to′ : ℕ) → length answer ≡ 128 → Least to′ to 128 → Least from′ from to′
     → pendingOf answer from′ to′ ≡ pendingOf answer from to
 clamped answer from to from′ to′ long a b =
     let w : length (take to′ answer) ≡ to′ = length-take-le to′ answer (omega (arith, a .1)) in

@@ -1,15 +1,19 @@
 -- The search for byte 10: window by window, and byte by byte.
 -- Assumes nothing.
-use mathlib.Core.Path.{_≡_, _∙_}
+use mathlib.Core.Path.{_≡_, sym, ap, _∙_}
 use mathlib.Core.Logic.{_⊎_, inl, inr, ⊎-elim}
 use mathlib.Core.List.{List}
-use Prim.Native.Nat.{ℕ, _+_, _≤_, _<_}
+use Prim.Native.Nat.{ℕ, _+_, _-_, _≤_, _<_}
+use native.Mathlib.Nat.{add-zero}
 use native.Mathlib.Omega.{arith}
 use lib.Dec.{eqb}
-use lib.ListN.{getD}
+use lib.ListN.{getD, take, drop}
+use lib.Seq.{getD-drop}
 use borrow.Author.Tests.{eqb-true, eqb-false}
 use Rattle.modular.proofs.Search.{le-or-lt}
 use Rattle.code.proofs.Merge.{cases}
+use Rattle.stream.specs.Feed.{lineEnds}
+use Rattle.stream.proofs.Counting.{ends-further, ends-none, ends-one}
 use Rattle.lines.specs.Ends.{LineEnd, Placed}
 
 -- none of the bytes from an index on and before another is byte 10
@@ -97,3 +101,20 @@ end-on {input} h n e = record { low = omega (arith, e .low); high = e .high; non
 -- an end that was found before a limit is found before a later one
 pub end-within : {input : List ℕ} {from limit longer r : ℕ} → limit ≤ longer → r < limit → LineEnd input from limit r → LineEnd input from longer r
 end-within h k e = record { low = e .low; high = omega arith; none = e .none; ends = λ l. e .ends k }
+
+-- Lines counted: one more where byte 10 came, none where the piece is at its end.
+
+pub counts-none : {input : List ℕ} {consumed limit end : ℕ} → LineEnd input consumed limit end
+    → lineEnds (take end input) ≡ lineEnds (take consumed input)
+counts-none {input} {consumed} {limit} {end} e =
+    let a : consumed + (end - consumed) ≡ end = omega (arith, e .low) in
+    let none : lineEnds (take (end - consumed) (drop consumed input)) ≡ 0 =
+    ends-none (end - consumed) (drop consumed input) (λ j h. rw (getD-drop consumed input j 0) (e .none (consumed + j) (omega arith) (omega arith)))
+    in
+    ap (λ (n : ℕ). lineEnds (take n input)) (sym a) ∙ ends-further input consumed (end - consumed) ∙ omega (arith, none)
+
+pub counts-one : {input : List ℕ} {consumed limit end : ℕ} → LineEnd input consumed limit end → end < limit
+    → lineEnds (take (end + 1) input) ≡ lineEnds (take consumed input) + 1
+counts-one {input} {consumed} {limit} {end} e h =
+    let one : lineEnds (take 1 (drop end input)) ≡ 1 = ends-one (drop end input) (rw (getD-drop end input 0 0, add-zero end) (e .ends h)) in
+    ends-further input end 1 ∙ omega (arith, one, counts-none e)

@@ -50,7 +50,7 @@ module _ {out₀ line : List ℕ} {len : ℕ} {pending : List ℕ} {from′ to n
           left = finish-on (record { line = partialOf line len; pending = o }) (length out₀) room ∙ rw (w .text, ← all-put, e);
         }
 
--- The contract's four equations.
+-- The contract's five equations.
 
 empty-none : (l : List ℕ) → length l ≡ 0 → true ≡ isEmpty l
 empty-none [] h = refl
@@ -60,7 +60,7 @@ empty-some : (l : List ℕ) → 0 < length l → false ≡ isEmpty l
 empty-some [] h = absurd (omega arith)
 empty-some (b ∷ l) h = refl
 
-module _ (pending : List ℕ) (from to : ℕ) (long : length pending ≡ 101) (end : to ≤ 101) where
+module _ (pending : List ℕ) (from to : ℕ) (long : length pending ≡ 128) (end : to ≤ 128) where
   pub more-pending : from < to → false ≡ isEmpty (pendingOf pending from to)
   more-pending h = empty-some (pendingOf pending from to) (omega (arith, length-pending pending from to long end))
 
@@ -72,14 +72,14 @@ module _ (pending : List ℕ) (from to : ℕ) (long : length pending ≡ 101) (e
       eq-eqb from to e ∙ empty-none (pendingOf pending from to) (length-pending pending from to long end ∙ omega arith))
       (λ (k : from < to). ne-eqb from to (λ e. omega arith) ∙ more-pending k) (le-or-lt to from)
 
-pub finished : {goal call : Fed} {line : List ℕ} {len : ℕ} {pending : List ℕ} {from to produced : ℕ} {out₀ out : List ℕ} {b : Bool}
-    → Done goal line len pending from to 0 produced out₀ out → goal ≡ call → b ≡ isEmpty (pendingOf pending from to)
+pub finished : {goal call : Fed} {line : List ℕ} {len : ℕ} {pending : List ℕ} {from to produced : ℕ} {out₀ out : List ℕ} {answered lines : ℕ} {b : Bool}
+    → Done goal line len pending from to 0 produced out₀ out → goal ≡ call → answered ≡ lines → b ≡ isEmpty (pendingOf pending from to)
     → (_≡_ {A = Model} (record { line = partialOf line len; pending = pendingOf pending from to }) (call .model))
-    × ((produced ≡ length (call .produced)) × ((b ≡ isDone call) × (out ≡ overwritten (call .produced) out₀)))
+    × ((produced ≡ length (call .produced)) × ((answered ≡ lines) × ((b ≡ isDone call) × (out ≡ overwritten (call .produced) out₀))))
 unfolding isDone
-finished d e b =
-    let s = stepped d e in
-    (s .0, (s .1 .1 .0, (b ∙ ap (λ (m : Model). isEmpty (m .pending)) (s .0), s .1 .1 .1)))
+finished d e n b =
+    let s = stepped d e n in
+    (s .0, (s .1 .1 .0, (n, (b ∙ ap (λ (m : Model). isEmpty (m .pending)) (s .0), s .1 .1 .1 .1))))
 
 -- either way out of the second part
 pub all-done : {goal : Fed} {out₀ line : List ℕ} {len : ℕ} {pending : List ℕ} {k end produced : ℕ} {out : List ℕ}

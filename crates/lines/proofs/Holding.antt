@@ -10,9 +10,10 @@ use lib.Seq.{length-take-le, take-append-seam, take-length, take-paste, paste}
 use borrow.Author.Tests.{le-leb, lt-leb}
 use Rattle.modular.proofs.Search.{le-or-lt}
 use Rattle.stream.specs.Line.{hasForm, lineAnswer}
-use Rattle.stream.specs.Feed.{Partial, held, tooLong, answerTo, answerAtEnd, overwritten}
-use Rattle.stream.proofs.Whole.{clip, clip-short, clip-long, extended-clip, answer-clip}
+use Rattle.stream.specs.Feed.{Partial, held, tooLong, answerTo, answerAtEnd, overwritten, lastLines}
+use Rattle.stream.proofs.Whole.{clip, clip-short, clip-long, extended-clip}
 use Rattle.lines.specs.States.{partialOf, extendedBy, Holds}
+use Rattle.lines.proofs.Clamping.{Least}
 
 -- The line so far.
 
@@ -62,8 +63,8 @@ module _ (line : List ℕ) (len : ℕ) (s : List ℕ) (long : length line ≡ 10
 -- The answer to it.
 
 -- the contract of an answer, of another name for its bytes
-pub holds : (old : List ℕ) {new bytes answer : List ℕ} {end : ℕ} → length old ≡ 101 → bytes ≡ answer
-    → (end ≡ length bytes) × ((end ≤ 101) × (new ≡ overwritten bytes old)) → Holds new end answer
+pub holds : (old : List ℕ) {new bytes answer : List ℕ} {end : ℕ} → length old ≡ 128 → bytes ≡ answer
+    → (end ≡ length bytes) × ((end ≤ 128) × (new ≡ overwritten bytes old)) → Holds new end answer
 unfolding overwritten
 holds old {new} {bytes} {answer} {end} long e h =
     record {
@@ -80,9 +81,20 @@ answer-over line len h = sym (ap answerTo (partial-over line len h))
 pub answer-held : (line : List ℕ) (len : ℕ) → len ≤ 101 → lineAnswer (take len line) ≡ answerTo (partialOf line len)
 answer-held line len h = sym (ap answerTo (partial-held line len h))
 
--- a line that lies in the input whole
-pub answer-whole : (line : List ℕ) (len : ℕ) (s : List ℕ) → len ≡ 0 → lineAnswer s ≡ answerTo (extendedBy (partialOf line len) s)
-answer-whole line len s e = sym (rw e (ap answerTo (clip-by [] s) ∙ answer-clip s))
+-- the end of the input ends one line, or none where the line so far is empty
+
+last-held : (l : List ℕ) (r : ℕ) → Least r (length l) 1 → r ≡ lastLines (held l)
+last-held [] r h = omega (arith, h .0)
+last-held (b ∷ l) r h =
+    ⊎-elim (λ (k : length (b ∷ l) ≤ r). omega (arith, h .1)) (λ (k : r < length (b ∷ l)). h .2 k) (le-or-lt (length (b ∷ l)) r)
+
+pub last-lines : (line : List ℕ) (len r : ℕ) → length line ≡ 101 → Least r len 1 → r ≡ lastLines (partialOf line len)
+last-lines line len r long h =
+    ⊎-elim
+    (λ (k : len ≤ 101).
+    let e : length (take len line) ≡ len = length-take-le len line (omega arith) in
+    rw (partial-held line len k) (last-held (take len line) r (rw e h)))
+    (λ (k : 101 < len). rw (partial-over line len k) (h .2 (omega (arith, h .1)))) (le-or-lt len 101)
 
 pub end-none : (line : List ℕ) (len : ℕ) → len ≡ 0 → [] ≡ answerAtEnd (partialOf line len)
 end-none line len e = rw e

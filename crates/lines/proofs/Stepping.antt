@@ -16,16 +16,16 @@ use Rattle.lines.proofs.Turns.{ahead, ahead-ahead, emit-law, piece-law,
 -- `goal` is what the whole call comes to
 pub record Turn (goal : Fed) (input out₀ line : List ℕ) (len : ℕ) (pending : List ℕ) (from to consumed produced : ℕ) (out : List ℕ) : Type 0 where
   pub long-line : length line ≡ 101
-  pub long-pending : length pending ≡ 101
+  pub long-pending : length pending ≡ 128
   pub order : from ≤ to
-  pub end : to ≤ 101
+  pub end : to ≤ 128
   pub taken : consumed ≤ length input
   pub put : produced ≤ length out₀
   pub same : length out ≡ length out₀
   pub rest : drop produced out ≡ drop produced out₀
   pub left : goal ≡ ahead consumed (take produced out) (feedFrom (partialOf line len) (pendingOf pending from to) (drop consumed input) (length out₀ - produced))
 
-pub length-pending : (pending : List ℕ) (from to : ℕ) → length pending ≡ 101 → to ≤ 101 → length (pendingOf pending from to) ≡ to - from
+pub length-pending : (pending : List ℕ) (from to : ℕ) → length pending ≡ 128 → to ≤ 128 → length (pendingOf pending from to) ≡ to - from
 length-pending pending from to h k =
     let e : length (take to pending) ≡ to = length-take-le to pending (omega arith) in
     length-drop from (take to pending) ∙ ap (λ (n : ℕ). n - from) e
@@ -85,7 +85,7 @@ module _ {goal : Fed} {input out₀ line : List ℕ} {len : ℕ} {pending : List
 
 -- Taking input, where nothing is pending.
 
-pub nothing : (pending : List ℕ) (from to : ℕ) → length pending ≡ 101 → to ≤ 101 → to ≤ from → pendingOf pending from to ≡ []
+pub nothing : (pending : List ℕ) (from to : ℕ) → length pending ≡ 128 → to ≤ 128 → to ≤ from → pendingOf pending from to ≡ []
 nothing pending from to h k l =
     let e : length (take to pending) ≡ to = length-take-le to pending (omega arith) in
     drop-of-length-le (take to pending) {i = from} (omega arith)
@@ -190,7 +190,7 @@ module _ {goal : Fed} {input out₀ line : List ℕ} {len : ℕ} {pending : List
 
 -- Where it begins.
 
-pub begins : (input out line : List ℕ) (len : ℕ) (pending : List ℕ) (from to : ℕ) → length line ≡ 101 → length pending ≡ 101 → from ≤ to → to ≤ 101
+pub begins : (input out line : List ℕ) (len : ℕ) (pending : List ℕ) (from to : ℕ) → length line ≡ 101 → length pending ≡ 128 → from ≤ to → to ≤ 128
     → Turn (feedFrom (partialOf line len) (pendingOf pending from to) input (length out)) input out line len pending from to 0 0 out
 begins input out line len pending from to a b c d =
     let z : length out - 0 ≡ length out = omega arith in
@@ -206,15 +206,15 @@ begins input out line len pending from to a b c d =
       left = rw (z, zero-add);
     }
 
--- the contract's four equations, of the same call by another name
-pub stepped : {goal call : Fed} {line : List ℕ} {len : ℕ} {pending : List ℕ} {from to consumed produced : ℕ} {out₀ out : List ℕ}
-    → Done goal line len pending from to consumed produced out₀ out → goal ≡ call
+-- the contract's five equations, of the same call by another name
+pub stepped : {goal call : Fed} {line : List ℕ} {len : ℕ} {pending : List ℕ} {from to consumed produced : ℕ} {out₀ out : List ℕ} {answered lines : ℕ}
+    → Done goal line len pending from to consumed produced out₀ out → goal ≡ call → answered ≡ lines
     → (_≡_ {A = Model} (record { line = partialOf line len; pending = pendingOf pending from to }) (call .model))
-    × ((consumed ≡ call .consumed) × ((produced ≡ length (call .produced)) × (out ≡ overwritten (call .produced) out₀)))
-stepped {out₀} d e = (
+    × ((consumed ≡ call .consumed) × ((produced ≡ length (call .produced)) × ((answered ≡ lines) × (out ≡ overwritten (call .produced) out₀))))
+stepped {out₀} d e n = (
   d .model ∙ ap (λ (f : Fed). f .model) e,
   (
     d .consumed-is ∙ ap (λ (f : Fed). f .consumed) e,
-    (d .produced-is ∙ ap (λ (f : Fed). length (f .produced)) e, d .output ∙ ap (λ (f : Fed). overwritten (f .produced) out₀) e),
+    (d .produced-is ∙ ap (λ (f : Fed). length (f .produced)) e, (n, d .output ∙ ap (λ (f : Fed). overwritten (f .produced) out₀) e)),
   ),
 )

@@ -27,11 +27,11 @@ abbrev pub extendedBy : Partial → List ℕ → Partial
 extendedBy p [] = p
 extendedBy p (b ∷ s) = extendedBy (extended p b) s
 
--- an array of 101 bytes begins with the bytes, up to end
+-- an array of 128 bytes begins with the bytes, up to end
 pub record Holds (new : List ℕ) (end : ℕ) (bytes : List ℕ) : Type 0 where
   pub text : take end new ≡ bytes
-  pub fits : end ≤ 101
-  pub long : length new ≡ 101
+  pub fits : end ≤ 128
+  pub long : length new ≡ 128
 
 -- as many pending bytes as there is room for are copied into the output, from index at on: r of them
 pub record Emitted (answer : List ℕ) (from to : ℕ) (old new : List ℕ) (at r : ℕ) : Type 0 where

@@ -3,25 +3,28 @@ mod line;
 mod pending;
 mod search;
 
+use answers::AnswerBuffer;
 ghost use mathlib.Core.Path.{_≡_};
-ghost use lib.ListN.{length};
-ghost use Rattle.stream.specs.Feed.{begin, feed, overwritten, finishing, isDone};
+ghost use lib.ListN.{length, take};
+ghost use Rattle.stream.specs.Feed.{begin, feed, overwritten, finishing, isDone, lineEnds, linesFinished};
 ghost use Rattle.lines.specs.States.{modelOf};
 
-// What is kept between calls: the line so far and its length, and the bytes of an answer that are not put out yet.
+// What is kept between calls: the line so far (01: "a zeroed array of 101 bytes holds the line") and its length, and the
+// answer to the last line, of which the bytes from one index to another are not put out yet.
 pub struct State {
     line: [u8; 101],
     len: usize,
-    answer: [u8; 101],
+    answer: AnswerBuffer,
     from: usize,
     to: usize,
 }
 
-// What a call of step took and put out.
+// What a call of step took and put out, and how many lines it answered: those whose byte 10 it took.
 pub struct Stepped {
     pub state: State,
     pub consumed: usize,
     pub produced: usize,
+    pub answered: usize,
 }
 
 // The state before any input.
@@ -31,7 +34,7 @@ pub fn start() -> State
     State {
         line: [0u8; 101],
         len: 0,
-        answer: [0u8; 101],
+        answer: [0u8; 128],
         from: 0,
         to: 0,
     }
@@ -44,15 +47,17 @@ pub fn step(state: State, input: &[u8], output: &mut [u8]) -> Stepped
     ensures state { λ r. ⌜ modelOf (r .state) ≡ feed (modelOf state) (now (input .entry)) (length (now (output .entry))) .model ⌝ }
     ensures consumed { λ r. ⌜ r .consumed ≡ feed (modelOf state) (now (input .entry)) (length (now (output .entry))) .consumed ⌝ }
     ensures produced { λ r. ⌜ r .produced ≡ length (feed (modelOf state) (now (input .entry)) (length (now (output .entry))) .produced) ⌝ }
+    ensures answered { λ r. ⌜ r .answered ≡ lineEnds (take (r .consumed) (now (input .entry))) ⌝ }
     ensures output { λ _. ⌜ now (output .exit) ≡ overwritten (feed (modelOf state) (now (input .entry)) (length (now (output .entry))) .produced) (now (output .entry)) ⌝ }
 {
     let mut line = state.line;
     let mut len = state.len;
     let mut pending = state.answer;
-    let mut to = pending::least(state.to, 101);
+    let mut to = pending::least(state.to, 128);
     let mut from = pending::least(state.from, to);
     let mut consumed = 0;
     let mut produced = 0;
+    let mut answered = 0;
     loop {
         let n = pending::emit(&pending, from, to, output, produced);
         from += n;
@@ -71,6 +76,7 @@ pub fn step(state: State, input: &[u8], output: &mut [u8]) -> Stepped
         from = 0;
         len = 0;
         consumed = end + 1;
+        answered += 1;
     }
     let state = State {
         line,
@@ -83,13 +89,15 @@ pub fn step(state: State, input: &[u8], output: &mut [u8]) -> Stepped
         state,
         consumed,
         produced,
+        answered,
     }
 }
 
-// What a call of finish put out, and whether that was all.
+// What a call of finish put out, how many lines it answered, and whether that was all.
 pub struct Finished {
     pub state: State,
     pub produced: usize,
+    pub answered: usize,
     pub done: bool,
 }
 
@@ -98,31 +106,36 @@ pub struct Finished {
 pub fn finish(state: State, output: &mut [u8]) -> Finished
     ensures state { λ r. ⌜ modelOf (r .state) ≡ finishing (modelOf state) (length (now (output .entry))) .model ⌝ }
     ensures produced { λ r. ⌜ r .produced ≡ length (finishing (modelOf state) (length (now (output .entry))) .produced) ⌝ }
+    ensures answered { λ r. ⌜ r .answered ≡ linesFinished (modelOf state) (length (now (output .entry))) ⌝ }
     ensures done { λ r. ⌜ r .done ≡ isDone (finishing (modelOf state) (length (now (output .entry)))) ⌝ }
     ensures output { λ _. ⌜ now (output .exit) ≡ overwritten (finishing (modelOf state) (length (now (output .entry))) .produced) (now (output .entry)) ⌝ }
 {
     let line = state.line;
     let len = state.len;
     let mut pending = state.answer;
-    let to = pending::least(state.to, 101);
+    let to = pending::least(state.to, 128);
     let from = pending::least(state.from, to);
     let n = pending::emit(&pending, from, to, output, 0);
-    if from + n < to {
+    let next = from + n;
+    if next < to {
         let left = State {
             line,
             len,
             answer: pending,
-            from: from + n,
+            from: next,
             to,
         };
         return Finished {
             state: left,
             produced: n,
+            answered: 0,
             done: false,
         };
     }
+    let answered = pending::least(len, 1);
     let end = line::answer_at_end(&line, len, &mut pending);
     let k = pending::emit(&pending, 0, end, output, n);
+    let produced = n + k;
     let left = State {
         line,
         len: 0,
@@ -132,7 +145,8 @@ pub fn finish(state: State, output: &mut [u8]) -> Finished
     };
     Finished {
         state: left,
-        produced: n + k,
+        produced,
+        answered,
         done: k == end,
     }
 }

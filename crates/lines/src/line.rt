@@ -1,4 +1,5 @@
 // The line so far, and its answer.
+use answers::AnswerBuffer;
 ghost use mathlib.Core.Path.{_≡_};
 ghost use lib.ListN.{length};
 ghost use Rattle.stream.specs.Feed.{answerTo, answerAtEnd};
@@ -20,8 +21,8 @@ pub(crate) fn hold(line: &mut [u8], len: usize, bytes: &[u8]) -> usize
 }
 
 // The answer where byte 10 ends the line so far. A line that has run over gets 9, as the empty line does.
-fn answer_to(line: &[u8], len: usize, out: &mut [u8; 101]) -> usize
-    requires { ⌜ (length (now line) ≡ 101) × (length (now out) ≡ 101) ⌝ }
+fn answer_to(line: &[u8], len: usize, out: &mut AnswerBuffer) -> usize
+    requires { ⌜ (length (now line) ≡ 101) × (length (now out) ≡ 128) ⌝ }
     ensures { λ r. ⌜ Holds (now (out .exit)) r (answerTo (partialOf (now (line .entry)) len)) ⌝ }
 {
     if len > 101 {
@@ -31,8 +32,8 @@ fn answer_to(line: &[u8], len: usize, out: &mut [u8; 101]) -> usize
 }
 
 // And where the input ends.
-pub(crate) fn answer_at_end(line: &[u8], len: usize, out: &mut [u8; 101]) -> usize
-    requires { ⌜ (length (now line) ≡ 101) × (length (now out) ≡ 101) ⌝ }
+pub(crate) fn answer_at_end(line: &[u8], len: usize, out: &mut AnswerBuffer) -> usize
+    requires { ⌜ (length (now line) ≡ 101) × (length (now out) ≡ 128) ⌝ }
     ensures { λ r. ⌜ Holds (now (out .exit)) r (answerAtEnd (partialOf (now (line .entry)) len)) ⌝ }
 {
     if len == 0 {
@@ -41,14 +42,11 @@ pub(crate) fn answer_at_end(line: &[u8], len: usize, out: &mut [u8; 101]) -> usi
     answer_to(line, len, out)
 }
 
-// The answer where byte 10 comes after more bytes of the line. Those of a whole line are not copied.
-pub(crate) fn answer(line: &mut [u8], held: usize, bytes: &[u8], out: &mut [u8; 101]) -> usize
-    requires { ⌜ (length (now line) ≡ 101) × (length (now out) ≡ 101) ⌝ }
+// The answer where byte 10 comes after more bytes of the line.
+pub(crate) fn answer(line: &mut [u8], held: usize, bytes: &[u8], out: &mut AnswerBuffer) -> usize
+    requires { ⌜ (length (now line) ≡ 101) × (length (now out) ≡ 128) ⌝ }
     ensures { λ r. ⌜ Holds (now (out .exit)) r (answerTo (extendedBy (partialOf (now (line .entry)) held) (now (bytes .entry)))) ⌝ }
 {
-    if held == 0 {
-        return answers::answer(bytes, out);
-    }
     let len = hold(line, held, bytes);
     answer_to(line, len, out)
 }

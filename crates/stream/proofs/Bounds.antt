@@ -1,26 +1,29 @@
 -- What a reading prints is small: the place has at most two digits, the symbol and the symbols of the messages one.
 -- Assumes nothing.
-use mathlib.Core.Path.{_≡_}
+use mathlib.Core.Path.{_≡_, refl, subst}
 use mathlib.Core.Bool.{Bool, true, false, _&&_}
 use mathlib.Core.List.{List, [], _∷_}
 use Prim.Native.Nat.{ℕ, zero, suc, _+_, _≤_, _<_, zero-le}
 use native.Mathlib.Nat.{le-trans}
 use native.Mathlib.Numerals.{add-one}
 use lib.Dec.{lit≤, T, leb, ltb, eqb, leb→le, eqb→eq}
-use lib.ListN.{length, drop, set}
+use lib.ListN.{length, drop, set, getD}
 use lib.Seq.{getD-drop}
 use borrow.Author.Tests.{ltb-true}
 use Rattle.modular.specs.Search.{allBelow}
-use Rattle.modular.proofs.Search.{and-left, and-right, all-at, least-le, holds}
+use Rattle.modular.proofs.Search.{and-left, and-right, least-le}
 use Rattle.modular.proofs.Residue.{minus-below}
 use Rattle.code.specs.Parameters.{Parameters, messageLength, codewordLength}
-use Rattle.code.specs.Component.{symbolsBelow, message, inCode}
+use Rattle.code.specs.Refusal.{Test, firstRefusal}
+use Rattle.code.specs.Component.{Below, message, inCode}
 use Rattle.code.specs.Balance.{difference}
 use Rattle.code.specs.Codeword.{alternate, received, restored, carried, codeword, body}
-use Rattle.code.specs.Reading.{Kind, clean, corrected, Reading, read, unreadable, readAs, reading, nearReading, changedAt, sentAt}
-use Rattle.code.specs.Profiles.{isProfile, profile}
-use Rattle.code.specs.Operations.{Answer, refused, answered, decodeAnswer}
-use Rattle.code.proofs.Merge.{cases, Below, below-keep}
+use Rattle.code.specs.Reading.{Finding, correctionAt, clean, corrected, correction, Reading, read, unreadable, readAs, reading, nearReading, changedAt, sentAt}
+use Rattle.code.specs.Profiles.{profiles, isProfile, profile}
+use Rattle.code.specs.Operations.{Answer, refused, answered, decodeTests, readUnless, decodeAnswer}
+use Rattle.code.proofs.Refusal.{AllPass, passed-every, number-most}
+use Rattle.code.proofs.Merge.{cases, below-keep}
+use Rattle.code.proofs.Profiles.{every-profile}
 
 -- The symbols of a message are below q.
 
@@ -45,7 +48,7 @@ below-set q (x ∷ c) (suc i) y k h (suc j) = below-set q c i y k (λ l. h (suc 
 below-restored : (p : Parameters) → 1 ≤ p .q → (c : List ℕ) → Below (p .q) c → Below (p .q) (restored p c)
 unfolding restored
 below-restored p h c k =
-    cases (inCode (p .q) (p .r) c) (λ e. rw (e, restored) k) (λ e. rw (e, restored) (below-set (p .q) c _ _ (minus-below (p .q) _ 1 h) k))
+    cases (inCode p c) (λ e. rw (e, restored) k) (λ e. rw (e, restored) (below-set (p .q) c _ _ (minus-below (p .q) _ 1 h) k))
 
 below-carried : (p : Parameters) → 1 ≤ p .q → (b : Bool) (u : List ℕ) → Below (p .q) (carried p b u)
 unfolding carried message received
@@ -58,12 +61,12 @@ below-carried p h b u =
 -- A reading.
 
 SmallReading : ℕ → ℕ → Reading → Type 0
-SmallReading n q (read k place y a b) = (place ≤ n) × (y ≤ q) × Below q a × Below q b
+SmallReading n q (read f a b) = (correction f .position ≤ n) × (correction f .symbol ≤ q) × Below q a × Below q b
 SmallReading n q unreadable = Unit {0}
 
-read-as : (p : Parameters) → 1 ≤ p .q → (k : Kind) (n place y : ℕ) (u : List ℕ) → place ≤ n → y ≤ p .q → SmallReading n (p .q) (readAs p k place y u)
+read-as : (p : Parameters) → 1 ≤ p .q → (f : Finding) (n : ℕ) (u : List ℕ) → correction f .position ≤ n → correction f .symbol ≤ p .q → SmallReading n (p .q) (readAs p f u)
 unfolding SmallReading
-read-as p h k n place y u a b = (a, b, below-carried p h true u, below-carried p h false u)
+read-as p h f n u a b = (a, b, below-carried p h true u, below-carried p h false u)
 
 near-small : (p : Parameters) → 1 ≤ p .q → (u : List ℕ) → SmallReading (length u) (p .q) (nearReading p u)
 unfolding nearReading SmallReading sentAt
@@ -71,58 +74,60 @@ near-small p h u =
     cases (ltb (changedAt p u) (length u))
     (λ e.
     rw (e, nearReading)
-    (read-as p h corrected (length u) (changedAt p u + 1) (sentAt p u (changedAt p u)) _ (rw add-one (ltb-true (changedAt p u) (length u) e))
+    (read-as p h (corrected (correctionAt (changedAt p u) (getD u (changedAt p u) 0) (sentAt p u (changedAt p u)))) (length u) _ (rw add-one (ltb-true (changedAt p u) (length u) e))
     (least-le (λ y. codeword p (set u (changedAt p u) y)) (p .q)))) (λ e. rw (e, nearReading) tt)
 
 reading-small : (p : Parameters) → 1 ≤ p .q → (u : List ℕ) → SmallReading (length u) (p .q) (reading p u)
 unfolding reading
 reading-small p h u =
-    cases (codeword p u) (λ e. rw (e, reading) (read-as p h clean (length u) 0 0 u zero-le zero-le)) (λ e. rw (e, reading) (near-small p h u))
+    cases (codeword p u) (λ e. rw (e, reading) (read-as p h clean (length u) u zero-le zero-le)) (λ e. rw (e, reading) (near-small p h u))
 
 -- An answer.
 
 abbrev pub Small : Answer → Type 0
 Small (refused n) = n ≤ 9
 Small (answered unreadable) = Unit {0}
-Small (answered (read k place y a b)) = (place ≤ 99) × (y ≤ 9) × Below 10 a × Below 10 b
+Small (answered (read f a b)) = (correction f .position ≤ 99) × (correction f .symbol ≤ 9) × Below 10 a × Below 10 b
 
--- the numbers of profile i + 1
+-- the numbers of a profile
 smallRow : ℕ → Bool
-smallRow i = leb (codewordLength (profile (suc i))) 99 && (leb 1 (profile (suc i) .q) && leb (profile (suc i) .q) 9)
+smallRow i = leb (codewordLength (profile i)) 99 && (leb 1 (profile i .q) && leb (profile i .q) 9)
 
-small-rows : T (allBelow smallRow 4)
+small-rows : T (allBelow (λ j. smallRow (suc j)) (length profiles))
 unfolding smallRow profile
 small-rows = tt
 
 small-row : (i : ℕ) → T (isProfile i) → (codewordLength (profile i) ≤ 99) × (1 ≤ profile i .q) × (profile i .q ≤ 9)
 unfolding smallRow
-small-row zero h = absurd h
-small-row (suc i) h =
-    let f : T (smallRow i) = all-at smallRow 4 small-rows i (leb→le (suc i) 4 (and-right (leb 1 (suc i)) (leb (suc i) 4) h)) in
-    let g : T (leb 1 (profile (suc i) .q) && leb (profile (suc i) .q) 9) = and-right (leb (codewordLength (profile (suc i))) 99) _ f in (
-      leb→le _ _ (and-left (leb (codewordLength (profile (suc i))) 99) _ f),
-      leb→le _ _ (and-left (leb 1 (profile (suc i) .q)) _ g),
-      leb→le _ _ (and-right (leb 1 (profile (suc i) .q)) _ g),
+small-row i h =
+    let f : T (smallRow i) = every-profile smallRow small-rows i h in
+    let g : T (leb 1 (profile i .q) && leb (profile i .q) 9) = and-right (leb (codewordLength (profile i)) 99) _ f in (
+      leb→le _ _ (and-left (leb (codewordLength (profile i)) 99) _ f),
+      leb→le _ _ (and-left (leb 1 (profile i .q)) _ g),
+      leb→le _ _ (and-right (leb 1 (profile i .q)) _ g),
     )
 
 small-reading : (n q : ℕ) (r : Reading) → n ≤ 99 → q ≤ 9 → SmallReading n q r → Small (answered r)
 unfolding SmallReading
-small-reading n q (read k place y a b) h g s =
+small-reading n q (read f a b) h g s =
     (le-trans (s .0) h, le-trans (s .1) g, (λ i. le-trans (s .2 i) (le-trans g (lit≤ tt))), (λ i. le-trans (s .3 i) (le-trans g (lit≤ tt))))
 small-reading n q unreadable h g s = tt
 
 pub decode-small : (i : ℕ) (u : List ℕ) (k l : ℕ) → Small (decodeAnswer i u k l)
 unfolding decodeAnswer
-decode-small i u k l =
-    cases (isProfile i)
-    (λ e.
-    cases (eqb (length u) (codewordLength (profile i)) && eqb k (messageLength (profile i)) && eqb l (messageLength (profile i)))
-    (λ f. cases (symbolsBelow (profile i .q) u) (λ g. rw (e, decodeAnswer, f, g) (full (holds _ e) (holds _ f))) (λ g. rw (e, decodeAnswer, f, g) (lit≤ tt)))
-    (λ f. rw (e, decodeAnswer, f) (lit≤ tt))) (λ e. rw (e, decodeAnswer) (lit≤ tt))
+decode-small i u k l = go (firstRefusal tests) refl
   where
-    full : T (isProfile i) → T (eqb (length u) (codewordLength (profile i)) && eqb k (messageLength (profile i)) && eqb l (messageLength (profile i)))
-        → Small (answered (reading (profile i) u))
-    full a b =
-        let r : (codewordLength (profile i) ≤ 99) × (1 ≤ profile i .q) × (profile i .q ≤ 9) = small-row i a in
-        let e : length u ≡ codewordLength (profile i) = eqb→eq _ _ (and-left (eqb (length u) (codewordLength (profile i))) (eqb k (messageLength (profile i))) (and-left (eqb (length u) (codewordLength (profile i)) && eqb k (messageLength (profile i))) _ b)) in
-        small-reading (length u) (profile i .q) (reading (profile i) u) (rw e (r .0)) (r .2) (reading-small (profile i) (r .1) u)
+    tests : List Test
+    tests = decodeTests i u k l
+
+    full : AllPass (decodeTests i u k l) → Small (answered (reading (profile i) u))
+    full (known, (lengths, rest)) =
+        let n = codewordLength (profile i) in
+        let (few, some, low) = small-row i known in
+        let two = eqb (length u) n && eqb k (messageLength (profile i)) in
+        let long : length u ≡ n = eqb→eq _ _ (and-left (eqb (length u) n) _ (and-left two _ lengths)) in
+        small-reading (length u) (profile i .q) (reading (profile i) u) (rw long few) low (reading-small (profile i) some u)
+
+    go : (n : ℕ) → firstRefusal tests ≡ n → Small (readUnless n (reading (profile i) u))
+    go zero e = full (passed-every tests tt e)
+    go (suc n) e = subst (λ (m : ℕ). m ≤ 9) e (number-most 9 tests tt)

@@ -5,6 +5,7 @@ use Rattle.stream.proofs.Whole.{long-line}
 use Rattle.stream.proofs.Feed.{feed-stops, feed-fits}
 use Rattle.stream.proofs.Cutting.{any-cutting, finish-fits, finish-stops}
 use Rattle.stream.proofs.Cases.{cases-print}
+use Rattle.stream.proofs.OneAnswer.{one-answer-each}
 
 pub claims : Claims
 claims =
@@ -15,5 +16,6 @@ claims =
       finish-fits = finish-fits;
       finish-stops = finish-stops;
       long-line = long-line;
+      one-answer-each = one-answer-each;
       cases-print = cases-print;
     }

@@ -56,16 +56,21 @@ empty-is : (l : List ℕ) → T (isEmpty l) → l ≡ []
 empty-is [] h = refl
 empty-is (b ∷ l) h = absurd h
 
--- a call that is done leaves nothing to come
-done-leaves : (m : Model) (room : ℕ) → T (isDone (finishing m room)) → still (finishing m room .model) [] ≡ []
+-- a call that is done had room for the pending bytes
+pub done-reaches : (m : Model) (room : ℕ) → T (isDone (finishing m room)) → length (m .pending) ≤ room
 unfolding isDone
-done-leaves m room =
-    ⊎-elim
-    (λ (h : length (m .pending) ≤ room).
-    rw (finish-on m room h) (λ d. append-nil (drop (room - length (m .pending)) (answerAtEnd (m .line))) ∙ empty-is _ d))
+done-reaches m room =
+    ⊎-elim (λ (h : length (m .pending) ≤ room). λ d. h)
     (λ (h : room < length (m .pending)).
     rw (finish-stop m room h) (λ d. absurd (drop-nonempty room (m .pending) h (empty-is (drop room (m .pending)) d))))
     (le-or-lt (length (m .pending)) room)
+
+-- a call that is done leaves nothing to come
+done-leaves : (m : Model) (room : ℕ) → T (isDone (finishing m room)) → still (finishing m room .model) [] ≡ []
+unfolding isDone
+done-leaves m room d =
+    let e = finish-on m room (done-reaches m room d) in
+    rw e (append-nil (drop (room - length (m .pending)) (answerAtEnd (m .line))) ∙ empty-is _ (rw e at d))
 
 ending-gives : {m : Model} {o : List ℕ} → Ending m o → o ≡ still m []
 ending-gives {m} (done room d) = sym (append-nil _) ∙ ap (λ (l : List ℕ). finishing m room .produced ++ l) (sym (done-leaves m room d)) ∙ finish-conserves m room

@@ -1,7 +1,10 @@
+pub mod Order
 pub mod Whole
 pub mod Feed
 pub mod Cutting
 pub mod Progress
+pub mod Counting
 pub mod Cases
+pub mod OneAnswer
 pub mod Bounds
 pub mod Claims

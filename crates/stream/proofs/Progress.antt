@@ -4,12 +4,14 @@ use mathlib.Core.Path.{_≡_, sym, ap, _∙_}
 use mathlib.Core.Logic.{⊎-elim}
 use mathlib.Core.Bool.{false}
 use mathlib.Core.List.{List, [], _++_}
-use Prim.Native.Nat.{ℕ, _+_, _-_, _≤_, _<_}
+use Prim.Native.Nat.{ℕ, _+_, _-_, _≤_, _<_, min}
+use native.Mathlib.Nat.{le-of-lt, min-eq-left, min-eq-right}
 use native.Mathlib.Omega.{arith}
 use lib.Dec.{T}
 use lib.ListN.{length, take, drop, length-append, length-drop, take-append-drop}
-use lib.Seq.{take-all, drop-drop}
-use Rattle.stream.specs.Feed.{Model, feed, finishing, isDone}
+use lib.Seq.{take-all, take-length, drop-drop}
+use Rattle.modular.proofs.Search.{le-or-lt}
+use Rattle.stream.specs.Feed.{Model, feed, finishing, isDone, lineEnds, linesFinished}
 use Rattle.stream.proofs.Feed.{still, conserved, feed-fits, feed-stops}
 use Rattle.stream.proofs.Cutting.{finish-conserves, finish-stops, finish-fits}
 
@@ -19,6 +21,12 @@ piece input at = take (length input - at) (drop at input)
 
 pub piece-is : (input : List ℕ) (at : ℕ) → piece input at ≡ drop at input
 piece-is input at = take-all (length input - at) (drop at input) (rw length-drop (omega arith))
+
+-- a prefix that is asked for past the end
+pub take-min : (k : ℕ) (s : List ℕ) → take (min k (length s)) s ≡ take k s
+take-min k s =
+    ⊎-elim (λ (h : k ≤ length s). rw (min-eq-left h))
+    (λ (h : length s < k). rw (min-eq-right (le-of-lt h)) (take-length s ∙ sym (take-all k s (le-of-lt h)))) (le-or-lt k (length s))
 
 call-less : (m : Model) (s : List ℕ) (room : ℕ) → 0 < length (feed m s room .produced)
     → length (still (feed m s room .model) (drop (feed m s room .consumed) s)) < length (still m s)
@@ -37,34 +45,54 @@ pub call-fits : (m : Model) (s : List ℕ) (room consumed produced : ℕ) → co
     → (consumed ≤ length s) × (produced ≤ room)
 call-fits m s room consumed produced e f = rw (e, f) (feed-fits m s room)
 
-module _ (input : List ℕ) (at room : ℕ) (m m′ : Model) (consumed produced : ℕ) (model : m′ ≡ feed m (piece input at) room .model)
-    (taken : consumed ≡ feed m (piece input at) room .consumed) (put : produced ≡ length (feed m (piece input at) room .produced)) where
+-- What the contract of `lines::step` says of a call with the input from an index on: the models before and after it, the bytes that it took
+-- and put out, and the lines that it answered.
+pub record StepCall (input : List ℕ) (at room : ℕ) (m m′ : Model) (consumed produced answered : ℕ) : Type 0 where
+  pub model : m′ ≡ feed m (piece input at) room .model
+  pub taken : consumed ≡ feed m (piece input at) room .consumed
+  pub put : produced ≡ length (feed m (piece input at) room .produced)
+  pub counted : answered ≡ lineEnds (take consumed (piece input at))
+
+module _ {input : List ℕ} {at room : ℕ} {m m′ : Model} {consumed produced answered : ℕ}
+    (c : StepCall input at room m m′ consumed produced answered) where
   pub step-reaches : at ≤ length input → at + consumed ≤ length input
-  step-reaches h = omega (arith, call-fits m (piece input at) room consumed produced taken put .0, piece-length input at)
+  step-reaches h = omega (arith, call-fits m (piece input at) room consumed produced (c .taken) (c .put) .0, piece-length input at)
 
   pub step-fits : produced ≤ room
-  step-fits = call-fits m (piece input at) room consumed produced taken put .1
+  step-fits = call-fits m (piece input at) room consumed produced (c .taken) (c .put) .1
 
-  -- a call that does not fill its output leaves nothing pending
+  -- a call that does not fill its output takes the whole piece and leaves nothing pending
+  step-rests : produced < room → (feed m (piece input at) room .consumed ≡ length (piece input at)) × (feed m (piece input at) room .model .pending ≡ [])
+  step-rests h =
+      ⊎-elim (λ k. k) (λ k. absurd (let e : length (feed m (piece input at) room .produced) ≡ room = k .0 in omega (arith, c .put)))
+      (feed-stops m (piece input at) room)
+
   pub step-empties : produced < room → m′ .pending ≡ []
-  step-empties h =
-      rw model
-      (⊎-elim (λ k. k .1) (λ k. absurd (let e : length (feed m (piece input at) room .produced) ≡ room = k .0 in omega arith)) (feed-stops m (piece input at) room))
+  step-empties h = rw (c .model) (step-rests h .1)
+
+  pub step-whole : at ≤ length input → produced < room → at + consumed ≡ length input
+  step-whole l h = omega (arith, c .taken, step-rests h .0, piece-length input at)
 
   pub step-less : 0 < produced → length (still m′ (drop (at + consumed) input)) < length (still m (drop at input))
   step-less h =
-      rw (model, ← drop-drop consumed at input, taken, piece-is input at)
-      (call-less m (drop at input) room (rw (piece-is input at) at (rw put at h)))
+      rw (c .model, ← drop-drop consumed at input, c .taken, piece-is input at)
+      (call-less m (drop at input) room (rw (piece-is input at) at (rw (c .put) at h)))
 
--- a call of finish
+-- What the contract of `lines::finish` says of a call, in the same way.
+pub record FinishCall (room : ℕ) (m m′ : Model) (produced answered : ℕ) : Type 0 where
+  pub model : m′ ≡ finishing m room .model
+  pub put : produced ≡ length (finishing m room .produced)
+  pub counted : answered ≡ linesFinished m room
+
 finish-less : (m : Model) (room : ℕ) → 0 < length (finishing m room .produced) → length (still (finishing m room .model) []) < length (still m [])
 finish-less m room h =
     omega (arith, ap length (finish-conserves m room), length-append (finishing m room .produced) (still (finishing m room .model) []))
 
-module _ (room : ℕ) (m m′ : Model) (produced : ℕ) (model : m′ ≡ finishing m room .model) (put : produced ≡ length (finishing m room .produced)) where
+module _ {room : ℕ} {m m′ : Model} {produced answered : ℕ} (c : FinishCall room m m′ produced answered) where
   pub finish-within : produced ≤ room
-  finish-within = rw put (finish-fits m room)
+  finish-within = rw (c .put) (finish-fits m room)
 
   pub finish-goes-on : false ≡ isDone (finishing m room) → 0 < room → length (still m′ []) < length (still m [])
   finish-goes-on d h =
-      rw model (finish-less m room (⊎-elim (λ (t : T (isDone (finishing m room))). absurd (rw (sym d) at t)) (λ e. omega arith) (finish-stops m room)))
+      rw (c .model)
+      (finish-less m room (⊎-elim (λ (t : T (isDone (finishing m room))). absurd (rw (sym d) at t)) (λ e. omega arith) (finish-stops m room)))

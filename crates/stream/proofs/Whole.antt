@@ -2,7 +2,7 @@
 -- Assumes nothing.
 use mathlib.Core.Path.{_≡_, refl, sym, ap, _∙_}
 use mathlib.Core.Logic.{⊎-elim}
-use mathlib.Core.Bool.{true, false}
+use mathlib.Core.Bool.{Bool, true, false, _&&_}
 use mathlib.Core.List.{List, [], _∷_, _++_}
 use Prim.Native.Nat.{ℕ, _+_, _≤_, _<_}
 use native.Mathlib.Omega.{arith}
@@ -11,14 +11,13 @@ use lib.ListN.{length, length-append}
 use borrow.Author.Tests.{le-leb, lt-leb, lt-ltb, le-ltb}
 use Rattle.modular.proofs.Search.{le-or-lt}
 use Rattle.code.proofs.Merge.{cases}
-use Rattle.stream.specs.Line.{isShort, lineAnswer}
+use Rattle.stream.specs.Line.{isShort, hasForm, refusalLine, lineAnswer}
 use Rattle.stream.specs.Stream.{lastAnswer, outputAfter, streamOutput}
 use Rattle.stream.specs.Feed.{Partial, held, tooLong, extended, answerTo, answerAtEnd, lineAfter, answerAfter}
-use Rattle.stream.specs.Claims.{LongLine}
+use Rattle.stream.proofs.Order.{line-bad}
 
-pub long-line : LongLine
-unfolding lineAnswer
-long-line l h = rw (lt-leb (length l) 101 h, lineAnswer)
+pub long-line : (l : List ℕ) → 101 < length l → lineAnswer l ≡ refusalLine 9
+long-line l h = line-bad l (ap (λ (b : Bool). b && hasForm l) (lt-leb (length l) 101 h))
 
 -- what is kept of a line
 abbrev pub clip : List ℕ → Partial

@@ -3,13 +3,13 @@
 use mathlib.Core.Path.{_≡_}
 use mathlib.Core.Logic.{_⊎_, _≢_}
 use mathlib.Core.List.{List, [], _++_}
-use Prim.Native.Nat.{ℕ, _≤_}
+use Prim.Native.Nat.{ℕ, _+_, _≤_}
 use lib.Dec.{T}
 use lib.ListN.{length, take}
 use Rattle.stream.specs.Line.{refusalLine, lineAnswer}
 use Rattle.stream.specs.Stream.{streamOutput}
 use Rattle.stream.specs.Cases.{AllPrint, cases}
-use Rattle.stream.specs.Feed.{Model, begin, feed, finishing, isDone}
+use Rattle.stream.specs.Feed.{held, Model, begin, feed, finishing, isDone, lineAfterAll, lineEnds, lastLines}
 
 -- Calls over an input cut anywhere, into outputs of any size.
 
@@ -51,6 +51,10 @@ FinishStops = (m : Model) (room : ℕ) → T (isDone (finishing m room)) ⊎ (le
 abbrev pub LongLine : Type 0
 LongLine = (l : List ℕ) → 102 ≤ length l → lineAnswer l ≡ refusalLine 9
 
+-- each line gets one answer: the output has as many ended lines as the input has lines
+abbrev pub OneAnswerEach : Type 0
+OneAnswerEach = (i : List ℕ) → lineEnds (streamOutput i) ≡ lineEnds i + lastLines (lineAfterAll (held []) i)
+
 -- 01's example, whole, and short inputs
 abbrev pub CasesPrint : Type 0
 CasesPrint = AllPrint cases
@@ -62,4 +66,5 @@ pub record Claims : Type 0 where
   pub finish-fits : FinishFits
   pub finish-stops : FinishStops
   pub long-line : LongLine
+  pub one-answer-each : OneAnswerEach
   pub cases-print : CasesPrint

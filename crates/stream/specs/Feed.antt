@@ -90,6 +90,30 @@ isEmpty (b ∷ l) = false
 unfoldable pub isDone : Fed → Bool
 isDone f = isEmpty (f .model .pending)
 
+-- the line so far after the bytes s
+abbrev pub lineAfterAll : Partial → List ℕ → Partial
+lineAfterAll p [] = p
+lineAfterAll p (b ∷ s) = lineAfterAll (lineAfter p b) s
+
+-- what is kept once they are taken and all their answers are put out
+abbrev pub settled : Model → List ℕ → Model
+settled m s = record { line = lineAfterAll (m .line) s; pending = [] }
+
+-- Lines answered: each byte 10 ends one, and the end of the input ends one where the line so far is not empty.
+
+abbrev pub lineEnds : List ℕ → ℕ
+lineEnds [] = 0
+lineEnds (b ∷ s) = elim (eqb b 10) [ true ↦ suc (lineEnds s) | false ↦ lineEnds s ]
+
+abbrev pub lastLines : Partial → ℕ
+lastLines (held []) = 0
+lastLines (held (b ∷ l)) = 1
+lastLines tooLong = 1
+
+-- those that a call at the end of the input answers: none while earlier answers have no room
+unfoldable pub linesFinished : Model → ℕ → ℕ
+linesFinished m room = elim (leb (length (m .pending)) room) [ true ↦ lastLines (m .line) | false ↦ 0 ]
+
 -- a lent output after a call: the bytes put out, then what it held
 unfoldable pub overwritten : List ℕ → List ℕ → List ℕ
 overwritten o out = o ++ drop (length o) out

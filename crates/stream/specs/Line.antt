@@ -7,8 +7,9 @@ use lib.Dec.{leb, ltb, eqb}
 use lib.ListN.{length, getD, drop}
 use Rattle.code.specs.Parameters.{messageLength}
 use Rattle.code.specs.Profiles.{profile}
-use Rattle.code.specs.Reading.{Kind, clean, corrected, read, unreadable}
-use Rattle.code.specs.Operations.{Answer, refused, answered, decodeAnswer}
+use Rattle.code.specs.Refusal.{Test, asks, firstRefusal}
+use Rattle.code.specs.Reading.{Finding, clean, corrected, correction, read, unreadable, reading}
+use Rattle.code.specs.Operations.{Answer, refused, answered, decodeTests, readUnless, decodeAnswer}
 
 -- What goes in. A line is the list of its bytes, without the byte 10 that ends it.
 
@@ -55,9 +56,9 @@ unfoldable pub decimal : ℕ → List ℕ → List ℕ
 decimal n after = decimalBefore 20 n after
 
 -- the letter of a kind, C or M (01: clean, mended)
-abbrev pub letter : Kind → ℕ
+abbrev pub letter : Finding → ℕ
 letter clean = 67
-letter corrected = 77
+letter (corrected c) = 77
 
 -- R, a space, the number
 unfoldable pub refusalLine : ℕ → List ℕ
@@ -72,13 +73,23 @@ readingLine i c place y a b =
 abbrev pub answerLine : ℕ → Answer → List ℕ
 answerLine i (refused n) = refusalLine n
 answerLine i (answered unreadable) = refusalLine 4
-answerLine i (answered (read k place y a b)) = readingLine i (letter k) place y a b
+answerLine i (answered (read f a b)) = readingLine i (letter f) (correction f .position) (correction f .symbol) a b
 
--- Read, with outputs of the profile's length
+-- Read, with outputs of the profile's length: what is tested, and what is answered
+abbrev pub readTests : ℕ → List ℕ → List Test
+readTests i u = decodeTests i u (messageLength (profile i)) (messageLength (profile i))
+
 unfoldable pub readAnswer : ℕ → List ℕ → Answer
 readAnswer i u = decodeAnswer i u (messageLength (profile i)) (messageLength (profile i))
 
--- 01: 9 for a line not of the form or too long; else the order of Read
+-- what is tested of a line: 9 for one not of the form or too long; then the order of Read
+abbrev pub lineTests : List ℕ → List Test
+lineTests l = asks (isShort l && hasForm l) 9 ∷ readTests (profileOf l) (symbolsOf l)
+
+-- the output for a line: the number n that refuses it, or what is read where n is 0
+abbrev pub lineUnless : ℕ → List ℕ → List ℕ
+lineUnless n l = answerLine (profileOf l) (readUnless n (reading (profile (profileOf l)) (symbolsOf l)))
+
+-- 01: the answer to a line
 unfoldable pub lineAnswer : List ℕ → List ℕ
-lineAnswer l =
-    elim (isShort l && hasForm l) [ true ↦ answerLine (profileOf l) (readAnswer (profileOf l) (symbolsOf l)) | false ↦ refusalLine 9 ]
+lineAnswer l = lineUnless (firstRefusal (lineTests l)) l

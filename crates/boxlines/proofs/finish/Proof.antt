@@ -1,4 +1,4 @@
--- `boxlines::finish` is safe and ends: a call that is not done puts out a whole buffer.
+-- `boxlines::finish` meets its contract: a call that is not done puts out a whole buffer, and the calls together answer the last line once.
 -- Assumes nothing.
 use mathlib.Core.Path.{_≡_, refl, sym, _∙_}
 use mathlib.Core.List.{[]}
@@ -7,72 +7,83 @@ use lib.ListN.{length}
 use lib.Seq.{length-take-le}
 use Rattle.stream.proofs.Feed.{still}
 use Rattle.lines.specs.States.{modelOf}
-use Rattle.stream.proofs.Progress.{finish-within, finish-goes-on}
+use Rattle.stream.proofs.Progress.{FinishCall, finish-within, finish-goes-on}
+use Rattle.boxlines.specs.Turns.{AnswersEnd}
+use Rattle.boxlines.proofs.Answering.{Remains, last-further, last-few, last-done}
 use Rattle.boxlines.proofs.finish.Statement.{statement}
 use Rattle.boxlines.proofs.finish.Tie as tie
 
 abbrev Inv-loop : tie.InvT-loop
-Inv-loop output₀ state₀ output state = length output ≡ length output₀
+Inv-loop output₀ state₀ lines₀ output state lines =
+    (length output ≡ length output₀) × Remains (modelOf state₀) (modelOf state) lines
 
 abbrev μ-loop : tie.MeasureT-loop
-μ-loop output₀ state₀ output state = length (still (modelOf state) [])
+μ-loop output₀ state₀ lines₀ output state lines = length (still (modelOf state) [])
+
+-- the places before a place: the call of finish, the loop's head, the start
+abbrev called : tie.After-write-all Inv-loop μ-loop → tie.After-finish Inv-loop μ-loop
+called c = c .before .before .before .before .before .before
+
+abbrev head : tie.After-finish Inv-loop μ-loop → tie.At-loop Inv-loop μ-loop
+head c = c .before .before
+
+abbrev started : tie.At-loop Inv-loop μ-loop → tie.Start Inv-loop μ-loop
+started c = c .before .before
+
+call : (c : tie.After-finish Inv-loop μ-loop)
+    → FinishCall (length (head c .loop .output)) (modelOf (head c .loop .state)) (modelOf (c .finish .result .state))
+    (c .finish .result .produced) (c .finish .result .answered)
+call c = let e = c .finish .ensures in record { model = e .0; put = e .1 .0; counted = e .1 .1 .0 }
+
+kept : (c : tie.After-finish Inv-loop μ-loop) → length (c .finish .last .1 .0) ≡ length (head c .loop .output)
+kept c = c .finish .kept .1 .0
 
 loop-holds : tie.Need-loop-holds Inv-loop μ-loop
-loop-holds c = refl
+loop-holds c = (refl, record { sum = omega arith })
 
 finish-requires : tie.Need-finish-requires Inv-loop μ-loop
 finish-requires c κs = tt
 
+add-lines : tie.Need-add-lines Inv-loop μ-loop
+add-lines c = let st = c .before .before .before .before in omega (arith, last-few (call st) (head st .loop .inv .1))
+
 slice-reshare-prefix-write-all : tie.Need-slice-reshare-prefix-write-all Inv-loop μ-loop
-slice-reshare-prefix-write-all c =
-    let st = c .before .before .before in
-    let l = st .before .before in
-    let s = l .before .before in
-    omega (arith, finish-within (length (l .loop .output)) (modelOf (l .loop .state)) (modelOf (st .finish .result .state)) (st .finish .result .produced) (st .finish .ensures .0) (st .finish .ensures .1 .0), st .finish .kept .1 .0)
+slice-reshare-prefix-write-all c = let st = c .before .before .before .before in omega (arith, finish-within (call st), kept st)
 
 slice-aggregate-write-all : tie.Need-slice-aggregate-write-all Inv-loop μ-loop
 slice-aggregate-write-all c =
-    let st = c .before .before .before .before in
-    let l = st .before .before in
-    let s = l .before .before in
-    sym (length-take-le _ _ (omega (arith, finish-within (length (l .loop .output)) (modelOf (l .loop .state)) (modelOf (st .finish .result .state)) (st .finish .result .produced) (st .finish .ensures .0) (st .finish .ensures .1 .0), st .finish .kept .1 .0)))
+    let st = c .before .before .before .before .before in
+    sym (length-take-le _ _ (omega (arith, finish-within (call st), kept st)))
 
 write-all-requires : tie.Need-write-all-requires Inv-loop μ-loop
 write-all-requires c κs = tt
 
 same-length : tie.Need-same-length Inv-loop μ-loop
-same-length c =
-    let st = c .before .before .before .before .before .before in
-    let l = st .before .before in
-    let s = l .before .before in
-    st .finish .kept .1 .0 ∙ l .loop .inv
+same-length c = let st = called (c .before) in kept st ∙ head st .loop .inv .0
 
 returns : tie.Need-returns Inv-loop μ-loop
-returns c = tt
+unfolding AnswersEnd
+returns c = refl
 
 same-length-2 : tie.Need-same-length-2 Inv-loop μ-loop
-same-length-2 c =
-    let st = c .before .before .before .before .before .before .before in
-    let l = st .before .before in
-    let s = l .before .before in
-    st .finish .kept .1 .0 ∙ l .loop .inv
+same-length-2 c = let st = called (c .before .before) in kept st ∙ head st .loop .inv .0
 
 returns-2 : tie.Need-returns-2 Inv-loop μ-loop
-returns-2 c = tt
+unfolding AnswersEnd
+returns-2 c =
+    let st = called (c .before .before) in
+    last-done (call st) (head st .loop .inv .1) (sym (c .if2 .taken) ∙ st .finish .ensures .1 .1 .1 .0)
 
 loop-less : tie.Need-loop-less Inv-loop μ-loop
 loop-less c =
-    let st = c .before .before .before .before .before .before .before in
-    let l = st .before .before in
-    let s = l .before .before in
-    finish-goes-on (length (l .loop .output)) (modelOf (l .loop .state)) (modelOf (st .finish .result .state)) (st .finish .result .produced) (st .finish .ensures .0) (st .finish .ensures .1 .0) (sym (c .if2 .left) ∙ st .finish .ensures .1 .1 .0) (omega (arith, s .pre, l .loop .inv))
+    let st = called (c .before .before) in
+    let l = head st in
+    finish-goes-on (call st) (sym (c .if2 .left) ∙ st .finish .ensures .1 .1 .1 .0) (omega (arith, started l .pre, l .loop .inv .0))
 
 loop-again : tie.Need-loop-again Inv-loop μ-loop
 loop-again c =
-    let st = c .before .before .before .before .before .before .before in
-    let l = st .before .before in
-    let s = l .before .before in
-    st .finish .kept .1 .0 ∙ l .loop .inv
+    let st = called (c .before .before) in
+    (kept st ∙ head st .loop .inv .0, last-further (call st) (head st .loop .inv .1))
 
 pub finish-spec : {M : Type 1} → statement M
 finish-spec =
@@ -82,6 +93,7 @@ finish-spec =
     μ-loop
     loop-holds
     finish-requires
+    add-lines
     slice-reshare-prefix-write-all
     slice-aggregate-write-all
     write-all-requires

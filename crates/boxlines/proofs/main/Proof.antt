@@ -3,14 +3,15 @@
 use mathlib.Core.Path.{_≡_, sym, _∙_}
 use native.Mathlib.Omega.{arith}
 use lib.ListN.{length}
+use borrow.Author.Needs.{needs}
 use Rattle.boxlines.proofs.main.Statement.{statement}
 use Rattle.boxlines.proofs.main.Tie as tie
 
 abbrev Inv-loop : tie.InvT-loop
-Inv-loop input₀ output₀ state₀ turns₀ input output state turns = (length input ≡ 65536) × (length output ≡ 65536)
+Inv-loop input₀ output₀ state₀ lines₀ turns₀ input output state lines turns = (length input ≡ 65536) × (length output ≡ 65536)
 
 abbrev μ-loop : tie.MeasureT-loop
-μ-loop input₀ output₀ state₀ turns₀ input output state turns = turns
+μ-loop input₀ output₀ state₀ lines₀ turns₀ input output state lines turns = turns
 
 large-buffer-requires : tie.Need-large-buffer-requires Inv-loop μ-loop
 large-buffer-requires c κs = tt
@@ -33,6 +34,15 @@ slice-aggregate-turn-2 c = sym (c .before .before .before .loop .inv .1)
 turn-requires : tie.Need-turn-requires Inv-loop μ-loop
 turn-requires c κs = omega (arith, c .before .before .before .loop .inv .1)
 
+wrapping-add-u64-requires : tie.Need-wrapping-add-u64-requires Inv-loop μ-loop
+wrapping-add-u64-requires c κs = tt
+
+enum-told : tie.Need-enum-told Inv-loop μ-loop
+enum-told c = search needs
+
+report-requires : tie.Need-report-requires Inv-loop μ-loop
+report-requires c κs = tt
+
 returns : tie.Need-returns Inv-loop μ-loop
 returns c = tt
 
@@ -44,7 +54,7 @@ loop-less c = omega arith
 
 loop-again : tie.Need-loop-again Inv-loop μ-loop
 loop-again c =
-    let t = c .before .before .before .before .before in
+    let t = c .before .before .before .before .before .before in
     let l = t .before .before .before .before in
     (t .turn .kept .1 .0 ∙ l .loop .inv .0, t .turn .kept .1 .1 .0 ∙ l .loop .inv .1)
 
@@ -64,6 +74,9 @@ main-spec =
     slice-aggregate-turn
     slice-aggregate-turn-2
     turn-requires
+    wrapping-add-u64-requires
+    enum-told
+    report-requires
     returns
     sub-turns
     loop-less

@@ -2,14 +2,16 @@
 -- Assumes nothing.
 use mathlib.Core.Path.{_≡_, sym, ap, _∙_}
 use mathlib.Core.List.{List, []}
-use Prim.Native.Nat.{ℕ, _+_, _-_, zero-le}
+use Prim.Native.Nat.{ℕ, _+_, _-_, _≤_, _<_, zero-le}
 use native.Mathlib.Nat.{zero-add}
 use native.Mathlib.Omega.{arith}
 use denote.Ref.{now}
 use lib.ListN.{length}
-use Rattle.stream.specs.Feed.{stopped, finishing}
+use Rattle.stream.specs.Feed.{Model, stopped, finishing, linesFinished}
+use Rattle.stream.proofs.Counting.{counts-on, counts-stop}
 use Rattle.lines.specs.States.{partialOf, pendingOf, modelOf}
 use Rattle.lines.proofs.Clamping.{clamped}
+use Rattle.lines.proofs.Holding.{last-lines}
 use Rattle.lines.proofs.Stepping.{Turn, length-pending, begins, emitted, no-room}
 use Rattle.lines.proofs.Finishing.{finish-stops, ended, more-pending, pending-test, finished, all-done}
 use borrow.Author.Needs.{needs}
@@ -19,32 +21,64 @@ use Rattle.lines.proofs.finish.Tie as tie
 long-line : (c : tie.After-line) → length (c .before .before .args .state .line) ≡ 101
 long-line c = search needs
 
-long-answer : (c : tie.After-pending) → length (c .before .before .before .args .state .answer) ≡ 101
+long-answer : (c : tie.After-pending) → length (c .before .before .before .args .state .answer) ≡ 128
 long-answer c = search needs
 
 -- what the function starts from, and the pending bytes that go out first
 abbrev started : tie.After-emit → tie.Start
 started c = c .before .before .before .before .before .before .before .before
 
-abbrev first-bytes : tie.After-emit → List ℕ
-first-bytes c = pendingOf (started c .args .state .answer) (c .before .before .before .least2 .result) (c .before .before .before .before .least .result)
+-- the lent output, and from where to where the pending bytes stand
+abbrev O : tie.After-emit → List ℕ
+O c = now (started c .args .output)
 
-first-length : (c : tie.After-emit) → length (first-bytes c) ≡ c .before .before .before .before .least .result - c .before .before .before .least2 .result
-first-length c = length-pending _ _ _ (long-answer (c .before .before .before .before .before)) (c .before .before .before .before .least .ensures .1)
+abbrev from : tie.After-emit → ℕ
+from c = c .before .before .before .least2 .result
+
+abbrev to : tie.After-emit → ℕ
+to c = c .before .before .before .before .least .result
+
+abbrev first-bytes : tie.After-emit → List ℕ
+first-bytes c = pendingOf (started c .args .state .answer) (from c) (to c)
+
+first-length : (c : tie.After-emit) → length (first-bytes c) ≡ to c - from c
+first-length c =
+    let bounded = c .before .before .before .before in
+    length-pending _ _ _ (long-answer (bounded .before)) (bounded .least .ensures .1)
 
 -- those that had room are put out
-first-turn : (c : tie.After-emit) → Turn (stopped (partialOf (started c .args .state .line) (started c .args .state .len)) (first-bytes c) (length (now (started c .args .output)))) [] (now (started c .args .output)) (started c .args .state .line) (started c .args .state .len) (started c .args .state .answer) (c .before .before .before .least2 .result + c .emit .result) (c .before .before .before .before .least .result) 0 (c .emit .result) (c .emit .last .1 .1 .1 .0)
+first-turn : (c : tie.After-emit)
+    → let s = started c .args .state in
+    let goal = stopped (partialOf (s .line) (s .len)) (first-bytes c) (length (O c)) in
+    let n = c .emit .result in
+    Turn goal [] (O c) (s .line) (s .len) (s .answer) (from c + n) (to c) 0 n (c .emit .last .1 .1 .1 .0)
 first-turn c =
-    let l1 = c .before .before .before .before in
-    rw (zero-add (c .emit .result)) at (emitted (begins [] (now (started c .args .output)) (started c .args .state .line) (started c .args .state .len) (started c .args .state .answer) _ _ (long-line (l1 .before .before)) (long-answer (l1 .before)) (c .before .before .before .least2 .ensures .1) (l1 .least .ensures .1)) (c .emit .ensures))
+    let bounded = c .before .before .before .before in
+    let s = started c .args .state in
+    let ordered = c .before .before .before .least2 .ensures .1 in
+    let long = long-line (bounded .before .before) in
+    let begun = begins [] (O c) (s .line) (s .len) (s .answer) _ _ long (long-answer (bounded .before)) ordered (bounded .least .ensures .1) in
+    rw (zero-add (c .emit .result)) at (emitted begun (c .emit .ensures))
 
--- the pending bytes of the call, whatever indices the state holds
-same-call : (c : tie.After-emit) → finishing (record { line = partialOf (started c .args .state .line) (started c .args .state .len); pending = first-bytes c }) (length (now (started c .args .output))) ≡ finishing (modelOf (started c .args .state)) (length (now (started c .args .output)))
+-- the model with them pending
+abbrev first-model : tie.After-emit → Model
+first-model c = record { line = partialOf (started c .args .state .line) (started c .args .state .len); pending = first-bytes c }
+
+-- is that of the call, whatever indices the state holds
+same-model : (c : tie.After-emit) → first-model c ≡ modelOf (started c .args .state)
 unfolding modelOf
-same-call c =
-    let l1 = c .before .before .before .before in
-    ap (λ (o : List ℕ). finishing (record { line = partialOf (started c .args .state .line) (started c .args .state .len); pending = o }) (length (now (started c .args .output))))
-    (clamped (started c .args .state .answer) (started c .args .state .from) (started c .args .state .to) _ _ (long-answer (l1 .before)) (l1 .least .ensures) (c .before .before .before .least2 .ensures))
+same-model c =
+    let bounded = c .before .before .before .before in
+    let s = started c .args .state in
+    ap (λ (o : List ℕ). record { line = partialOf (s .line) (s .len); pending = o })
+    (clamped (s .answer) (s .from) (s .to) _ _ (long-answer (bounded .before)) (bounded .least .ensures) (c .before .before .before .least2 .ensures))
+
+same-call : (c : tie.After-emit) → finishing (first-model c) (length (O c)) ≡ finishing (modelOf (started c .args .state)) (length (O c))
+same-call c = ap (λ (m : Model). finishing m (length (O c))) (same-model c)
+
+same-lines : (c : tie.After-emit)
+    → linesFinished (first-model c) (length (O c)) ≡ linesFinished (modelOf (started c .args .state)) (length (O c))
+same-lines c = ap (λ (m : Model). linesFinished m (length (O c))) (same-model c)
 
 least-requires : tie.Need-least-requires
 least-requires c κs = search needs
@@ -60,11 +94,8 @@ emit-requires c κs =
     let l = c .before .before .before in
     (c .before .before .least2 .ensures .1, omega (arith, l .least .ensures .1, long-answer (l .before)), zero-le)
 
-add-if1 : tie.Need-add-if1
-add-if1 c = search needs
-
-add-t21 : tie.Need-add-t21
-add-t21 c = search needs
+add-next : tie.Need-add-next
+add-next c = search needs
 
 same-length : tie.Need-same-length
 same-length c = search needs
@@ -74,7 +105,14 @@ unfolding modelOf
 returns c =
     let em = c .before .before .before in
     let full = em .emit .ensures .full (omega (arith, c .if1 .taken)) in
-    finished (no-room (first-turn em) (c .if1 .taken) (sym (zero-add (em .emit .result)) ∙ full)) (finish-stops (first-bytes em) (first-turn em) (omega (arith, full, first-length em, c .if1 .taken)) ∙ same-call em) (more-pending _ _ _ (first-turn em .long-pending) (first-turn em .end) (c .if1 .taken))
+    let t = first-turn em in
+    let cut : length (O em) < length (first-bytes em) = omega (arith, full, first-length em, c .if1 .taken) in
+    finished (no-room t (c .if1 .taken) (sym (zero-add (em .emit .result)) ∙ full)) (finish-stops (first-bytes em) t cut ∙ same-call em)
+    (sym (counts-stop (first-model em) (length (O em)) cut) ∙ same-lines em)
+    (more-pending _ _ _ (t .long-pending) (t .end) (c .if1 .taken))
+
+least-requires-3 : tie.Need-least-requires-3
+least-requires-3 c κs = search needs
 
 slice-aggregate-answer-at-end : tie.Need-slice-aggregate-answer-at-end
 slice-aggregate-answer-at-end c = search needs
@@ -88,8 +126,8 @@ slice-aggregate-emit-2 c = search needs
 emit-requires-2 : tie.Need-emit-requires-2
 emit-requires-2 c κs = search needs
 
-add-t17 : tie.Need-add-t17
-add-t17 c = search needs
+add-produced : tie.Need-add-produced
+add-produced c = search needs
 
 same-length-2 : tie.Need-same-length-2
 same-length-2 c = search needs
@@ -99,15 +137,20 @@ unfolding modelOf
 returns-2 c =
     let e2 = c .before .before in
     let a = e2 .before .before .before in
-    let e1 = a .before .before .before in
+    let n3 = a .before .before .before in
+    let e1 = n3 .before in
     let em = e1 .before .before .before in
     let w = a .answer-at-end .ensures in
     let t = first-turn em in
-    let n = first-length em in
-    let all : length (first-bytes em) ≡ em .emit .result = omega (arith, n, em .emit .ensures .within, e1 .if1 .left) in
-    let t2 = ended (first-bytes em) t (e1 .if1 .left) (omega (arith, all, em .emit .ensures .fits)) w all in
+    let all : length (first-bytes em) ≡ em .emit .result = omega (arith, first-length em, em .emit .ensures .within, e1 .if1 .left) in
+    let room : length (first-bytes em) ≤ length (O em) = omega (arith, all, em .emit .ensures .fits) in
+    let t2 = ended (first-bytes em) t (e1 .if1 .left) room w all in
     let t3 = rw (zero-add (e2 .emit2 .result)) at (emitted t2 (e2 .emit2 .ensures)) in
-    finished (all-done t3 (λ h. e2 .emit2 .ensures .full (omega arith) ∙ t .same)) (same-call em) (pending-test (a .answer-at-end .last .1 .1 .0) (e2 .emit2 .result) (a .answer-at-end .result) (w .long) (w .fits) (omega (arith, e2 .emit2 .ensures .within)))
+    let last = last-lines _ _ (n3 .least3 .result) (t .long-line) (n3 .least3 .ensures) in
+    let at-end = a .answer-at-end in
+    finished (all-done t3 (λ h. e2 .emit2 .ensures .full (omega arith) ∙ t .same)) (same-call em)
+    (last ∙ sym (counts-on (first-model em) (length (O em)) room) ∙ same-lines em)
+    (pending-test (at-end .last .1 .1 .0) (e2 .emit2 .result) (at-end .result) (w .long) (w .fits) (omega (arith, e2 .emit2 .ensures .within)))
 
 pub finish-spec : {M : Type 1} → statement M
 finish-spec =
@@ -117,14 +160,14 @@ finish-spec =
     least-requires-2
     slice-aggregate-emit
     emit-requires
-    add-if1
-    add-t21
+    add-next
     same-length
     returns
+    least-requires-3
     slice-aggregate-answer-at-end
     answer-at-end-requires
     slice-aggregate-emit-2
     emit-requires-2
-    add-t17
+    add-produced
     same-length-2
     returns-2)

@@ -1,25 +1,28 @@
 -- `lines::step` meets its contract: the invariant says what is left to do, and each way out leaves nothing.
 -- Assumes nothing.
-use mathlib.Core.Path.{_≡_, sym, ap, _∙_}
+use mathlib.Core.Path.{_≡_, refl, sym, ap, _∙_}
 use mathlib.Core.List.{List}
 use Prim.Native.Nat.{ℕ, _-_, _<_}
 use native.Mathlib.Omega.{arith}
 use denote.Ref.{now}
-use lib.ListN.{length}
-use Rattle.stream.specs.Feed.{feedFrom, feed}
+use lib.ListN.{length, take}
+use Rattle.stream.specs.Feed.{feedFrom, feed, lineEnds}
+use Rattle.stream.proofs.Counting.{ends-few}
 use Rattle.lines.specs.States.{partialOf, pendingOf, modelOf}
 use Rattle.lines.proofs.Clamping.{clamped}
+use Rattle.lines.proofs.Ends.{counts-none, counts-one}
 use Rattle.lines.proofs.Stepping.{Turn, begins, emitted, answered, exhausted, no-room, no-input, stepped}
 use borrow.Author.Needs.{needs}
 use Rattle.lines.proofs.step.Statement.{statement}
 use Rattle.lines.proofs.step.Tie as tie
 
 abbrev Inv-loop : tie.InvT-loop
-Inv-loop input output₀ line₀ len₀ pending₀ to₀ from₀ consumed₀ produced₀ output line len pending to from consumed produced =
-    Turn (feedFrom (partialOf line₀ len₀) (pendingOf pending₀ from₀ to₀) input (length output₀)) input output₀ line len pending from to consumed produced output
+Inv-loop input output₀ line₀ len₀ pending₀ to₀ from₀ consumed₀ produced₀ answered₀ output line len pending to from consumed produced answered =
+    let goal = feedFrom (partialOf line₀ len₀) (pendingOf pending₀ from₀ to₀) input (length output₀) in
+    (Turn goal input output₀ line len pending from to consumed produced output) × (answered ≡ lineEnds (take consumed input))
 
 abbrev μ-loop : tie.MeasureT-loop
-μ-loop input output₀ line₀ len₀ pending₀ to₀ from₀ consumed₀ produced₀ output line len pending to from consumed produced =
+μ-loop input output₀ line₀ len₀ pending₀ to₀ from₀ consumed₀ produced₀ answered₀ output line len pending to from consumed produced answered =
     length input - consumed
 
 -- the places before a place: pending bytes were put out, the loop's head, the start
@@ -32,22 +35,31 @@ head c = c .before .before .before
 abbrev started : tie.At-loop Inv-loop μ-loop → tie.Start Inv-loop μ-loop
 started c = c .before .before .before .before .before .before .before
 
-long-answer : (c : tie.At-loop Inv-loop μ-loop) → length (started c .args .state .answer) ≡ 101
+abbrev I : tie.At-loop Inv-loop μ-loop → List ℕ
+I c = now (started c .args .input)
+
+abbrev O : tie.At-loop Inv-loop μ-loop → List ℕ
+O c = now (started c .args .output)
+
+long-answer : (c : tie.At-loop Inv-loop μ-loop) → length (started c .args .state .answer) ≡ 128
 long-answer c = search needs
 
 -- the pending bytes of the call, whatever indices the state holds
-same-call : (c : tie.At-loop Inv-loop μ-loop) → feedFrom (partialOf (started c .args .state .line) (started c .args .state .len)) (pendingOf (started c .args .state .answer) (c .before .least2 .result) (c .before .before .least .result)) (now (started c .args .input)) (length (now (started c .args .output))) ≡ feed (modelOf (started c .args .state)) (now (started c .args .input)) (length (now (started c .args .output)))
+same-call : (c : tie.At-loop Inv-loop μ-loop)
+    → let s = started c .args .state in
+    let pending = pendingOf (s .answer) (c .before .least2 .result) (c .before .before .least .result) in
+    feedFrom (partialOf (s .line) (s .len)) pending (I c) (length (O c)) ≡ feed (modelOf s) (I c) (length (O c))
 unfolding modelOf feed
 same-call c =
-    let s = started c .args in
-    ap (λ (o : List ℕ). feedFrom (partialOf (s .state .line) (s .state .len)) o (now (s .input)) (length (now (s .output))))
-    (clamped (s .state .answer) (s .state .from) (s .state .to) _ _ (long-answer c) (c .before .before .least .ensures) (c .before .least2 .ensures))
+    let s = started c .args .state in
+    ap (λ (o : List ℕ). feedFrom (partialOf (s .line) (s .len)) o (I c) (length (O c)))
+    (clamped (s .answer) (s .from) (s .to) _ _ (long-answer c) (c .before .before .least .ensures) (c .before .least2 .ensures))
 
 line-long : (c : tie.After-line-end Inv-loop μ-loop) → length (head (put-out c) .loop .line) ≡ 101
-line-long c = head (put-out c) .loop .inv .long-line
+line-long c = head (put-out c) .loop .inv .0 .long-line
 
 -- byte 10 stands before the end of the piece
-further : (c : tie.Else2 Inv-loop μ-loop) → c .before .before .line-end .result < length (now (started (head (put-out (c .before .before))) .args .input))
+further : (c : tie.Else2 Inv-loop μ-loop) → c .before .before .line-end .result < length (I (head (put-out (c .before .before))))
 further c = omega (arith, c .before .before .line-end .ensures .high, c .if2 .left)
 
 least-requires : tie.Need-least-requires Inv-loop μ-loop
@@ -57,24 +69,24 @@ least-requires-2 : tie.Need-least-requires-2 Inv-loop μ-loop
 least-requires-2 c κs = tt
 
 loop-holds : tie.Need-loop-holds Inv-loop μ-loop
-loop-holds c = begins _ _ _ _ _ _ _ (search needs) (search needs) (c .least2 .ensures .1) (c .before .least .ensures .1)
+loop-holds c = (begins _ _ _ _ _ _ _ (search needs) (search needs) (c .least2 .ensures .1) (c .before .least .ensures .1), refl)
 
 slice-aggregate-emit : tie.Need-slice-aggregate-emit Inv-loop μ-loop
-slice-aggregate-emit c = sym (c .before .loop .inv .long-pending)
+slice-aggregate-emit c = sym (c .before .loop .inv .0 .long-pending)
 
 emit-requires : tie.Need-emit-requires Inv-loop μ-loop
-emit-requires c κs = let t = c .before .before .loop .inv in (t .order, omega (arith, t .end, t .long-pending), omega (arith, t .put, t .same))
+emit-requires c κs = let t = c .before .before .loop .inv .0 in (t .order, omega (arith, t .end, t .long-pending), omega (arith, t .put, t .same))
 
 add-from : tie.Need-add-from Inv-loop μ-loop
 add-from c =
     let em = c .before .before in
-    omega (arith, em .emit .ensures .within, head em .loop .inv .order, head em .loop .inv .end)
+    omega (arith, em .emit .ensures .within, head em .loop .inv .0 .order, head em .loop .inv .0 .end)
 
 add-produced : tie.Need-add-produced Inv-loop μ-loop
 add-produced c = let em = c .before .before in omega (arith, em .emit .ensures .fits)
 
 line-end-requires : tie.Need-line-end-requires Inv-loop μ-loop
-line-end-requires c κs = head (c .before .before .before) .loop .inv .taken
+line-end-requires c κs = head (c .before .before .before) .loop .inv .0 .taken
 
 sub-bytes : tie.Need-sub-bytes Inv-loop μ-loop
 sub-bytes c = c .line-end .ensures .low
@@ -97,12 +109,19 @@ slice-aggregate-answer c = sym (line-long (c .before .before .before))
 answer-requires : tie.Need-answer-requires Inv-loop μ-loop
 answer-requires c κs =
     let f = c .before .before .before .before in
-    (line-long f, head (put-out f) .loop .inv .long-pending)
+    (line-long f, head (put-out f) .loop .inv .0 .long-pending)
 
 add-consumed : tie.Need-add-consumed Inv-loop μ-loop
 add-consumed c =
     let e = c .before .before .before .before in
     omega (arith, head (put-out (e .before .before)) .before .before .before .before .before .before, further e)
+
+add-answered : tie.Need-add-answered Inv-loop μ-loop
+add-answered c =
+    let e = c .before .before .before .before in
+    let h = head (put-out (e .before .before)) in
+    let ended = e .before .before .line-end .ensures in
+    omega (arith, h .loop .inv .1, ends-few (h .loop .consumed) (I h), further e, ended .low, h .before .before .before .before .before .before)
 
 loop-less : tie.Need-loop-less Inv-loop μ-loop
 loop-less c =
@@ -114,20 +133,26 @@ loop-again c =
     let e = c .before .before .before .before in
     let f = e .before .before in
     let em = put-out f in
-    answered (emitted (head em .loop .inv) (em .emit .ensures)) (f .before .if1 .left) (f .line-end .ensures) (further e) (c .before .answer .kept .0 ∙ line-long f) (c .before .answer .ensures)
+    let turn = emitted (head em .loop .inv .0) (em .emit .ensures) in
+    let long = c .before .answer .kept .0 ∙ line-long f in (
+      answered turn (f .before .if1 .left) (f .line-end .ensures) (further e) long (c .before .answer .ensures),
+      omega (arith, head em .loop .inv .1, counts-one (f .line-end .ensures) (further e)),
+    )
 
 same-length : tie.Need-same-length Inv-loop μ-loop
-same-length c = let em = c .before .before .before in emitted (head em .loop .inv) (em .emit .ensures) .same
+same-length c = let em = c .before .before .before in emitted (head em .loop .inv .0) (em .emit .ensures) .same
 
 returns : tie.Need-returns Inv-loop μ-loop
 unfolding modelOf
 returns c =
     let em = c .before .before .before in
     let l = head em in
-    stepped (no-room (emitted (l .loop .inv) (em .emit .ensures)) (c .if1 .taken) (em .emit .ensures .full (omega (arith, c .if1 .taken)) ∙ l .loop .inv .same)) (same-call l)
+    let turn = emitted (l .loop .inv .0) (em .emit .ensures) in
+    let full = em .emit .ensures .full (omega (arith, c .if1 .taken)) in
+    stepped (no-room turn (c .if1 .taken) (full ∙ l .loop .inv .0 .same)) (same-call l) (l .loop .inv .1)
 
 same-length-2 : tie.Need-same-length-2 Inv-loop μ-loop
-same-length-2 c = let em = put-out (c .before .before .before .before .before) in emitted (head em .loop .inv) (em .emit .ensures) .same
+same-length-2 c = let em = put-out (c .before .before .before .before .before) in emitted (head em .loop .inv .0) (em .emit .ensures) .same
 
 returns-2 : tie.Need-returns-2 Inv-loop μ-loop
 unfolding modelOf
@@ -136,7 +161,11 @@ returns-2 c =
     let t = h .before .before in
     let f = t .before .before in
     let em = put-out f in
-    stepped (no-input (exhausted (emitted (head em .loop .inv) (em .emit .ensures)) (f .before .if1 .left) (f .line-end .ensures) (h .hold .last .0) (h .hold .result) (h .hold .kept .0 ∙ line-long f) (h .hold .ensures)) (f .before .if1 .left) (t .if2 .taken)) (same-call (head em))
+    let turn = emitted (head em .loop .inv .0) (em .emit .ensures) in
+    let room = f .before .if1 .left in
+    let long = h .hold .kept .0 ∙ line-long f in
+    let spent = exhausted turn room (f .line-end .ensures) (h .hold .last .0) (h .hold .result) long (h .hold .ensures) in
+    stepped (no-input spent room (t .if2 .taken)) (same-call (head em)) (head em .loop .inv .1 ∙ sym (counts-none (f .line-end .ensures)))
 
 pub step-spec : {M : Type 1} → statement M
 step-spec =
@@ -160,6 +189,7 @@ step-spec =
     slice-aggregate-answer
     answer-requires
     add-consumed
+    add-answered
     loop-less
     loop-again
     same-length

@@ -1,7 +1,8 @@
 -- `lines_cases::feed` is safe and ends. The measure is the number of turns that are left.
 -- Assumes nothing.
 use mathlib.Core.Path.{_≡_, refl, sym, _∙_}
-use Prim.Native.Nat.{_≤_, zero-le}
+use mathlib.Core.List.{List}
+use Prim.Native.Nat.{ℕ, _+_, _≤_, zero-le}
 use native.Mathlib.Omega.{arith}
 use denote.Ref.{now}
 use lib.ListN.{length, take}
@@ -13,89 +14,104 @@ use Rattle.lines_cases.proofs.feed.Statement.{statement}
 use Rattle.lines_cases.proofs.feed.Tie as tie
 
 abbrev Inv-loop : tie.InvT-loop
-Inv-loop input output₀ state₀ at₀ turns₀ output state at turns = (at ≤ length input) × (length output ≡ 3)
+Inv-loop input size output₀ state₀ at₀ turns₀ output state at turns = (at ≤ length input) × (length output ≡ length output₀)
 
 abbrev μ-loop : tie.MeasureT-loop
-μ-loop input output₀ state₀ at₀ turns₀ output state at turns = turns
+μ-loop input size output₀ state₀ at₀ turns₀ output state at turns = turns
+
+-- the places before a place: the call of step, the size of a piece is known, the loop's head, the start
+abbrev called : tie.After-write-all Inv-loop μ-loop → tie.After-step Inv-loop μ-loop
+called c = c .before .before .before .before .before .before
+
+abbrev sized : tie.After-step Inv-loop μ-loop → tie.After-least Inv-loop μ-loop
+sized c = c .before .before .before
+
+abbrev head : tie.After-least Inv-loop μ-loop → tie.At-loop Inv-loop μ-loop
+head c = c .before .before .before .before
+
+abbrev started : tie.At-loop Inv-loop μ-loop → tie.Start Inv-loop μ-loop
+started c = c .before .before .before
+
+-- the piece has its size
+abbrev cut : tie.After-least Inv-loop μ-loop → List ℕ
+cut c = take (c .least .result) (piece (now (started (head c) .args .input)) (head c .loop .at))
+
+cut-length : (c : tie.After-least Inv-loop μ-loop) → length (cut c) ≡ c .least .result
+cut-length c =
+    let i = now (started (head c) .args .input) in
+    length-take-le (c .least .result) (piece i (head c .loop .at)) (omega (arith, c .least .ensures .1, piece-length i (head c .loop .at)))
+
+-- what a call takes and puts out
+within : (c : tie.After-step Inv-loop μ-loop)
+    → (head (sized c) .loop .at + c .step .result .consumed ≤ length (now (started (head (sized c)) .args .input)))
+    × (c .step .result .produced ≤ length (head (sized c) .loop .output))
+within c =
+    let s = sized c in
+    let l = head s in
+    let i = now (started l .args .input) in
+    let e = c .step .ensures in
+    let r = c .step .result in
+    let f = call-fits (modelOf (l .loop .state)) (cut s) (length (l .loop .output)) (r .consumed) (r .produced) (e .1 .0) (e .1 .1 .0) in
+    (omega (arith, f .0, cut-length s, s .least .ensures .1, piece-length i (l .loop .at), l .loop .inv .0), f .1)
+
+kept : (c : tie.After-step Inv-loop μ-loop) → length (c .step .last .1 .1 .0) ≡ length (head (sized c) .loop .output)
+kept c = c .step .kept .1 .1 .0
 
 loop-holds : tie.Need-loop-holds Inv-loop μ-loop
 loop-holds c = (zero-le, refl)
 
-sub-piece : tie.Need-sub-piece Inv-loop μ-loop
-sub-piece c = c .before .loop .inv .0
+sub-rest : tie.Need-sub-rest Inv-loop μ-loop
+sub-rest c = c .before .loop .inv .0
 
-part-piece-start : tie.Need-part-piece-start Inv-loop μ-loop
-part-piece-start c = c .before .loop .inv .0
+part-rest-start : tie.Need-part-rest-start Inv-loop μ-loop
+part-rest-start c = c .before .loop .inv .0
 
-part-piece-end : tie.Need-part-piece-end Inv-loop μ-loop
-part-piece-end c = search needs
+part-rest-end : tie.Need-part-rest-end Inv-loop μ-loop
+part-rest-end c = search needs
+
+size-requires : tie.Need-size-requires Inv-loop μ-loop
+size-requires c κs = tt
 
 least-requires : tie.Need-least-requires Inv-loop μ-loop
 least-requires c κs = tt
 
 slice-aggregate-step : tie.Need-slice-aggregate-step Inv-loop μ-loop
-slice-aggregate-step c =
-    let l = c .before .before .before .before in
-    let i = now (l .before .before .args .input) in
-    sym (length-take-le (c .before .least .result) (piece i (l .loop .at)) (omega (arith, c .before .least .ensures .1, piece-length i (l .loop .at))))
-
-slice-aggregate-step-2 : tie.Need-slice-aggregate-step-2 Inv-loop μ-loop
-slice-aggregate-step-2 c = sym (c .before .before .before .before .before .loop .inv .1)
+slice-aggregate-step c = sym (cut-length (c .before))
 
 step-requires : tie.Need-step-requires Inv-loop μ-loop
 step-requires c κs = tt
 
 add-at : tie.Need-add-at Inv-loop μ-loop
-add-at c =
-    let st = c .before .before .before in
-    let l = st .before .before .before .before .before .before in
-    let i = now (l .before .before .args .input) in
-    let cut = st .before .before .before .least in
-    omega (arith, call-fits (modelOf (l .loop .state)) (take (cut .result) (piece i (l .loop .at))) (length (l .loop .output)) (st .step .result .consumed) (st .step .result .produced) (st .step .ensures .1 .0) (st .step .ensures .1 .1 .0) .0, length-take-le (cut .result) (piece i (l .loop .at)) (omega (arith, cut .ensures .1, piece-length i (l .loop .at))), cut .ensures .1, piece-length i (l .loop .at), l .loop .inv .0)
+add-at c = let st = c .before .before .before .before in omega (arith, within st .0, head (sized st) .before .before)
 
-array-share-prefix-output : tie.Need-array-share-prefix-output Inv-loop μ-loop
-array-share-prefix-output c =
-    let st = c .before .before .before in
-    let l = st .before .before .before .before .before .before in
-    let i = now (l .before .before .args .input) in
-    let cut = st .before .before .before .least in
-    omega (arith, call-fits (modelOf (l .loop .state)) (take (cut .result) (piece i (l .loop .at))) (length (l .loop .output)) (st .step .result .consumed) (st .step .result .produced) (st .step .ensures .1 .0) (st .step .ensures .1 .1 .0) .1, st .step .kept .1 .1 .0)
+slice-reshare-prefix-write-all : tie.Need-slice-reshare-prefix-write-all Inv-loop μ-loop
+slice-reshare-prefix-write-all c = let st = c .before .before .before .before in omega (arith, within st .1, kept st)
 
 slice-aggregate-write-all : tie.Need-slice-aggregate-write-all Inv-loop μ-loop
 slice-aggregate-write-all c =
-    let st = c .before .before .before .before in
-    let l = st .before .before .before .before .before .before in
-    let i = now (l .before .before .args .input) in
-    let cut = st .before .before .before .least in
-    sym (length-take-le _ _ (omega (arith, call-fits (modelOf (l .loop .state)) (take (cut .result) (piece i (l .loop .at))) (length (l .loop .output)) (st .step .result .consumed) (st .step .result .produced) (st .step .ensures .1 .0) (st .step .ensures .1 .1 .0) .1, st .step .kept .1 .1 .0)))
+    let st = c .before .before .before .before .before in
+    sym (length-take-le _ _ (omega (arith, within st .1, kept st)))
 
 write-all-requires : tie.Need-write-all-requires Inv-loop μ-loop
 write-all-requires c κs = tt
 
-add-if1 : tie.Need-add-if1 Inv-loop μ-loop
-add-if1 c =
-    let st = c .before .before .before .before .before in
-    let l = st .before .before .before .before .before .before in
-    let i = now (l .before .before .args .input) in
-    let cut = st .before .before .before .least in
-    omega (arith, cut .ensures .0, call-fits (modelOf (l .loop .state)) (take (cut .result) (piece i (l .loop .at))) (length (l .loop .output)) (st .step .result .consumed) (st .step .result .produced) (st .step .ensures .1 .0) (st .step .ensures .1 .1 .0) .1, l .loop .inv .1)
+same-length : tie.Need-same-length Inv-loop μ-loop
+same-length c = let st = called (c .before .before) in kept st ∙ head (sized st) .loop .inv .1
 
 returns : tie.Need-returns Inv-loop μ-loop
 returns c = tt
 
 sub-turns : tie.Need-sub-turns Inv-loop μ-loop
-sub-turns c = omega arith
+sub-turns c = let l = sized (called (c .before)) .before .before .before in omega (arith, l .loop-test .taken)
 
 loop-less : tie.Need-loop-less Inv-loop μ-loop
-loop-less c = omega arith
+loop-less c = let l = sized (called (c .before)) .before .before .before in omega (arith, l .loop-test .taken)
 
 loop-again : tie.Need-loop-again Inv-loop μ-loop
-loop-again c =
-    let st = c .before .before .before .before .before .before in
-    let l = st .before .before .before .before .before .before in
-    let i = now (l .before .before .args .input) in
-    let cut = st .before .before .before .least in
-    (omega (arith, call-fits (modelOf (l .loop .state)) (take (cut .result) (piece i (l .loop .at))) (length (l .loop .output)) (st .step .result .consumed) (st .step .result .produced) (st .step .ensures .1 .0) (st .step .ensures .1 .1 .0) .0, length-take-le (cut .result) (piece i (l .loop .at)) (omega (arith, cut .ensures .1, piece-length i (l .loop .at))), cut .ensures .1, piece-length i (l .loop .at), l .loop .inv .0), st .step .kept .1 .1 .0 ∙ l .loop .inv .1)
+loop-again c = let st = called (c .before) in (within st .0, kept st ∙ head (sized st) .loop .inv .1)
+
+same-length-2 : tie.Need-same-length-2 Inv-loop μ-loop
+same-length-2 c = c .before .loop .inv .1
 
 returns-2 : tie.Need-returns-2 Inv-loop μ-loop
 returns-2 c = tt
@@ -107,20 +123,21 @@ feed-spec =
     Inv-loop
     μ-loop
     loop-holds
-    sub-piece
-    part-piece-start
-    part-piece-end
+    sub-rest
+    part-rest-start
+    part-rest-end
+    size-requires
     least-requires
     slice-aggregate-step
-    slice-aggregate-step-2
     step-requires
     add-at
-    array-share-prefix-output
+    slice-reshare-prefix-write-all
     slice-aggregate-write-all
     write-all-requires
-    add-if1
+    same-length
     returns
     sub-turns
     loop-less
     loop-again
+    same-length-2
     returns-2)

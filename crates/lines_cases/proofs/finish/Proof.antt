@@ -1,43 +1,56 @@
 -- `lines_cases::finish` is safe and ends. The measure is the number of turns that are left.
 -- Assumes nothing.
 use mathlib.Core.Path.{_≡_, refl, sym, _∙_}
+use Prim.Native.Nat.{_≤_}
 use native.Mathlib.Omega.{arith}
 use lib.ListN.{length}
 use lib.Seq.{length-take-le}
 use Rattle.lines.specs.States.{modelOf}
-use Rattle.stream.proofs.Progress.{finish-within}
+use Rattle.stream.proofs.Progress.{FinishCall, finish-within}
 use Rattle.lines_cases.proofs.finish.Statement.{statement}
 use Rattle.lines_cases.proofs.finish.Tie as tie
 
 abbrev Inv-loop : tie.InvT-loop
-Inv-loop output₀ state₀ turns₀ output state turns = length output ≡ 3
+Inv-loop output₀ state₀ turns₀ output state turns = length output ≡ length output₀
 
 abbrev μ-loop : tie.MeasureT-loop
 μ-loop output₀ state₀ turns₀ output state turns = turns
 
+abbrev head : tie.After-finish Inv-loop μ-loop → tie.At-loop Inv-loop μ-loop
+head c = c .before .before .before
+
+within : (c : tie.After-finish Inv-loop μ-loop) → c .finish .result .produced ≤ length (head c .loop .output)
+within c =
+    let l = head c in
+    let r = c .finish .result in
+    let e = c .finish .ensures in
+    let call : FinishCall (length (l .loop .output)) (modelOf (l .loop .state)) (modelOf (r .state)) (r .produced) (r .answered) =
+    record { model = e .0; put = e .1 .0; counted = e .1 .1 .0 }
+    in
+    finish-within call
+
+kept : (c : tie.After-finish Inv-loop μ-loop) → length (c .finish .last .1 .0) ≡ length (head c .loop .output)
+kept c = c .finish .kept .1 .0
+
 loop-holds : tie.Need-loop-holds Inv-loop μ-loop
 loop-holds c = refl
-
-slice-aggregate-finish : tie.Need-slice-aggregate-finish Inv-loop μ-loop
-slice-aggregate-finish c = sym (c .before .before .loop .inv)
 
 finish-requires : tie.Need-finish-requires Inv-loop μ-loop
 finish-requires c κs = tt
 
-array-share-prefix-output : tie.Need-array-share-prefix-output Inv-loop μ-loop
-array-share-prefix-output c =
-    let st = c .before .before in
-    let l = st .before .before .before in
-    omega (arith, finish-within (length (l .loop .output)) (modelOf (l .loop .state)) (modelOf (st .finish .result .state)) (st .finish .result .produced) (st .finish .ensures .0) (st .finish .ensures .1 .0), st .finish .kept .1 .0)
+slice-reshare-prefix-write-all : tie.Need-slice-reshare-prefix-write-all Inv-loop μ-loop
+slice-reshare-prefix-write-all c = let st = c .before .before .before in omega (arith, within st, kept st)
 
 slice-aggregate-write-all : tie.Need-slice-aggregate-write-all Inv-loop μ-loop
 slice-aggregate-write-all c =
-    let st = c .before .before .before in
-    let l = st .before .before .before in
-    sym (length-take-le _ _ (omega (arith, finish-within (length (l .loop .output)) (modelOf (l .loop .state)) (modelOf (st .finish .result .state)) (st .finish .result .produced) (st .finish .ensures .0) (st .finish .ensures .1 .0), st .finish .kept .1 .0)))
+    let st = c .before .before .before .before in
+    sym (length-take-le _ _ (omega (arith, within st, kept st)))
 
 write-all-requires : tie.Need-write-all-requires Inv-loop μ-loop
 write-all-requires c κs = tt
+
+same-length : tie.Need-same-length Inv-loop μ-loop
+same-length c = let st = c .before .before .before .before .before .before in kept st ∙ head st .loop .inv
 
 returns : tie.Need-returns Inv-loop μ-loop
 returns c = tt
@@ -49,7 +62,10 @@ loop-less : tie.Need-loop-less Inv-loop μ-loop
 loop-less c = omega arith
 
 loop-again : tie.Need-loop-again Inv-loop μ-loop
-loop-again c = let st = c .before .before .before .before .before in let l = st .before .before .before in st .finish .kept .1 .0 ∙ l .loop .inv
+loop-again c = let st = c .before .before .before .before .before .before in kept st ∙ head st .loop .inv
+
+same-length-2 : tie.Need-same-length-2 Inv-loop μ-loop
+same-length-2 c = c .before .loop .inv
 
 returns-2 : tie.Need-returns-2 Inv-loop μ-loop
 returns-2 c = tt
@@ -61,13 +77,14 @@ finish-spec =
     Inv-loop
     μ-loop
     loop-holds
-    slice-aggregate-finish
     finish-requires
-    array-share-prefix-output
+    slice-reshare-prefix-write-all
     slice-aggregate-write-all
     write-all-requires
+    same-length
     returns
     sub-turns
     loop-less
     loop-again
+    same-length-2
     returns-2)

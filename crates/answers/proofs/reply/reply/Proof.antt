@@ -5,17 +5,16 @@ use Prim.Native.Nat.{_≤_}
 use lib.Seq.{length-take-le}
 use Rattle.code.specs.Parameters.{messageLength}
 use Rattle.code.specs.Profiles.{profile}
-use Rattle.answers.proofs.Answers.{message-row}
 use borrow.Author.Needs.{needs}
 use Rattle.answers.proofs.reply.reply.Statement.{statement}
 use Rattle.answers.proofs.reply.reply.Tie as tie
 
 -- the words' length is k, and fits
-k : (c : tie.After-row-of) → (c .row-of .result .message ≡ messageLength (profile (c .before .before .before .args .profile))) × (c .row-of .result .message ≤ 45)
-k c = message-row _ (c .row-of .result) (c .row-of .ensures)
+k : (c : tie.After-message-length) → (c .message-length .result ≡ messageLength (profile (c .before .before .before .args .profile))) × (c .message-length .result ≤ 45)
+k c = c .message-length .ensures
 
-row-of-requires : tie.Need-row-of-requires
-row-of-requires c κs = search needs
+message-length-requires : tie.Need-message-length-requires
+message-length-requires c κs = search needs
 
 array-borrow-prefix-first : tie.Need-array-borrow-prefix-first
 array-borrow-prefix-first c = k c .1
@@ -45,7 +44,7 @@ pub reply-spec : {M : Type 1} → statement M
 reply-spec =
     tie.close
     (tie.spec
-    row-of-requires
+    message-length-requires
     array-borrow-prefix-first
     slice-aggregate-respond
     array-borrow-prefix-second

@@ -1,4 +1,4 @@
--- `answers::reply::respond` meets its contract: what decode reports and leaves is what the definition prints, and it is small enough for the line.
+-- `answers::reply::respond` meets its contract: what decode reports and leaves is what the definition prints, and small enough for the line.
 -- Assumes nothing.
 use native.Mathlib.Omega.{arith}
 use denote.Ref.{now}
@@ -20,7 +20,17 @@ show-requires : tie.Need-show-requires
 show-requires c κs =
     let d = decoded c in
     let s = start d in
-    ((s .pre .0 .0, s .pre .0 .1, omega (arith, d .decode .kept .1 .1 .0, s .pre .0 .2, s .pre .1 .0), omega (arith, d .decode .kept .1 .1 .1 .0, s .pre .0 .2, s .pre .1 .1)), small-shown (s .args .profile) (now (s .args .word)) (now (s .args .first)) (now (s .args .second)) _ _ _ (d .decode .ensures .answer) (d .decode .ensures .first-out) (d .decode .ensures .second-out))
+    let a = s .args in
+    let e = d .decode .ensures in
+    let kept = d .decode .kept .1 .1 in (
+      (
+        s .pre .0 .0,
+        s .pre .0 .1,
+        omega (arith, kept .0, s .pre .0 .2, s .pre .1 .0),
+        omega (arith, kept .1 .0, s .pre .0 .2, s .pre .1 .1),
+      ),
+      small-shown (a .profile) (now (a .word)) (now (a .first)) (now (a .second)) _ _ _ (e .answer) (e .first-out) (e .second-out),
+    )
 
 same-length : tie.Need-same-length
 same-length c = search needs
@@ -35,7 +45,10 @@ returns : tie.Need-returns
 returns c =
     let d = decoded (c .before .before .before) in
     let s = start d in
-    rw (shown-answer (s .args .profile) (now (s .args .word)) (now (s .args .first)) (now (s .args .second)) _ _ _ (d .decode .ensures .answer) (d .decode .ensures .first-out) (d .decode .ensures .second-out) (s .pre .1 .0) (s .pre .1 .1)) at (c .before .before .show .ensures)
+    let a = s .args in
+    let e = d .decode .ensures in
+    let shown = shown-answer (a .profile) (now (a .word)) (now (a .first)) (now (a .second)) _ _ _ (e .answer) (e .first-out) (e .second-out) in
+    rw (shown (s .pre .1 .0) (s .pre .1 .1)) at (c .before .before .show .ensures)
 
 pub respond-spec : {M : Type 1} → statement M
 respond-spec =
