@@ -1,9 +1,10 @@
 /* Fogzurt: the C entry points of the dock's coder.
  *
  * A codeword (the request's "lawful word") carries two messages (its "user words") in symbols of q
- * levels, one symbol a byte, 0 to q - 1. Any one wrong symbol is corrected and never taken for
- * other messages. A sheet keeps received words in a buffer that the caller lends, first in first
- * out.
+ * levels, one symbol a byte, 0 to q - 1. Where at most one symbol of a codeword is wrong, it is
+ * corrected and never taken for other messages. Where more are wrong, the word may be refused or be
+ * read as other messages. A sheet keeps received words in a buffer that the caller lends, first in
+ * first out.
  *
  *   profile    levels q    message    word
  *      1          3            5       19      lengths in symbols, that is in bytes
@@ -11,15 +12,16 @@
  *      3          5           21       51
  *      4          7           45       99
  *
- * Link target/staticlib/libffi.a, which `rt staticlib ffi` writes, by its path: the system may have
- * another library of the name ffi. The functions allocate nothing and keep nothing between calls,
- * so calls with buffers of their own may run at the same time.
+ * Link target/staticlib/libfogzurt.a, which `rt staticlib fogzurt` writes. The functions allocate
+ * nothing and keep nothing between calls, so calls with buffers of their own may run at the same
+ * time.
  *
- * WHAT A REFUSAL IS. Every argument may have any value, and what is wrong with it is answered by
- * a number below. A refused call writes no buffer. An accepted call writes only what its comment
- * says. Where several things are wrong, the number is the one that stands first in the order given
- * with the function. Profile, box and record numbers are 64 bits wide, so that 257 is refused and
- * not taken for 1.
+ * ONE RULE FOR ALL SIX FUNCTIONS. The lowest byte of an answer is the number: FOGZURT_NUMBER is 0
+ * where the call was done, and else one of FOGZURT_ERR_.. below. Every argument may have any value,
+ * and what is wrong with it is answered by its number. A refused call writes no buffer. An accepted
+ * call writes only what its comment says. Where several things are wrong, the number is the one that
+ * stands first in the order given with the function. Profile, box and record numbers are 64 bits
+ * wide, so that 257 is refused and not taken for 1.
  *
  * WHAT NO FUNCTION CAN CHECK, and the caller must see to, or anything may happen:
  *   - no pointer is null, also where its length is 0;
@@ -38,40 +40,36 @@
 extern "C" {
 #endif
 
-/* The numbers of refusals. 9, the form of a line, is the program boxlines' alone. */
+/* Major, minor: a major step breaks a caller. */
+#define FOGZURT_VERSION_MAJOR 1
+#define FOGZURT_VERSION_MINOR 0
+
+/* The number in an answer: 0, or why the call was refused. */
+#define FOGZURT_NUMBER(answer) ((unsigned)((uint64_t)(answer) & 0xff))
+
+/* The numbers. 9, the form of a line, is the program boxlines' alone. */
 enum {
     FOGZURT_OK = 0,
-    FOGZURT_PROFILE = 1,        /* the profile is not 1 to 4 */
-    FOGZURT_LENGTH = 2,         /* a message, a word or an output has another length than it must */
-    FOGZURT_SYMBOL = 3,         /* a symbol is not below q */
-    FOGZURT_UNREADABLE = 4,     /* no codeword differs from the word in at most one position */
-    FOGZURT_SHEET_LENGTH = 5,   /* the sheet's length is not 104 times a number from 2 to 256 */
-    FOGZURT_UNSOUND_SHEET = 6,  /* the sheet's bytes are not those of a sheet */
-    FOGZURT_BOX_NUMBER = 7,     /* the box number is not 1 to 40 */
-    FOGZURT_NO_FREE_CELL = 8,   /* the sheet is full */
-    FOGZURT_NO_SUCH_RECORD = 10 /* the sheet has no record of that number */
+    FOGZURT_ERR_PROFILE = 1,       /* the profile is not 1 to 4 */
+    FOGZURT_ERR_LENGTH = 2,        /* a message, a word or an output has another length than it must */
+    FOGZURT_ERR_SYMBOL = 3,        /* a symbol is not below q */
+    FOGZURT_ERR_UNREADABLE = 4,    /* no codeword differs from the word in at most one position */
+    FOGZURT_ERR_SHEET_LENGTH = 5,  /* the sheet's length is not 104 times a number from 2 to 256 */
+    FOGZURT_ERR_SHEET_UNSOUND = 6, /* the sheet's bytes are not those of a sheet */
+    FOGZURT_ERR_BOX_NUMBER = 7,    /* the box number is not 1 to 40 */
+    FOGZURT_ERR_SHEET_FULL = 8,    /* the sheet has no free cell */
+    FOGZURT_ERR_NO_RECORD = 10     /* the sheet has no record of that number */
 };
 
-/* What a decoded word turned out to be: FOGZURT_KIND of the answer. */
-enum {
-    FOGZURT_REFUSED = 0,
-    FOGZURT_CLEAN = 1,    /* it is a codeword */
-    FOGZURT_CORRECTED = 2 /* it differs from a codeword in one position (the request's "mended") */
-};
+/* The bytes of a profile's message and of its word; 0 where there is no such profile. */
+#define FOGZURT_MESSAGE_BYTES(profile) \
+    ((profile) == 1 ? 5 : (profile) == 2 ? 22 : (profile) == 3 ? 21 : (profile) == 4 ? 45 : 0)
+#define FOGZURT_WORD_BYTES(profile) \
+    ((profile) == 1 ? 19 : (profile) == 2 ? 55 : (profile) == 3 ? 51 : (profile) == 4 ? 99 : 0)
 
-/* The bytes of the longest message and of the longest word, those of profile 4. */
+/* Those of the longest, profile 4's. */
 #define FOGZURT_LONGEST_MESSAGE 45
 #define FOGZURT_LONGEST_WORD 99
-
-/* The bytes of a cell, and of a record that is copied out: byte 0 is 0, then come the box number,
- * the profile and the word's symbols, and then zeros. */
-#define FOGZURT_CELL 104
-#define FOGZURT_RECORD_BOX 1
-#define FOGZURT_RECORD_PROFILE 2
-#define FOGZURT_RECORD_WORD 3
-
-/* The bytes of a sheet for so many records, 1 to 255. */
-#define FOGZURT_SHEET_BYTES(records) (((size_t)(records) + 1) * FOGZURT_CELL)
 
 /* Encodes two messages into their word (the request's "write").
  *   profile              1 to 4
@@ -87,37 +85,56 @@ uint64_t fogzurt_encode(uint64_t profile, const uint8_t *first, size_t first_len
  *   profile              1 to 4
  *   word                 the word as received
  *   first, second        where the messages go; their lengths are the messages'
- * The answer is one integer, taken apart by the macros below. FOGZURT_NUMBER is 0 where the word
- * was read, and first and second then hold the messages. Refusals, in this order:
+ * FOGZURT_NUMBER of the answer is 0 where the word was read, and first and second then hold the
+ * messages. Refusals, in this order:
  *   1 profile; 2 the word, first or second has not its length; 3 a symbol is not below q;
  *   4 no codeword differs from the word in at most one position.
  */
 uint64_t fogzurt_decode(uint64_t profile, const uint8_t *word, size_t word_len, uint8_t *first,
                         size_t first_len, uint8_t *second, size_t second_len);
 
-/* The parts of fogzurt_decode's answer: the number, 0 or 1 to 4; the kind; the symbol that was
- * sent and its position, counted from 1. The last two are 0 where no symbol was corrected. */
-#define FOGZURT_NUMBER(answer) ((unsigned)((answer) & 0xff))
-#define FOGZURT_KIND(answer) ((unsigned)((answer) >> 8 & 0xff))
-#define FOGZURT_SENT_SYMBOL(answer) ((unsigned)((answer) >> 16 & 0xff))
-#define FOGZURT_POSITION(answer) ((size_t)((answer) >> 24))
+/* The parts of fogzurt_decode's answer, a byte each, above the number. Bytes without a macro are 0
+ * in this version, and are not to be tested. */
+
+/* What the word turned out to be. */
+#define FOGZURT_KIND(answer) ((unsigned)((uint64_t)(answer) >> 8 & 0xff))
+enum {
+    FOGZURT_KIND_NONE = 0,     /* it was refused */
+    FOGZURT_KIND_CLEAN = 1,    /* it is a codeword */
+    FOGZURT_KIND_CORRECTED = 2 /* it differs from a codeword in one position (the request's "mended") */
+};
+
+/* The position that was corrected, counted from 1, and the symbol sent there; 0 where none was. */
+#define FOGZURT_POSITION(answer) ((unsigned)((uint64_t)(answer) >> 16 & 0xff))
+#define FOGZURT_SENT_SYMBOL(answer) ((unsigned)((uint64_t)(answer) >> 24 & 0xff))
+
+/* The bytes of a cell, and of a record that is copied out: byte 0 is 0, then come the box number,
+ * the profile and the word's symbols, and then zeros. */
+#define FOGZURT_CELL 104
+#define FOGZURT_RECORD_BOX 1
+#define FOGZURT_RECORD_PROFILE 2
+#define FOGZURT_RECORD_WORD 3
+
+/* The bytes of a sheet for so many records, 1 to 255. */
+#define FOGZURT_SHEET_BYTES(records) (((size_t)(records) + 1) * FOGZURT_CELL)
 
 /* Makes an empty sheet (the request's "lay out"), whatever the bytes held.
  *   sheet                a buffer of FOGZURT_SHEET_BYTES(records), all of which is written
  * Answers 0. Refusal: 5 the sheet's length.
  */
-uint64_t fogzurt_format(uint8_t *sheet, size_t sheet_len);
+uint64_t fogzurt_sheet_format(uint8_t *sheet, size_t sheet_len);
 
 /* Adds a word as the last record (the request's "enter"). It is kept as received, readable or not.
- *   sheet                a sheet that fogzurt_format made; at most three of its cells are written
+ *   sheet                a sheet that fogzurt_sheet_format made; at most three of its cells are
+ *                        written
  *   box_number           1 to 40, with any profile
  *   profile, word        the word and its profile
  * Answers 0. Refusals, in this order:
  *   5 the sheet's length; 6 the sheet is unsound; 7 box number; 1 profile; 2 the word has not its
  *   length; 3 a symbol is not below q; 8 the sheet is full.
  */
-uint64_t fogzurt_enqueue(uint8_t *sheet, size_t sheet_len, uint64_t box_number, uint64_t profile,
-                         const uint8_t *word, size_t word_len);
+uint64_t fogzurt_sheet_enqueue(uint8_t *sheet, size_t sheet_len, uint64_t box_number,
+                               uint64_t profile, const uint8_t *word, size_t word_len);
 
 /* Copies a record out and leaves it on the sheet (the request's "look").
  *   sheet                the sheet, which is only read
@@ -126,8 +143,8 @@ uint64_t fogzurt_enqueue(uint8_t *sheet, size_t sheet_len, uint64_t box_number, 
  * Answers 0. Refusals, in this order:
  *   5 the sheet's length; 6 the sheet is unsound; 2 out is not 104 bytes; 10 no such record.
  */
-uint64_t fogzurt_peek(const uint8_t *sheet, size_t sheet_len, uint64_t record, uint8_t *out,
-                      size_t out_len);
+uint64_t fogzurt_sheet_peek(const uint8_t *sheet, size_t sheet_len, uint64_t record, uint8_t *out,
+                            size_t out_len);
 
 /* Copies the first record out and takes it off the sheet (the request's "take off").
  *   sheet                the sheet; cell 0 and the record's cell are written
@@ -135,7 +152,7 @@ uint64_t fogzurt_peek(const uint8_t *sheet, size_t sheet_len, uint64_t record, u
  * Answers 0. Refusals, in this order:
  *   5 the sheet's length; 6 the sheet is unsound; 2 out is not 104 bytes; 10 the sheet is empty.
  */
-uint64_t fogzurt_dequeue(uint8_t *sheet, size_t sheet_len, uint8_t *out, size_t out_len);
+uint64_t fogzurt_sheet_dequeue(uint8_t *sheet, size_t sheet_len, uint8_t *out, size_t out_len);
 
 #ifdef __cplusplus
 }

@@ -1,7 +1,7 @@
 /* Encodes two messages, damages a symbol on the way, decodes the word, and keeps it on a sheet.
  *
- * At the top of the repository, after `rt staticlib ffi`:
- *   cc -std=c11 -Iinclude examples/c/example.c target/staticlib/libffi.a -o target/example
+ * At the top of the repository, after `rt staticlib fogzurt`:
+ *   cc -std=c11 -Iinclude examples/c/example.c target/staticlib/libfogzurt.a -o target/example
  *   target/example
  */
 #include <stdio.h>
@@ -9,12 +9,19 @@
 
 #include "fogzurt.h"
 
-enum { PROFILE = 1, MESSAGE = 5, WORD = 19, BOX = 17, RECORDS = 4 };
+/* Boxes 1 to 12 have profile 1. */
+enum {
+    PROFILE = 1,
+    MESSAGE = FOGZURT_MESSAGE_BYTES(PROFILE),
+    WORD = FOGZURT_WORD_BYTES(PROFILE),
+    BOX = 7,
+    RECORDS = 4
+};
 
 /* Ends the program where a call that has to succeed is refused. */
-static void expect_ok(const char *call, uint64_t number) {
-    if (number != FOGZURT_OK) {
-        fprintf(stderr, "%s was refused with number %u\n", call, (unsigned)number);
+static void expect_ok(const char *call, uint64_t answer) {
+    if (FOGZURT_NUMBER(answer) != FOGZURT_OK) {
+        fprintf(stderr, "%s was refused with number %u\n", call, FOGZURT_NUMBER(answer));
         exit(EXIT_FAILURE);
     }
 }
@@ -36,11 +43,11 @@ static void print_decoded(const uint8_t *word) {
         printf("  cannot be read: number %u\n", FOGZURT_NUMBER(answer));
         return;
     }
-    if (FOGZURT_KIND(answer) == FOGZURT_CORRECTED) {
-        printf("  corrected: a %u was sent at position %zu\n", FOGZURT_SENT_SYMBOL(answer),
+    if (FOGZURT_KIND(answer) == FOGZURT_KIND_CORRECTED) {
+        printf("  corrected: a %u was sent at position %u\n", FOGZURT_SENT_SYMBOL(answer),
                FOGZURT_POSITION(answer));
     } else {
-        printf("  clean: it arrived as it was sent\n");
+        printf("  clean: a codeword, with no symbol corrected\n");
     }
     print_symbols("  first message   ", first, MESSAGE);
     print_symbols("  second message  ", second, MESSAGE);
@@ -66,14 +73,17 @@ int main(void) {
     print_symbols("received          ", word, WORD);
     print_decoded(word);
 
-    expect_ok("fogzurt_format", fogzurt_format(sheet, sizeof sheet));
-    expect_ok("fogzurt_enqueue", fogzurt_enqueue(sheet, sizeof sheet, BOX, PROFILE, word, WORD));
-    expect_ok("fogzurt_peek", fogzurt_peek(sheet, sizeof sheet, 1, record, sizeof record));
+    expect_ok("fogzurt_sheet_format", fogzurt_sheet_format(sheet, sizeof sheet));
+    expect_ok("fogzurt_sheet_enqueue",
+              fogzurt_sheet_enqueue(sheet, sizeof sheet, BOX, PROFILE, word, WORD));
+    expect_ok("fogzurt_sheet_peek",
+              fogzurt_sheet_peek(sheet, sizeof sheet, 1, record, sizeof record));
     print_record("on the sheet:    ", record);
-    expect_ok("fogzurt_dequeue", fogzurt_dequeue(sheet, sizeof sheet, record, sizeof record));
+    expect_ok("fogzurt_sheet_dequeue",
+              fogzurt_sheet_dequeue(sheet, sizeof sheet, record, sizeof record));
     print_record("taken off:       ", record);
 
-    uint64_t number = fogzurt_peek(sheet, sizeof sheet, 1, record, sizeof record);
-    printf("a second look is refused with number %u: the sheet is empty\n", (unsigned)number);
-    return number == FOGZURT_NO_SUCH_RECORD ? EXIT_SUCCESS : EXIT_FAILURE;
+    uint64_t answer = fogzurt_sheet_peek(sheet, sizeof sheet, 1, record, sizeof record);
+    printf("a second look is refused with number %u: the sheet is empty\n", FOGZURT_NUMBER(answer));
+    return FOGZURT_NUMBER(answer) == FOGZURT_ERR_NO_RECORD ? EXIT_SUCCESS : EXIT_FAILURE;
 }

@@ -2,46 +2,45 @@
 
 use std::fmt;
 
-/// number + 256 · kind + 65536 · symbol + 16777216 · position, as the header has it.
+/// Eight bytes, as the header has them, the lowest first: number, kind, position, symbol sent there,
+/// and four that are 0.
 #[derive(Debug, Clone, Copy, PartialEq, Eq)]
 pub struct PackedAnswer(pub u64);
 
 /// The kinds of words that were read; a refusal's is 0. 01 calls a corrected word mended.
-const CLEAN: u64 = 1;
-const CORRECTED: u64 = 2;
-
-/// What the parts of the answer are multiplied by.
-const KIND: u64 = 1 << 8;
-const SYMBOL: u64 = 1 << 16;
-const POSITION: u64 = 1 << 24;
+const CLEAN: u8 = 1;
+const CORRECTED: u8 = 2;
 
 impl PackedAnswer {
+    const fn of(number: u8, kind: u8, position: u8, symbol: u8) -> PackedAnswer {
+        PackedAnswer(u64::from_le_bytes([number, kind, position, symbol, 0, 0, 0, 0]))
+    }
+
     /// The word is refused with this number of 01.
     pub const fn refused(number: u8) -> PackedAnswer {
-        PackedAnswer(number as u64)
+        PackedAnswer::of(number, 0, 0, 0)
     }
 
     /// The word arrived as it was sent.
     pub const fn clean() -> PackedAnswer {
-        PackedAnswer(CLEAN * KIND)
+        PackedAnswer::of(0, CLEAN, 0, 0)
     }
 
     /// One symbol arrived wrong: its position, counted from 1, and what was sent there.
     pub const fn corrected(position: usize, symbol: u8) -> PackedAnswer {
-        PackedAnswer(CORRECTED * KIND + symbol as u64 * SYMBOL + position as u64 * POSITION)
+        PackedAnswer::of(0, CORRECTED, position as u8, symbol)
     }
 
     /// 0 if the word was read, else the number of the refusal.
     pub const fn number(self) -> u64 {
-        self.0 % KIND
+        self.0 & 255
     }
 }
 
 impl fmt::Display for PackedAnswer {
     fn fmt(&self, text: &mut fmt::Formatter) -> fmt::Result {
         let PackedAnswer(packed) = *self;
-        let [number, kind, symbol, ..] = packed.to_le_bytes();
-        let position = packed / POSITION;
+        let [number, kind, position, symbol, ..] = packed.to_le_bytes();
         write!(
             text,
             "{packed} (number {number}, kind {kind}, position {position}, symbol {symbol})"

@@ -4,117 +4,97 @@
 //! them, where the program boxlines stands.
 
 mod answer;
-mod program;
+
+use std::env;
+use std::path::PathBuf;
 
 pub use answer::PackedAnswer;
-pub use program::boxlines;
 
-mod c {
-    extern "C" {
-        pub fn fogzurt_encode(
-            profile: u64,
-            first: *const u8,
-            first_len: usize,
-            second: *const u8,
-            second_len: usize,
-            out: *mut u8,
-            out_len: usize,
-        ) -> u64;
-        pub fn fogzurt_decode(
-            profile: u64,
-            word: *const u8,
-            word_len: usize,
-            first: *mut u8,
-            first_len: usize,
-            second: *mut u8,
-            second_len: usize,
-        ) -> u64;
-        pub fn fogzurt_format(sheet: *mut u8, sheet_len: usize) -> u64;
-        pub fn fogzurt_enqueue(
-            sheet: *mut u8,
-            sheet_len: usize,
-            box_number: u64,
-            profile: u64,
-            word: *const u8,
-            word_len: usize,
-        ) -> u64;
-        pub fn fogzurt_peek(
-            sheet: *const u8,
-            sheet_len: usize,
-            record: u64,
-            out: *mut u8,
-            out_len: usize,
-        ) -> u64;
-        pub fn fogzurt_dequeue(
-            sheet: *mut u8,
-            sheet_len: usize,
-            out: *mut u8,
-            out_len: usize,
-        ) -> u64;
-    }
+/// The six functions of a coder: the library's, or those of another that answers in the same way.
+pub struct EntryPoints {
+    pub encode: fn(u64, &[u8], &[u8], &mut [u8]) -> u64,
+    pub decode: fn(u64, &[u8], &mut [u8], &mut [u8]) -> PackedAnswer,
+    pub format: fn(&mut [u8]) -> u64,
+    pub enqueue: fn(&mut [u8], u64, u64, &[u8]) -> u64,
+    pub peek: fn(&[u8], u64, &mut [u8]) -> u64,
+    pub dequeue: fn(&mut [u8], &mut [u8]) -> u64,
+}
+
+pub const LIBRARY: EntryPoints = EntryPoints { encode, decode, format, enqueue, peek, dequeue };
+
+/// Names another program to run in place of target/bin/boxlines.
+const PROGRAM: &str = "FOGZURT_BOXLINES";
+
+/// The program boxlines, if it was built (`rt check boxlines`).
+pub fn boxlines() -> Option<PathBuf> {
+    let built = [env!("CARGO_MANIFEST_DIR"), "..", "..", "target", "bin", "boxlines"];
+    let path = env::var_os(PROGRAM).map_or_else(|| built.iter().collect(), PathBuf::from);
+    path.is_file().then_some(path)
+}
+
+#[rustfmt::skip]
+extern "C" {
+    fn fogzurt_encode(
+        profile: u64, first: *const u8, first_len: usize, second: *const u8, second_len: usize,
+        out: *mut u8, out_len: usize,
+    ) -> u64;
+    fn fogzurt_decode(
+        profile: u64, word: *const u8, word_len: usize, first: *mut u8, first_len: usize,
+        second: *mut u8, second_len: usize,
+    ) -> u64;
+    fn fogzurt_sheet_format(sheet: *mut u8, sheet_len: usize) -> u64;
+    fn fogzurt_sheet_enqueue(
+        sheet: *mut u8, sheet_len: usize, box_number: u64, profile: u64,
+        word: *const u8, word_len: usize,
+    ) -> u64;
+    fn fogzurt_sheet_peek(
+        sheet: *const u8, sheet_len: usize, record: u64, out: *mut u8, out_len: usize,
+    ) -> u64;
+    fn fogzurt_sheet_dequeue(
+        sheet: *mut u8, sheet_len: usize, out: *mut u8, out_len: usize,
+    ) -> u64;
 }
 
 /// 01: write. 0, or the number of the refusal.
-pub fn encode(profile: u64, first: &[u8], second: &[u8], out: &mut [u8]) -> u64 {
-    // SAFETY: every pointer comes with the length of its own slice.
-    unsafe {
-        c::fogzurt_encode(
-            profile,
-            first.as_ptr(),
-            first.len(),
-            second.as_ptr(),
-            second.len(),
-            out.as_mut_ptr(),
-            out.len(),
-        )
-    }
+fn encode(profile: u64, first: &[u8], second: &[u8], out: &mut [u8]) -> u64 {
+    let ((a, a_len), (b, b_len)) = (lent(first), lent(second));
+    // SAFETY: here and below every pointer comes with the length of its own slice.
+    unsafe { fogzurt_encode(profile, a, a_len, b, b_len, out.as_mut_ptr(), out.len()) }
 }
 
 /// 01: read.
-pub fn decode(profile: u64, word: &[u8], first: &mut [u8], second: &mut [u8]) -> PackedAnswer {
-    // SAFETY: as in encode.
-    PackedAnswer(unsafe {
-        c::fogzurt_decode(
-            profile,
-            word.as_ptr(),
-            word.len(),
-            first.as_mut_ptr(),
-            first.len(),
-            second.as_mut_ptr(),
-            second.len(),
-        )
-    })
+fn decode(profile: u64, word: &[u8], first: &mut [u8], second: &mut [u8]) -> PackedAnswer {
+    let (word, length) = lent(word);
+    let (a, a_len) = (first.as_mut_ptr(), first.len());
+    let (b, b_len) = (second.as_mut_ptr(), second.len());
+    PackedAnswer(unsafe { fogzurt_decode(profile, word, length, a, a_len, b, b_len) })
 }
 
 /// 01: lay out. 0, or the number of the refusal.
-pub fn format(sheet: &mut [u8]) -> u64 {
-    // SAFETY: as in encode.
-    unsafe { c::fogzurt_format(sheet.as_mut_ptr(), sheet.len()) }
+fn format(sheet: &mut [u8]) -> u64 {
+    unsafe { fogzurt_sheet_format(sheet.as_mut_ptr(), sheet.len()) }
 }
 
 /// 01: enter. 0, or the number of the refusal.
-pub fn enqueue(sheet: &mut [u8], box_number: u64, profile: u64, word: &[u8]) -> u64 {
-    // SAFETY: as in encode.
-    unsafe {
-        c::fogzurt_enqueue(
-            sheet.as_mut_ptr(),
-            sheet.len(),
-            box_number,
-            profile,
-            word.as_ptr(),
-            word.len(),
-        )
-    }
+fn enqueue(sheet: &mut [u8], box_number: u64, profile: u64, word: &[u8]) -> u64 {
+    let (bytes, length) = (sheet.as_mut_ptr(), sheet.len());
+    let (word, word_len) = lent(word);
+    unsafe { fogzurt_sheet_enqueue(bytes, length, box_number, profile, word, word_len) }
 }
 
 /// 01: look. 0, or the number of the refusal.
-pub fn peek(sheet: &[u8], record: u64, out: &mut [u8]) -> u64 {
-    // SAFETY: as in encode.
-    unsafe { c::fogzurt_peek(sheet.as_ptr(), sheet.len(), record, out.as_mut_ptr(), out.len()) }
+fn peek(sheet: &[u8], record: u64, out: &mut [u8]) -> u64 {
+    let (bytes, length) = lent(sheet);
+    unsafe { fogzurt_sheet_peek(bytes, length, record, out.as_mut_ptr(), out.len()) }
 }
 
 /// 01: take off. 0, or the number of the refusal.
-pub fn dequeue(sheet: &mut [u8], out: &mut [u8]) -> u64 {
-    // SAFETY: as in encode.
-    unsafe { c::fogzurt_dequeue(sheet.as_mut_ptr(), sheet.len(), out.as_mut_ptr(), out.len()) }
+fn dequeue(sheet: &mut [u8], out: &mut [u8]) -> u64 {
+    let (bytes, length) = (sheet.as_mut_ptr(), sheet.len());
+    unsafe { fogzurt_sheet_dequeue(bytes, length, out.as_mut_ptr(), out.len()) }
+}
+
+/// A slice that is read, as C has it.
+fn lent(slice: &[u8]) -> (*const u8, usize) {
+    (slice.as_ptr(), slice.len())
 }

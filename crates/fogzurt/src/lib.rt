@@ -1,14 +1,21 @@
 // The C entry points, one for each operation. include/fogzurt.h says what C sees of them.
 ghost use mathlib.Core.Path.{_≡_};
 ghost use mathlib.Core.Bool.{true, false};
+ghost use mathlib.Core.List.{[], _∷_};
+ghost use Prim.Native.Nat.{_≤_};
 ghost use lib.ListN.{length};
-ghost use Rattle.code.specs.Operations.{encodeRefusal, encodeOutput, decodeAnswer, decodeOutput, report};
-ghost use Rattle.sheet.specs.Operations.{formatAnswer, formatQueue, enqueueAnswer, enqueueQueue, peekAnswer, peekOutput, dequeueAnswer, dequeueQueue, dequeueOutput};
-ghost use Rattle.encoder.specs.Answer.{encodedNumber};
+ghost use Rattle.code.specs.Operations.{encodeRefusal, encodeOutput, outcomeNumber, decodeAnswer, decodeOutput, report};
+ghost use Rattle.sheet.specs.Allowed.{FormatAllows, EnqueueAllows, PeekAllows, DequeueAllows};
+ghost use Rattle.encoder.specs.Answer.{encodedOutcome};
 ghost use Rattle.decoder.specs.Decode.{decodedReport};
-ghost use Rattle.ffi.specs.Packed.{packed, Within};
+ghost use Rattle.fogzurt.specs.Packed.{partsOf, joined, packed, Within};
 use decoder::Decoded;
 use encoder::Encoded;
+
+// The kinds of a decoded word, as C sees them.
+const CLEAN: u8 = 1;
+
+const CORRECTED: u8 = 2;
 
 // 01: Write.
 #[no_mangle]
@@ -20,7 +27,7 @@ pub extern "C" fn fogzurt_encode(profile: usize, first: &[u8], second: &[u8], ou
 }
 
 fn encode_number(answer: Encoded) -> u64
-    ensures { λ r. ⌜ r ≡ encodedNumber answer ⌝ }
+    ensures { λ r. ⌜ r ≡ outcomeNumber (encodedOutcome answer) ⌝ }
 {
     match answer {
         Encoded::Done => 0,
@@ -43,59 +50,65 @@ pub extern "C" fn fogzurt_decode(
     pack(decoder::decode(profile, word, first, second))
 }
 
+fn wide(x: u8) -> u64
+    ensures { λ r. ⌜ (r ≡ x) × (r ≤ 255) ⌝ }
+{
+    x as u64
+}
+
+// The four lowest bytes of an answer, the number lowest.
+fn join(number: u8, kind: u8, position: u8, symbol: u8) -> u64
+    ensures { λ r. ⌜ r ≡ joined (number ∷ kind ∷ position ∷ symbol ∷ 0 ∷ 0 ∷ 0 ∷ 0 ∷ []) ⌝ }
+{
+    wide(number) + wide(kind) * 256 + wide(position) * 65536 + wide(symbol) * 16777216
+}
+
 // Decode's answer in one number.
 fn pack(answer: Decoded) -> u64
-    requires { ⌜ Within (decodedReport answer) ⌝ }
+    requires { ⌜ Within (partsOf (decodedReport answer)) ⌝ }
     ensures { λ r. ⌜ r ≡ packed (decodedReport answer) ⌝ }
 {
     match answer {
-        Decoded::Clean => 256,
-        Decoded::Corrected(position, symbol) => {
-            512 + (symbol as u64) * 65536 + (position as u64) * 16777216
-        }
-        Decoded::Unreadable => 4,
-        Decoded::Refused(number) => number as u64,
+        Decoded::Clean => join(0, CLEAN, 0, 0),
+        Decoded::Corrected(c) => join(0, CORRECTED, c.position as u8, c.symbol),
+        Decoded::Unreadable => join(4, 0, 0, 0),
+        Decoded::Refused(number) => join(number, 0, 0, 0),
     }
 }
 
 // 01: Lay out.
 #[no_mangle]
-pub extern "C" fn fogzurt_format(sheet: &mut [u8]) -> u64
-    ensures { λ r. ⌜ r ≡ formatAnswer (now (sheet .entry)) ⌝ }
-    ensures { λ _. ⌜ now (sheet .exit) ≡ formatQueue (now (sheet .entry)) ⌝ }
+pub extern "C" fn fogzurt_sheet_format(sheet: &mut [u8]) -> u64
+    ensures { λ r. ⌜ FormatAllows (now (sheet .entry)) r (now (sheet .exit)) ⌝ }
 {
     queue::number(queue::format(sheet))
 }
 
 // 01: Enter.
 #[no_mangle]
-pub extern "C" fn fogzurt_enqueue(
+pub extern "C" fn fogzurt_sheet_enqueue(
     sheet: &mut [u8],
     boxno: usize,
     profile: usize,
     word: &[u8],
 ) -> u64
-    ensures { λ r. ⌜ r ≡ enqueueAnswer (now (sheet .entry)) boxno profile (now (word .entry)) ⌝ }
-    ensures { λ _. ⌜ now (sheet .exit) ≡ enqueueQueue (now (sheet .entry)) boxno profile (now (word .entry)) ⌝ }
+    ensures { λ r. ⌜ EnqueueAllows (now (sheet .entry)) boxno profile (now (word .entry)) r (now (sheet .exit)) ⌝ }
 {
     queue::number(queue::enqueue(sheet, boxno, profile, word))
 }
 
 // 01: Look.
 #[no_mangle]
-pub extern "C" fn fogzurt_peek(sheet: &[u8], number: usize, out: &mut [u8]) -> u64
-    ensures { λ r. ⌜ r ≡ peekAnswer (now (sheet .entry)) number (now (out .entry)) ⌝ }
-    ensures { λ _. ⌜ now (out .exit) ≡ peekOutput (now (sheet .entry)) number (now (out .entry)) ⌝ }
+pub extern "C" fn fogzurt_sheet_peek(sheet: &[u8], number: usize, out: &mut [u8]) -> u64
+    ensures { λ r. ⌜ PeekAllows (now (sheet .entry)) number (now (out .entry)) r (now (out .exit)) ⌝ }
 {
     queue::number(queue::peek(sheet, number, out))
 }
 
 // 01: Take off.
 #[no_mangle]
-pub extern "C" fn fogzurt_dequeue(sheet: &mut [u8], out: &mut [u8]) -> u64
-    ensures { λ r. ⌜ r ≡ dequeueAnswer (now (sheet .entry)) (now (out .entry)) ⌝ }
-    ensures { λ _. ⌜ now (sheet .exit) ≡ dequeueQueue (now (sheet .entry)) (now (out .entry)) ⌝ }
-    ensures { λ _. ⌜ now (out .exit) ≡ dequeueOutput (now (sheet .entry)) (now (out .entry)) ⌝ }
+pub extern "C" fn fogzurt_sheet_dequeue(sheet: &mut [u8], out: &mut [u8]) -> u64
+    ensures { λ r. ⌜ DequeueAllows (now (sheet .entry)) (now (out .entry)) r (now (sheet .exit)) (now (out .exit)) ⌝ }
 {
     queue::number(queue::dequeue(sheet, out))
 }

@@ -1,13 +1,14 @@
--- `ffi::fogzurt_decode` meets its contract: decode's, with the report packed.
+-- `fogzurt::fogzurt_decode` meets its contract: decode's, with the report packed.
 -- Assumes nothing.
 use mathlib.Core.Path.{sym, ap, subst, _∙_}
 use borrow.Author.Needs.{needs}
 use denote.Ref.{now}
 use lib.ListN.{length}
-use Rattle.ffi.specs.Packed.{packed, Within}
-use Rattle.ffi.proofs.Positions.{within-answer}
-use Rattle.ffi.proofs.fogzurt_decode.Statement.{statement}
-use Rattle.ffi.proofs.fogzurt_decode.Tie as tie
+use Rattle.code.specs.Operations.{Report}
+use Rattle.fogzurt.specs.Packed.{partsOf, packed, Within}
+use Rattle.fogzurt.proofs.Packing.{within-answer}
+use Rattle.fogzurt.proofs.fogzurt_decode.Statement.{statement}
+use Rattle.fogzurt.proofs.fogzurt_decode.Tie as tie
 
 decode-requires : tie.Need-decode-requires
 decode-requires c κs = search needs
@@ -16,7 +17,7 @@ pack-requires : tie.Need-pack-requires
 pack-requires c κs =
     let d = c .before .before .before .before .decode in
     let s = c .before .before .before .before .before .before .before .before .before .before in
-    subst Within (sym (d .ensures .answer))
+    subst (λ (a : Report). Within (partsOf a)) (sym (d .ensures .answer))
     (within-answer (s .args .profile) (now (s .args .word)) (length (now (s .args .first))) (length (now (s .args .second))))
 
 same-length : tie.Need-same-length

@@ -1,0 +1,54 @@
+-- Decode's answer in eight bytes: each part of it is a byte, so taking bytes out gives the parts back.
+-- Assumes nothing.
+use mathlib.Core.Path.{_≡_, refl, ap, _∙_}
+use mathlib.Core.List.{List, [], _∷_}
+use Prim.Native.Nat.{ℕ, zero, suc, _+_, _*_, _/_, _%_, _≤_}
+use native.Mathlib.Omega.{arith}
+use lib.Dec.{lit≤}
+use lib.ListN.{getD}
+use Rattle.code.specs.Reading.{clean, corrected, read, unreadable}
+use Rattle.code.specs.Operations.{Answer, refused, answered, Report, report, decodeAnswer}
+use Rattle.stream.proofs.Bounds.{Small, decode-small}
+use Rattle.fogzurt.specs.Packed.{Parts, partsOf, joined, byte, bytes, packed, unpacked, Within}
+use Rattle.fogzurt.specs.Claims.{Unpacks}
+
+-- a refusal has one digit, a position two, a symbol one
+within : (a : Answer) → Small a → Within (partsOf (report a))
+within (refused k) s = record { number = omega (arith, s); kind = lit≤ tt; position = lit≤ tt; symbol = lit≤ tt }
+within (answered unreadable) s = record { number = lit≤ tt; kind = lit≤ tt; position = lit≤ tt; symbol = lit≤ tt }
+within (answered (read clean a b)) s = record { number = lit≤ tt; kind = lit≤ tt; position = lit≤ tt; symbol = lit≤ tt }
+within (answered (read (corrected c) a b)) s =
+    record { number = lit≤ tt; kind = lit≤ tt; position = omega (arith, s .0); symbol = omega (arith, s .1) }
+
+pub within-answer : (i : ℕ) (u : List ℕ) (k l : ℕ) → Within (partsOf (report (decodeAnswer i u k l)))
+within-answer i u k l = within (decodeAnswer i u k l) (decode-small i u k l)
+
+-- each number of the list is a byte
+abbrev AllBytes : List ℕ → Type 0
+AllBytes [] = Unit {0}
+AllBytes (b ∷ bs) = (b ≤ 255) × AllBytes bs
+
+lowest : (b m : ℕ) → b ≤ 255 → (b + 256 * m) % 256 ≡ b
+lowest b m h = omega arith
+
+others : (b m : ℕ) → b ≤ 255 → (b + 256 * m) / 256 ≡ m
+others b m h = omega arith
+
+byte-zero : (i : ℕ) → byte i 0 ≡ 0
+byte-zero zero = refl
+byte-zero (suc i) = byte-zero i
+
+byte-joined : (i : ℕ) (l : List ℕ) → AllBytes l → byte i (joined l) ≡ getD l i 0
+byte-joined i [] h = byte-zero i
+byte-joined zero (b ∷ bs) h = lowest b (joined bs) (h .0)
+byte-joined (suc i) (b ∷ bs) h = ap (byte i) (others b (joined bs) (h .0)) ∙ byte-joined i bs (h .1)
+
+parts-back : (p : Parts) → Within p → unpacked (joined (bytes p)) ≡ p
+parts-back p w =
+    let h : AllBytes (bytes p) = (w .number, (w .kind, (w .position, (w .symbol, (lit≤ tt, (lit≤ tt, (lit≤ tt, (lit≤ tt, tt)))))))) in
+    let g : (i : ℕ) → byte i (joined (bytes p)) ≡ getD (bytes p) i 0 = λ i. byte-joined i (bytes p) h in
+    rw (g 0, g 1, g 2, g 3) refl
+
+pub unpacks : Unpacks
+unfolding packed
+unpacks i u k l r e = ap unpacked e ∙ parts-back (partsOf (report (decodeAnswer i u k l))) (within-answer i u k l)

@@ -1,0 +1,71 @@
+-- `fogzurt::pack` meets its contract: an arm for each case of the report, and a position that fits a byte.
+-- Assumes nothing.
+use native.Mathlib.Omega.{arith}
+use borrow.Author.Needs.{needs}
+use Rattle.fogzurt.specs.Packed.{packed}
+use Rattle.fogzurt.proofs.pack.Statement.{statement}
+use Rattle.fogzurt.proofs.pack.Tie as tie
+
+enum-told : tie.Need-enum-told
+enum-told c = search needs
+
+join-requires : tie.Need-join-requires
+join-requires c κs = search needs
+
+enum-known-answer : tie.Need-enum-known-answer
+enum-known-answer c = search needs
+
+cast-join : tie.Need-cast-join
+cast-join c =
+    let matched = c .before .before in
+    let within = rw (matched .answer .given .1) at (matched .before .before .pre) in
+    omega (arith, within .position)
+
+join-requires-2 : tie.Need-join-requires-2
+join-requires-2 c κs = search needs
+
+enum-told-2 : tie.Need-enum-told-2
+enum-told-2 c = search needs
+
+join-requires-3 : tie.Need-join-requires-3
+join-requires-3 c κs = search needs
+
+enum-known-answer-2 : tie.Need-enum-known-answer-2
+enum-known-answer-2 c = search needs
+
+join-requires-4 : tie.Need-join-requires-4
+join-requires-4 c κs = search needs
+
+returns : tie.Need-returns
+unfolding packed
+returns c = rw (c .before .enum-told .given .1) (c .join .ensures)
+
+returns-2 : tie.Need-returns-2
+unfolding packed
+returns-2 c = rw (c .before .before .before .answer .given .1) (c .join2 .ensures)
+
+returns-3 : tie.Need-returns-3
+unfolding packed
+returns-3 c = rw (c .before .enum-told2 .given .1) (c .join3 .ensures)
+
+returns-4 : tie.Need-returns-4
+unfolding packed
+returns-4 c = rw (c .before .before .answer2 .given .1) (c .join4 .ensures)
+
+pub pack-spec : {M : Type 1} → statement M
+pack-spec =
+    tie.close
+    (tie.spec
+    enum-told
+    join-requires
+    enum-known-answer
+    cast-join
+    join-requires-2
+    enum-told-2
+    join-requires-3
+    enum-known-answer-2
+    join-requires-4
+    returns
+    returns-2
+    returns-3
+    returns-4)

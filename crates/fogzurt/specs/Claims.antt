@@ -1,0 +1,48 @@
+-- What is claimed of the C entry points, and of encode and decode together, by what their contracts allow.
+-- Assumes nothing.
+use mathlib.Core.Path.{_≡_}
+use mathlib.Core.List.{List}
+use Prim.Native.Nat.{ℕ, _+_, _*_}
+use lib.Dec.{T}
+use lib.ListN.{length}
+use Rattle.code.specs.Parameters.{messageLength}
+use Rattle.code.specs.Reading.{clean, corrected}
+use Rattle.code.specs.Profiles.{isProfile, profile}
+use Rattle.code.specs.Operations.{refusal, failure, success, decodeAnswer, report}
+use Rattle.encoder.specs.declared.Encoded.{Encoded}
+use Rattle.encoder.specs.Answer.{EncodeAllows}
+use Rattle.encoder.specs.Claims as Encode
+use Rattle.decoder.specs.declared.reader.Decoded.{Decoded}
+use Rattle.decoder.specs.Decode.{decodedReport, DecodeAllows}
+use Rattle.fogzurt.specs.Packed.{partsOf, packed, unpacked}
+
+-- C gets every part of decode's answer back
+abbrev pub Unpacks : Type 0
+Unpacks =
+    (i : ℕ) (u : List ℕ) (k l : ℕ) (r : ℕ) → r ≡ packed (report (decodeAnswer i u k l)) → unpacked r ≡ partsOf (report (decodeAnswer i u k l))
+
+-- as include/fogzurt.h has the bytes: number, kind, position, symbol
+pub record HeaderBytes : Type 0 where
+  pub clean-word : packed (success clean) ≡ 1 * 256
+  pub corrected-word : packed (success (corrected (record { position = 6; symbol = 1 }))) ≡ 2 * 256 + 6 * 65536 + 1 * 16777216
+  pub unreadable-word : packed failure ≡ 4
+  pub wrong-symbol : packed (refusal 3) ≡ 3
+
+-- the word that encode makes of a pair of the right lengths and levels is decoded as clean, and gives the pair back
+pub record GivesBack (a b : List ℕ) (r : Decoded) (first second : List ℕ) : Type 0 where
+  pub report : decodedReport r ≡ success clean
+  pub first-is : first ≡ a
+  pub second-is : second ≡ b
+
+abbrev pub RoundTrip : Type 0
+RoundTrip =
+    (i : ℕ) (a b : List ℕ) (made : Encoded) (out word : List ℕ) → EncodeAllows i a b made out word
+    → T (isProfile i) → T (Encode.lengthsFit i a b (length out)) → T (Encode.levelsFit i a b)
+    → (r : Decoded) (before-first first before-second second : List ℕ) → DecodeAllows i word r before-first first before-second second
+    → length before-first ≡ messageLength (profile i) → length before-second ≡ messageLength (profile i)
+    → GivesBack a b r first second
+
+pub record Claims : Type 0 where
+  pub unpacks : Unpacks
+  pub header-bytes : HeaderBytes
+  pub round-trip : RoundTrip

@@ -1,0 +1,59 @@
+-- Decode's answer as one number of eight bytes, the lowest first: 01's number, the kind (1 clean, 2 corrected), the position, the symbol sent
+-- there, and four bytes that are 0. And how C takes it apart.
+-- Assumes nothing.
+use mathlib.Core.List.{List, [], _∷_}
+use Prim.Native.Nat.{ℕ, zero, suc, _+_, _*_, _/_, _%_, _≤_}
+use Rattle.code.specs.Reading.{Finding, clean, corrected, correction}
+use Rattle.code.specs.Operations.{Report, refusal, failure, success, reportNumber}
+
+-- what C sees of an answer; a part that it does not have is 0
+pub record Parts : Type 0 where
+  pub number : ℕ
+  pub kind : ℕ
+  pub position : ℕ
+  pub symbol : ℕ
+
+abbrev pub kindNumber : Finding → ℕ
+kindNumber clean = 1
+kindNumber (corrected c) = 2
+
+-- the parts of a refusal
+abbrev pub refusedParts : ℕ → Parts
+refusedParts n = record { number = n; kind = 0; position = 0; symbol = 0 }
+
+-- the parts of what was found
+abbrev pub foundParts : Finding → Parts
+foundParts f =
+    record { number = 0; kind = kindNumber f; position = correction f .position; symbol = correction f .symbol }
+
+abbrev pub partsOf : Report → Parts
+partsOf (refusal k) = refusedParts k
+partsOf failure = refusedParts 4
+partsOf (success f) = foundParts f
+
+-- bytes as a number, the first lowest
+abbrev pub joined : List ℕ → ℕ
+joined [] = 0
+joined (b ∷ bs) = b + 256 * joined bs
+
+-- byte i of a number
+abbrev pub byte : ℕ → ℕ → ℕ
+byte zero n = n % 256
+byte (suc i) n = byte i (n / 256)
+
+abbrev pub bytes : Parts → List ℕ
+bytes p = p .number ∷ p .kind ∷ p .position ∷ p .symbol ∷ 0 ∷ 0 ∷ 0 ∷ 0 ∷ []
+
+unfoldable pub packed : Report → ℕ
+packed a = joined (bytes (partsOf a))
+
+-- what the macros of include/fogzurt.h take out
+abbrev pub unpacked : ℕ → Parts
+unpacked n = record { number = byte 0 n; kind = byte 1 n; position = byte 2 n; symbol = byte 3 n }
+
+-- each part is a byte
+pub record Within (p : Parts) : Type 0 where
+  pub number : p .number ≤ 255
+  pub kind : p .kind ≤ 255
+  pub position : p .position ≤ 255
+  pub symbol : p .symbol ≤ 255

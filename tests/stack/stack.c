@@ -1,0 +1,80 @@
+/* Measures how deep the stack grows under each entry point: the call runs on a stack that was filled
+ * with a pattern, and what is no longer the pattern afterwards was used.
+ *
+ * At the top of the repository, after `rt staticlib fogzurt`:
+ *   cc -std=c11 -O2 -Iinclude tests/stack/stack.c target/staticlib/libfogzurt.a -o target/stack
+ *   target/stack
+ */
+#include <stdio.h>
+#include <stdlib.h>
+#include <string.h>
+#include <ucontext.h>
+
+#include "fogzurt.h"
+
+enum { STACK = 1 << 16, PATTERN = 0xa5, RECORDS = 255 };
+
+static uint8_t word[FOGZURT_LONGEST_WORD], first[FOGZURT_LONGEST_MESSAGE], second[FOGZURT_LONGEST_MESSAGE];
+static uint8_t sheet[FOGZURT_SHEET_BYTES(RECORDS)], record[FOGZURT_CELL];
+
+static void encode(void) {
+    fogzurt_encode(4, first, sizeof first, second, sizeof second, word, sizeof word);
+}
+
+static void decode(void) {
+    fogzurt_decode(4, word, sizeof word, first, sizeof first, second, sizeof second);
+}
+
+static void decode_corrected(void) {
+    word[50] = word[50] == 0 ? 1 : 0;
+    decode();
+}
+
+static void format(void) { fogzurt_sheet_format(sheet, sizeof sheet); }
+
+static void enqueue(void) {
+    fogzurt_sheet_enqueue(sheet, sizeof sheet, 40, 4, word, sizeof word);
+}
+
+static void peek(void) { fogzurt_sheet_peek(sheet, sizeof sheet, 1, record, sizeof record); }
+
+static void dequeue(void) { fogzurt_sheet_dequeue(sheet, sizeof sheet, record, sizeof record); }
+
+static uint8_t stack[STACK];
+static ucontext_t here, there;
+
+/* The bytes of the stack that the call used, with the return from it. */
+static size_t used(void (*call)(void)) {
+    memset(stack, PATTERN, sizeof stack);
+    if (getcontext(&there) != 0) {
+        exit(EXIT_FAILURE);
+    }
+    there.uc_stack.ss_sp = stack;
+    there.uc_stack.ss_size = sizeof stack;
+    there.uc_link = &here;
+    makecontext(&there, call, 0);
+    if (swapcontext(&here, &there) != 0) {
+        exit(EXIT_FAILURE);
+    }
+    size_t untouched = 0;
+    while (untouched < sizeof stack && stack[untouched] == PATTERN) {
+        untouched++;
+    }
+    return sizeof stack - untouched;
+}
+
+int main(void) {
+    const struct {
+        const char *name;
+        void (*call)(void);
+    } calls[] = {
+        {"fogzurt_encode", encode},       {"fogzurt_decode, clean", decode},
+        {"fogzurt_decode, corrected", decode_corrected},
+        {"fogzurt_sheet_format", format}, {"fogzurt_sheet_enqueue", enqueue},
+        {"fogzurt_sheet_peek", peek},     {"fogzurt_sheet_dequeue", dequeue},
+    };
+    for (size_t i = 0; i < sizeof calls / sizeof calls[0]; i++) {
+        printf("%-28s %6zu bytes of stack\n", calls[i].name, used(calls[i].call));
+    }
+    return EXIT_SUCCESS;
+}
