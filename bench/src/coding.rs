@@ -7,7 +7,9 @@ use coder::codeword::Messages;
 use coder::profile::{Profile, PROFILES};
 use coder::random_words::changed;
 use coder::rng::Rng;
+use fogzurt::{EntryPoints, LIBRARY};
 
+use crate::fast_coder::FAST;
 use crate::race::{time, Race};
 
 /// Pairs of messages for each profile.
@@ -15,27 +17,6 @@ const PAIRS: usize = 2000;
 
 /// What is measured, in the order of a turn.
 const OPERATIONS: [&str; 3] = ["encode", "decode clean", "decode corrected"];
-
-type Encode = fn(u64, &[u8], &[u8], &mut [u8]) -> bool;
-type Decode = fn(u64, &[u8], &mut [u8], &mut [u8]) -> bool;
-
-/// One coder; each function says whether the call was accepted.
-struct Coder {
-    encode: Encode,
-    decode: Decode,
-}
-
-const FAST: Coder = Coder {
-    encode: |profile, first, second, out| fast::encode(profile, first, second, out).is_ok(),
-    decode: |profile, word, first, second| fast::decode(profile, word, first, second).is_ok(),
-};
-
-const LIBRARY: Coder = Coder {
-    encode: |profile, first, second, out| fogzurt::encode(profile, first, second, out) == 0,
-    decode: |profile, word, first, second| {
-        fogzurt::decode(profile, word, first, second).number() == 0
-    },
-};
 
 pub fn race_profiles() {
     for profile in &PROFILES {
@@ -65,7 +46,7 @@ impl Inputs {
             .iter()
             .map(|[first, second]| {
                 let mut word = vec![0; profile.word_length()];
-                assert!((FAST.encode)(u64::from(profile.number), first, second, &mut word));
+                assert_eq!((FAST.encode)(u64::from(profile.number), first, second, &mut word), 0);
                 word
             })
             .collect();
@@ -73,27 +54,28 @@ impl Inputs {
         Inputs { profile, messages, clean, damaged }
     }
 
-    fn turn(&self, coder: &Coder) -> [Duration; OPERATIONS.len()] {
+    fn turn(&self, coder: &EntryPoints) -> [Duration; OPERATIONS.len()] {
         [self.encode(coder), self.decode(coder, &self.clean), self.decode(coder, &self.damaged)]
     }
 
-    fn encode(&self, coder: &Coder) -> Duration {
+    fn encode(&self, coder: &EntryPoints) -> Duration {
         let number = u64::from(self.profile.number);
         let mut out = vec![0; self.profile.word_length()];
         time(|| {
             for [first, second] in &self.messages {
-                assert!((coder.encode)(black_box(number), first, second, &mut out));
+                assert!((coder.encode)(black_box(number), first, second, &mut out) == 0);
                 black_box(&mut out);
             }
         })
     }
 
-    fn decode(&self, coder: &Coder, words: &[Vec<u8>]) -> Duration {
+    fn decode(&self, coder: &EntryPoints, words: &[Vec<u8>]) -> Duration {
         let number = u64::from(self.profile.number);
         let [mut first, mut second] = [(); 2].map(|()| vec![0; self.profile.k()]);
         time(|| {
             for word in words {
-                assert!((coder.decode)(black_box(number), word, &mut first, &mut second));
+                let answer = (coder.decode)(black_box(number), word, &mut first, &mut second);
+                assert!(answer.number() == 0);
                 black_box((&mut first, &mut second));
             }
         })

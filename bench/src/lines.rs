@@ -1,11 +1,10 @@
-//! A million mixed lines through boxlines, through the fast coder's program and through the plain
-//! one.
+//! A million mixed lines through boxlines and through the fast coder's program.
 
 use std::env;
 use std::fs::{self, File};
 use std::io;
 use std::path::{Path, PathBuf};
-use std::process::Command;
+use std::process::{Command, Stdio};
 use std::time::Duration;
 
 use coder::profile::PROFILES;
@@ -13,8 +12,8 @@ use coder::random_words::changed;
 use coder::rng::Rng;
 use coder::text::digits;
 
+use crate::boxlines;
 use crate::race::time;
-use crate::{boxlines, plain};
 
 const LINES: usize = 1_000_000;
 
@@ -39,6 +38,7 @@ impl Runner {
     /// Times the program from its start to its end.
     fn take_turn(&mut self, input: &Path) -> io::Result<()> {
         self.command.stdin(File::open(input)?).stdout(File::create(&self.output)?);
+        self.command.stderr(Stdio::null());
         let mut status = None;
         let taken = time(|| status = Some(self.command.status()));
         if !status.transpose()?.is_some_and(|status| status.success()) {
@@ -46,10 +46,6 @@ impl Runner {
         }
         self.best = self.best.min(taken);
         Ok(())
-    }
-
-    fn lines_a_second(&self) -> f64 {
-        LINES as f64 / self.best.as_secs_f64()
     }
 }
 
@@ -62,33 +58,20 @@ pub fn race_programs() -> io::Result<()> {
     fs::create_dir_all(&folder)?;
     let input = folder.join("input");
     fs::write(&input, mixed_lines())?;
-    let this = env::current_exe()?;
-    let itself = |argument: &str| {
-        let mut command = Command::new(&this);
-        command.arg(argument);
-        command
-    };
-    let mut others = [
-        Runner::new("fast", itself(boxlines::ARGUMENT), &folder),
-        Runner::new("plain", itself(plain::ARGUMENT), &folder),
-    ];
+    let mut itself = Command::new(env::current_exe()?);
+    itself.arg(boxlines::ARGUMENT);
+    let mut fast = Runner::new("fast", itself, &folder);
     let mut proved = Runner::new("boxlines", Command::new(program), &folder);
     for _ in 0..TURNS {
-        for runner in others.iter_mut().chain([&mut proved]) {
-            runner.take_turn(&input)?;
-        }
+        fast.take_turn(&input)?;
+        proved.take_turn(&input)?;
     }
-    let printed = fs::read(&proved.output)?;
-    for other in &others {
-        if fs::read(&other.output)? != printed {
-            let message = format!("boxlines and the {} program print different lines", other.name);
-            return Err(io::Error::other(message));
-        }
-        let [a, b] = [other, &proved].map(Runner::lines_a_second);
-        print!("boxlines, {LINES} mixed lines, file to file: ");
-        print!("{} {a:.0} lines a second, ", other.name);
-        println!("boxlines {b:.0}, ratio {:.2}", b / a);
+    if fs::read(&fast.output)? != fs::read(&proved.output)? {
+        return Err(io::Error::other("boxlines and the fast program print different lines"));
     }
+    let [a, b] = [fast, proved].map(|runner| LINES as f64 / runner.best.as_secs_f64());
+    print!("boxlines, {LINES} mixed lines, file to file: fast {a:.0} lines a second, ");
+    println!("boxlines {b:.0}, ratio {:.2}", b / a);
     Ok(())
 }
 

@@ -1,15 +1,12 @@
 //! How fast the static library and boxlines are, in one run, beside a coder written for speed
-//! (`fast`) and, for boxlines, a plain program (`plain`). A ratio is the other's time over theirs:
-//! above 1.0 they are faster.
+//! (`fast`). A ratio is its time over theirs: above 1.0 they are faster.
 
 mod boxlines;
 mod coding;
+mod fast_coder;
 mod lines;
-mod plain;
 mod race;
 mod sheets;
-#[cfg(test)]
-mod stored;
 
 use std::io;
 use std::process::ExitCode;
@@ -31,11 +28,7 @@ fn main() -> ExitCode {
     let done = match arguments.iter().map(String::as_str).collect::<Vec<_>>()[..] {
         [] => benchmark(),
         [boxlines::ARGUMENT] => boxlines::run(io::stdin().lock(), io::stdout().lock()),
-        [plain::ARGUMENT] => plain::run(io::stdin().lock(), io::stdout().lock()),
-        _ => {
-            let arguments = [boxlines::ARGUMENT, plain::ARGUMENT].join(" | ");
-            Err(io::Error::other(format!("usage: bench [{arguments}]")))
-        }
+        _ => Err(io::Error::other(format!("usage: bench [{}]", boxlines::ARGUMENT))),
     };
     match done {
         Ok(()) => ExitCode::SUCCESS,

@@ -6,7 +6,9 @@ use std::time::Duration;
 use coder::list::CELL;
 use coder::profile::PROFILES;
 use coder::rng::Rng;
+use fogzurt::{EntryPoints, LIBRARY};
 
+use crate::fast_coder::FAST;
 use crate::race::{time, Race};
 
 const CAPACITIES: [usize; 3] = [1, 16, 255];
@@ -17,30 +19,6 @@ const RECORDS: usize = 1000;
 /// What is measured, in the order of a turn: every sheet is formatted, filled, looked through and
 /// emptied, so that enqueue and dequeue meet every state of a sheet.
 const OPERATIONS: [&str; 4] = ["format", "enqueue", "peek", "dequeue"];
-
-/// One coder's queue; each function says whether the call was accepted.
-struct Queue {
-    format: fn(&mut [u8]) -> bool,
-    enqueue: fn(&mut [u8], u64, u64, &[u8]) -> bool,
-    peek: fn(&[u8], u64, &mut [u8]) -> bool,
-    dequeue: fn(&mut [u8], &mut [u8]) -> bool,
-}
-
-const FAST: Queue = Queue {
-    format: |sheet| fast::queue::format(sheet).is_ok(),
-    enqueue: |sheet, number, profile, word| {
-        fast::queue::enqueue(sheet, number, profile, word).is_ok()
-    },
-    peek: |sheet, record, out| fast::queue::peek(sheet, record, out).is_ok(),
-    dequeue: |sheet, out| fast::queue::dequeue(sheet, out).is_ok(),
-};
-
-const LIBRARY: Queue = Queue {
-    format: |sheet| fogzurt::format(sheet) == 0,
-    enqueue: |sheet, number, profile, word| fogzurt::enqueue(sheet, number, profile, word) == 0,
-    peek: |sheet, record, out| fogzurt::peek(sheet, record, out) == 0,
-    dequeue: |sheet, out| fogzurt::dequeue(sheet, out) == 0,
-};
 
 pub fn race_capacities() {
     for capacity in CAPACITIES {
@@ -72,7 +50,7 @@ fn words(capacity: usize) -> Vec<(u64, Vec<u8>)> {
 
 /// Times each operation on all the sheets in the memory, which have a record for each word.
 fn turn(
-    queue: &Queue,
+    coder: &EntryPoints,
     memory: &mut [u8],
     words: &[(u64, Vec<u8>)],
 ) -> [Duration; OPERATIONS.len()] {
@@ -80,27 +58,27 @@ fn turn(
     let out = &mut [0; CELL];
     let format = time(|| {
         for sheet in memory.chunks_mut(length) {
-            assert!((queue.format)(black_box(sheet)));
+            assert!((coder.format)(black_box(sheet)) == 0);
         }
     });
     let enqueue = time(|| {
         for sheet in memory.chunks_mut(length) {
             for (profile, word) in words {
-                assert!((queue.enqueue)(black_box(sheet), 1, *profile, word));
+                assert!((coder.enqueue)(black_box(sheet), 1, *profile, word) == 0);
             }
         }
     });
     let peek = time(|| {
         for sheet in memory.chunks(length) {
             for record in 1..=words.len() as u64 {
-                assert!((queue.peek)(black_box(sheet), record, black_box(out)));
+                assert!((coder.peek)(black_box(sheet), record, black_box(out)) == 0);
             }
         }
     });
     let dequeue = time(|| {
         for sheet in memory.chunks_mut(length) {
             for _ in words {
-                assert!((queue.dequeue)(black_box(sheet), black_box(out)));
+                assert!((coder.dequeue)(black_box(sheet), black_box(out)) == 0);
             }
         }
     });

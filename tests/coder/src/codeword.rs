@@ -8,6 +8,16 @@ use crate::profile::Profile;
 /// 01: a pair, the first and the second user word.
 pub type Messages = [Vec<u8>; 2];
 
+/// Every pair of a profile whose messages are few enough to list.
+pub fn all_messages(profile: &Profile) -> impl Iterator<Item = Messages> + '_ {
+    let q = usize::from(profile.q);
+    let message = move |number: usize| -> Vec<u8> {
+        (0..profile.k()).map(|power| (number / q.pow(power as u32) % q) as u8).collect()
+    };
+    let count = q.pow(profile.k() as u32);
+    (0..count * count).map(move |number| [message(number / count), message(number % count)])
+}
+
 /// "x has m symbols: 0, b1, b′1, b2, b′2, up to bn, b′n."
 pub fn interleave(components: &[Vec<u8>; 2]) -> Vec<u8> {
     let [first, second] = components;

@@ -3,6 +3,7 @@
 use crate::codeword::{messages_of, Messages};
 use crate::profile::Profile;
 use crate::refusal::{require, Refusal};
+use crate::text::digits;
 
 /// "a kind (clean or mended), the place (0 if clean) and the symbol sent there (0 if clean)".
 #[derive(Debug, Clone, Copy, PartialEq, Eq)]
@@ -16,12 +17,14 @@ pub enum Decoded {
 }
 
 impl Decoded {
-    /// The kind's letter in output, the place and the symbol sent.
-    pub fn parts(self) -> (char, usize, u8) {
-        match self {
+    /// "kind C or M, place, sent symbol, first word, second word (the digits of a word run
+    /// together), single spaces between".
+    pub fn answer(self, first: &[u8], second: &[u8]) -> String {
+        let (kind, place, symbol) = match self {
             Decoded::Clean => ('C', 0, 0),
             Decoded::Corrected { position, symbol } => ('M', position, symbol),
-        }
+        };
+        format!("{kind} {place} {symbol} {} {}", digits(first), digits(second))
     }
 }
 

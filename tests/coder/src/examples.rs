@@ -23,32 +23,18 @@ R 2
 R 9
 ";
 
-/// A pair and the line word that 01 gives for it.
-pub struct Encoded {
-    pub profile: u8,
-    pub first: String,
-    pub second: String,
-    pub word: String,
-}
-
-/// "Checked by hand": the zero pairs, and the pair 0 0 0 0 1 and zeros.
-pub fn encoded() -> Vec<Encoded> {
-    let zero_pair = |profile: u8, k: usize, symbol: &str, m: usize, checks: &str| Encoded {
-        profile,
-        first: "0".repeat(k),
-        second: "0".repeat(k),
-        word: symbol.repeat(m) + checks,
+/// "Checked by hand": the zero pairs, and the pair 0 0 0 0 1 and zeros. The profile, the pair and
+/// the line word that 01 gives for it.
+pub fn encoded() -> Vec<(u8, [String; 2], String)> {
+    let zero_pair = |profile: u8, k: usize, symbol: &str, m: usize, checks: &str| {
+        (profile, [(); 2].map(|()| "0".repeat(k)), symbol.repeat(m) + checks)
     };
+    let another = ["00001", "00000"].map(str::to_string);
     vec![
         zero_pair(1, 5, "1", 17, "02"),
         zero_pair(3, 21, "2", 49, "13"),
         zero_pair(4, 45, "3", 97, "24"),
-        Encoded {
-            profile: 1,
-            first: "00001".to_string(),
-            second: "00000".to_string(),
-            word: "1200011111111112220".to_string(),
-        },
+        (1, another, "1200011111111112220".to_string()),
     ]
 }
 

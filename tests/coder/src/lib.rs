@@ -13,6 +13,8 @@ pub mod examples;
 pub mod lines;
 pub mod list;
 pub mod near_miss;
+mod near_miss_words;
+pub mod near_misses;
 pub mod profile;
 pub mod queue;
 pub mod random_words;

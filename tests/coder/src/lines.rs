@@ -3,7 +3,6 @@
 use crate::decode::decode;
 use crate::profile::Profile;
 use crate::refusal::{require, Refusal};
-use crate::text::digits;
 
 /// "a line of at most 101 bytes", the byte 10 that ends it not counted.
 pub const LONGEST_LINE: usize = 101;
@@ -23,20 +22,18 @@ fn parse(line: &[u8]) -> Result<(u8, Vec<u8>), Refusal> {
     Ok((digit(line[0])?, word?))
 }
 
-/// "Output for a good line: profile, kind C or M, place, sent symbol, first word, second word ..
-/// single spaces between." A bad line "gives 9 .. then the order of Read".
+/// "Output for a good line: profile", and what its word is answered. A bad line "gives 9 .. then the order of Read".
 fn good_answer(line: &[u8]) -> Result<String, Refusal> {
     let (profile, word) = parse(line)?;
     let k = Profile::lookup(profile)?.k();
     let (mut first, mut second) = (vec![0; k], vec![0; k]);
-    let (kind, place, symbol) = decode(profile, &word, &mut first, &mut second)?.parts();
-    let (first, second) = (digits(&first), digits(&second));
-    Ok(format!("{profile} {kind} {place} {symbol} {first} {second}"))
+    let decoded = decode(profile, &word, &mut first, &mut second)?;
+    Ok(format!("{profile} {}", decoded.answer(&first, &second)))
 }
 
-/// The answer to one line. "For a refused one: R, a space and the number."
+/// The answer to one line.
 pub fn answer(line: &[u8]) -> String {
-    good_answer(line).unwrap_or_else(|refusal| format!("R {}", refusal.number()))
+    good_answer(line).unwrap_or_else(|refusal| refusal.to_string())
 }
 
 /// The lines of the input, each "ended by byte 10 or the end of input". "The end of input straight

@@ -1,5 +1,7 @@
 //! The numbers of refusals (01, "Operations and their numbers").
 
+use std::fmt;
+
 /// "1 profile; 2 length; 3 symbol; 4 unreadable; 5 sheet length; 6 unsound sheet; 7 box number;
 /// 8 no free cell; 9 line form; 10 no such record."
 #[derive(Debug, Clone, Copy, PartialEq, Eq)]
@@ -20,6 +22,13 @@ impl Refusal {
     /// "A refusal returns its number only."
     pub fn number(self) -> u8 {
         self as u8
+    }
+}
+
+/// "For a refused one: R, a space and the number."
+impl fmt::Display for Refusal {
+    fn fmt(&self, text: &mut fmt::Formatter) -> fmt::Result {
+        write!(text, "R {}", self.number())
     }
 }
 

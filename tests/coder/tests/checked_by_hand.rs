@@ -42,10 +42,10 @@ fn components_of_profile_1() {
 
 #[test]
 fn encoded_words() {
-    for case in encoded() {
-        let mut output = vec![0; case.word.len()];
-        encode(case.profile, &symbols(&case.first), &symbols(&case.second), &mut output).unwrap();
-        assert_eq!(digits(&output), case.word);
+    for (profile, [first, second], word) in encoded() {
+        let mut output = vec![0; word.len()];
+        encode(profile, &symbols(&first), &symbols(&second), &mut output).unwrap();
+        assert_eq!(digits(&output), word);
     }
 }
 

@@ -2,7 +2,7 @@
 
 use coder::decode::decode;
 use coder::encode::encode;
-use coder::lines::answer;
+use coder::lines::boxlines;
 use coder::list::CELL;
 use coder::queue;
 use coder::refusal::Refusal;
@@ -139,25 +139,29 @@ fn peek_and_dequeue_refuse_in_order() {
     }
 }
 
-/// "A line not of this form gives 9, an empty one included; then the order of Read."
+/// "A line not of this form gives 9, an empty one included; then the order of Read. A longer line
+/// gives a single 9 .. The end of input straight after a byte 10 is not a line."
 #[test]
-fn a_line_is_refused_in_order() {
+fn lines_are_cut_and_refused_in_order() {
+    let good = "1 1111111111111111102\n1 1111111111111111102";
     let longest = format!("5 {}", "9".repeat(99));
-    for (line, expected) in [
-        ("", "R 9"),
-        ("1", "R 9"),
-        ("1 ", "R 9"),
-        ("1  1", "R 9"),
-        ("1 1 ", "R 9"),
-        ("1\t1", "R 9"),
-        ("1 1\r", "R 9"),
-        ("0 9", "R 1"),
-        (&longest, "R 1"),
-        (&(longest.clone() + "9"), "R 9"),
-        ("1 9", "R 2"),
-        ("1 1111111111111111103", "R 3"),
-        ("1 0000000000000000000", "R 4"),
+    let long = "1".repeat(10_000);
+    for (input, expected) in [
+        ("", ""),
+        ("\n", "R 9\n"),
+        ("\n\n1\n1 ", "R 9\nR 9\nR 9\nR 9\n"),
+        (good, "1 C 0 0 00000 00000\n1 C 0 0 00000 00000\n"),
+        (&format!("{good}\n"), "1 C 0 0 00000 00000\n1 C 0 0 00000 00000\n"),
+        ("1  1\n1 1 \n1\t1\n1 1\r\n", "R 9\nR 9\nR 9\nR 9\n"),
+        ("0 9", "R 1\n"),
+        (&longest, "R 1\n"),
+        (&format!("{longest}9"), "R 9\n"),
+        (&format!("{long}\n0 9"), "R 9\nR 1\n"),
+        (&format!("{}\n{long}", &long[..203]), "R 9\nR 9\n"),
+        ("1 9", "R 2\n"),
+        ("1 1111111111111111103", "R 3\n"),
+        ("1 0000000000000000000", "R 4\n"),
     ] {
-        assert_eq!(answer(line.as_bytes()), expected);
+        assert_eq!(boxlines(input.as_bytes()), expected);
     }
 }

@@ -1,11 +1,10 @@
-//! Encoding and decoding by the library and by the separate coder.
+//! Encoding and decoding by a coder's entry points and by the separate coder.
 
 use coder::decode::Decoded;
 use coder::refusal::Refusal;
-use fogzurt::PackedAnswer;
+use fogzurt::{EntryPoints, PackedAnswer};
 
-use crate::buffer::{Buffer, FILLER};
-use crate::mismatch::{compare, Checked};
+use crate::compare::{compare, Buffer, Checked, FILLER};
 
 /// The separate coder's profiles and boxes are bytes. No number that is wider names one, and
 /// neither does 0.
@@ -28,29 +27,30 @@ pub fn packed(answer: Result<Decoded, Refusal>) -> PackedAnswer {
 }
 
 /// Encodes into an output of this length.
-pub fn encode(profile: u64, messages: [&[u8]; 2], length: usize) -> Checked {
+pub fn encode(tried: &EntryPoints, profile: u64, messages: [&[u8]; 2], length: usize) -> Checked {
     let [first, second] = messages.map(Buffer::new);
     let mut out = Buffer::output(length);
     let mut expected_out = vec![FILLER; length];
-    let library = fogzurt::encode(profile, first.lent(), second.lent(), out.lent_mut());
+    let answer = (tried.encode)(profile, first.lent(), second.lent(), out.lent_mut());
     let [a, b] = messages;
     let expected = number_of(coder::encode::encode(narrow(profile), a, b, &mut expected_out));
     compare(
         || format!("encode {profile}, {a:?}, {b:?}, into {length} bytes"),
-        [library, expected],
+        [answer, expected],
         &[("first", &first, a), ("second", &second, b), ("out", &out, &expected_out)],
     )
 }
 
 /// Decodes into outputs of these lengths; what is right is found by the separate coder's search.
-pub fn decode(profile: u64, word: &[u8], lengths: [usize; 2]) -> Checked {
+pub fn decode(tried: &EntryPoints, profile: u64, word: &[u8], lengths: [usize; 2]) -> Checked {
     let [mut first, mut second] = lengths.map(|length| vec![FILLER; length]);
     let expected = coder::decode::decode(narrow(profile), word, &mut first, &mut second);
-    decode_to(profile, word, packed(expected), [&first, &second])
+    decode_to(tried, profile, word, packed(expected), [&first, &second])
 }
 
 /// Decodes, where it is known what is right: the answer, and what both outputs then hold.
 pub fn decode_to(
+    tried: &EntryPoints,
     profile: u64,
     word: &[u8],
     expected: PackedAnswer,
@@ -58,11 +58,11 @@ pub fn decode_to(
 ) -> Checked {
     let received = Buffer::new(word);
     let [mut first, mut second] = outputs.map(|output| Buffer::output(output.len()));
-    let library = fogzurt::decode(profile, received.lent(), first.lent_mut(), second.lent_mut());
+    let answer = (tried.decode)(profile, received.lent(), first.lent_mut(), second.lent_mut());
     let [a, b] = outputs;
     compare(
         || format!("decode {profile}, {word:?}, into {} and {} bytes", a.len(), b.len()),
-        [library, expected],
+        [answer, expected],
         &[("word", &received, word), ("first", &first, a), ("second", &second, b)],
     )
 }

@@ -1,55 +1,92 @@
 //! All 3^19 received words of profile 1. The codewords and their neighbours are marked in a table,
 //! a part of it at a time; everything else has to be refused with 4.
 
-use std::iter::Sum;
 use std::ops::Range;
 
+use coder::codeword::{all_messages, codewords, messages_of, with_check_symbols, Messages};
+use coder::profile::{Profile, PROFILES};
 use coder::refusal::Refusal;
-use fogzurt::PackedAnswer;
+use fogzurt::{EntryPoints, PackedAnswer};
 
-use crate::base3;
-use crate::buffer::FILLER;
 use crate::calls::decode_to;
-use crate::codeword_list::{CodewordList, LENGTH, PROFILE};
-use crate::mismatch::{Checked, Mismatch};
-use crate::parallel::sum_of_jobs;
+use crate::compare::{Checked, Mismatch, FILLER};
+use crate::parallel::run_jobs;
 
-/// k of profile 1.
+/// Profile 1, and its N, m and k.
+const PROFILE: &Profile = &PROFILES[0];
+const LENGTH: usize = 19;
+const M: usize = 17;
 const MESSAGE: usize = 5;
 
 /// The parts of the table: the words that begin with the same four symbols.
 const PARTS: usize = 3usize.pow(4);
 const WORDS_OF_A_PART: u32 = 3u32.pow(LENGTH as u32 - 4);
 
-/// How many words were answered in each way.
-#[derive(Default)]
-struct Counts {
-    clean: u64,
-    corrected: u64,
-    refused: u64,
+/// The words w that are tried in one job.
+const WORDS_OF_A_JOB: u32 = 3u32.pow(M as u32 - 5);
+
+/// Every codeword (01: lawful word) as a number in base 3, rising, with its pair.
+type Codewords = [(u32, Messages)];
+
+/// The number of a word; its first symbol is the highest digit.
+fn value(word: &[u8]) -> u32 {
+    word.iter().fold(0, |value, &symbol| value * 3 + u32::from(symbol))
 }
 
-impl Sum for Counts {
-    fn sum<Parts: Iterator<Item = Counts>>(parts: Parts) -> Counts {
-        parts.fold(Counts::default(), |sum, part| Counts {
-            clean: sum.clean + part.clean,
-            corrected: sum.corrected + part.corrected,
-            refused: sum.refused + part.refused,
-        })
+/// The word of a number.
+fn word<const COUNT: usize>(value: u32) -> [u8; COUNT] {
+    let mut rest = value;
+    let mut word = [0; COUNT];
+    for symbol in word.iter_mut().rev() {
+        *symbol = (rest % 3) as u8;
+        rest /= 3;
     }
+    word
 }
 
-pub fn check() -> Checked<String> {
-    let codewords = CodewordList::list()?;
-    let counts: Counts = sum_of_jobs("every word of profile 1", PARTS, |part| {
-        check_part(&codewords, part as u32 * WORDS_OF_A_PART)
+pub fn check(tried: &EntryPoints) -> Checked<String> {
+    let codewords = list()?;
+    let parts = run_jobs("every word of profile 1", PARTS, |part| {
+        check_part(tried, &codewords, part as u32 * WORDS_OF_A_PART)
     })?;
-    let Counts { clean, corrected, refused } = counts;
+    let [clean, corrected, refused] =
+        [0, 1, 2].map(|kind| parts.iter().map(|counts| counts[kind]).sum::<u64>());
     let (sent, received) = (codewords.len(), clean + corrected + refused);
     Ok(format!(
         "every word of profile 1: {sent} codewords; {received} received words, \
          {clean} clean, {corrected} corrected, {refused} refused"
     ))
+}
+
+/// The codewords of all pairs by all balancing choices. To be sure that there are no others,
+/// every w is also put to 01's four conditions, with its own check symbols.
+fn list() -> Checked<Vec<(u32, Messages)>> {
+    let pairs: Vec<Messages> = all_messages(PROFILE).collect();
+    let by_choices = run_jobs("listing codewords", pairs.len(), |job| {
+        let words = codewords(PROFILE, &pairs[job]).into_iter();
+        Ok(words.map(|(_, word)| (value(&word), pairs[job].clone())).collect::<Vec<_>>())
+    })?;
+    let by_conditions = run_jobs("trying every w", 3usize.pow(5), |job| {
+        let first = job as u32 * WORDS_OF_A_JOB;
+        let words = (first..first + WORDS_OF_A_JOB).filter_map(|w| {
+            let word = with_check_symbols(PROFILE, &word::<M>(w));
+            Some((value(&word), messages_of(PROFILE, &word)?))
+        });
+        Ok(words.collect::<Vec<_>>())
+    })?;
+    let [by_choices, by_conditions] = [by_choices, by_conditions].map(|parts| {
+        let mut rows = parts.concat();
+        rows.sort_unstable();
+        rows
+    });
+    if by_choices != by_conditions {
+        return Err(Mismatch(format!(
+            "the separate coder has {} codewords by choices, and {} by 01's conditions",
+            by_choices.len(),
+            by_conditions.len()
+        )));
+    }
+    Ok(by_choices)
 }
 
 /// What a word is: its mark in the table.
@@ -58,15 +95,12 @@ enum Mark {
     /// No codeword is within one position.
     Far,
     Codeword,
-    /// A codeword but for the symbol at this index, from 0, where this was sent.
-    Neighbour {
-        index: u8,
-        sent: u8,
-    },
+    /// A codeword but for the symbol at an index, from 0; and what was sent there.
+    Neighbour(u8, u8),
 }
 
 /// The marks of the words from `first` on.
-fn marks(codewords: &CodewordList, first: u32) -> Vec<Mark> {
+fn marks(codewords: &Codewords, first: u32) -> Vec<Mark> {
     let mut marks = vec![Mark::Far; WORDS_OF_A_PART as usize];
     let mut set = |word: u32, mark: Mark| {
         if let Some(place) = word.checked_sub(first).and_then(|at| marks.get_mut(at as usize)) {
@@ -74,15 +108,14 @@ fn marks(codewords: &CodewordList, first: u32) -> Vec<Mark> {
             *place = mark;
         }
     };
-    for word in codewords.words() {
+    for &(word, _) in codewords {
         set(word, Mark::Codeword);
         let mut power = 1;
         for index in (0..LENGTH as u8).rev() {
-            let sent = (word / power % 3) as u8;
-            for step in 1..3 {
-                let received = (u32::from(sent) + step) % 3;
-                let neighbour = word - u32::from(sent) * power + received * power;
-                set(neighbour, Mark::Neighbour { index, sent });
+            let sent = word / power % 3;
+            for received in (0..3).filter(|&received| received != sent) {
+                let neighbour = word - sent * power + received * power;
+                set(neighbour, Mark::Neighbour(index, sent as u8));
             }
             power *= 3;
         }
@@ -90,58 +123,46 @@ fn marks(codewords: &CodewordList, first: u32) -> Vec<Mark> {
     marks
 }
 
-/// Decodes the words from `first` on.
-fn check_part(codewords: &CodewordList, first: u32) -> Checked<Counts> {
-    let mut counts = Counts::default();
-    for (mark, value) in marks(codewords, first).into_iter().zip(first..) {
-        let received: [u8; LENGTH] = base3::word(value);
-        match mark {
+/// Decodes the words from `first` on; how many are clean, corrected and refused.
+fn check_part(tried: &EntryPoints, codewords: &Codewords, first: u32) -> Checked<[u64; 3]> {
+    let mut counts = [0; 3];
+    for (mark, number) in marks(codewords, first).into_iter().zip(first..) {
+        let received: [u8; LENGTH] = word(number);
+        let mut sent = received;
+        let (kind, expected) = match mark {
             Mark::Far => {
-                check_refused(&received)?;
-                counts.refused += 1;
+                check_refused(tried, &received)?;
+                counts[2] += 1;
+                continue;
             }
-            Mark::Codeword => {
-                check_decoded(codewords, &received, &received, PackedAnswer::clean())?;
-                counts.clean += 1;
+            Mark::Codeword => (0, PackedAnswer::clean()),
+            Mark::Neighbour(index, symbol) => {
+                sent[usize::from(index)] = symbol;
+                (1, PackedAnswer::corrected(usize::from(index) + 1, symbol))
             }
-            Mark::Neighbour { index, sent } => {
-                let mut word = received;
-                word[usize::from(index)] = sent;
-                let expected = PackedAnswer::corrected(usize::from(index) + 1, sent);
-                check_decoded(codewords, &received, &word, expected)?;
-                counts.corrected += 1;
-            }
-        }
+        };
+        let row = codewords.binary_search_by_key(&value(&sent), |(listed, _)| *listed);
+        let (_, [first, second]) = &codewords[row.expect("the word is listed")];
+        decode_to(tried, u64::from(PROFILE.number), &received, expected, [first, second])?;
+        counts[kind] += 1;
     }
     Ok(counts)
-}
-
-/// The answer to a word that is a codeword, or was sent as one.
-fn check_decoded(
-    codewords: &CodewordList,
-    received: &[u8],
-    sent: &[u8],
-    expected: PackedAnswer,
-) -> Checked {
-    let both = codewords.messages(base3::value(sent));
-    let (first, second) = both.split_at(MESSAGE);
-    decode_to(u64::from(PROFILE.number), received, expected, [first, second])
 }
 
 /// The answer to a word that no codeword is near. Nearly every word is one, so the buffers stand on
 /// the stack, each output the middle of three parts, and the call is made again by `decode_to`, to
 /// say what differs, only where something does.
-fn check_refused(received: &[u8; LENGTH]) -> Checked {
+fn check_refused(tried: &EntryPoints, received: &[u8; LENGTH]) -> Checked {
     const UNTOUCHED: [u8; 3 * MESSAGE] = [FILLER; 3 * MESSAGE];
     const LENT: Range<usize> = MESSAGE..2 * MESSAGE;
     let word = *received;
     let (mut first, mut second) = (UNTOUCHED, UNTOUCHED);
     let number = u64::from(PROFILE.number);
     let expected = PackedAnswer::refused(Refusal::Unreadable.number());
-    let answer = fogzurt::decode(number, &word, &mut first[LENT], &mut second[LENT]);
+    let answer = (tried.decode)(number, &word, &mut first[LENT], &mut second[LENT]);
     if answer == expected && word == *received && [first, second] == [UNTOUCHED; 2] {
         return Ok(());
     }
-    decode_to(number, received, expected, [&UNTOUCHED[LENT]; 2])?;
+    decode_to(tried, number, received, expected, [&UNTOUCHED[LENT]; 2])?;
     Err(Mismatch(format!("decode 1, {received:?} is right only the second time; first {answer}")))
 }

@@ -1,15 +1,19 @@
 //! Generated lines through the program boxlines, against the separate coder's answers.
 
+use std::io::Write;
+use std::path::Path;
+use std::process::{Command, Stdio};
+use std::thread;
+
 use coder::codeword::codewords;
-use coder::lines::{answer, boxlines, LONGEST_LINE};
+use coder::lines::{boxlines, LONGEST_LINE};
 use coder::profile::PROFILES;
 use coder::random_words::changed;
 use coder::rng::Rng;
 use coder::text::digits;
 
-use crate::mismatch::{Checked, Mismatch};
+use crate::compare::{Checked, Mismatch};
 use crate::parallel::sum_of_jobs;
-use crate::program_run::run;
 
 /// Runs of the program, and the lines of each.
 const RUNS: usize = 50;
@@ -18,6 +22,9 @@ const LINES: usize = 2000;
 /// Lines made from the codewords of one pair.
 const LINES_OF_A_PAIR: usize = 20;
 
+/// The longest piece that is written to the program at once.
+const PIECE: usize = 600;
+
 /// Bytes that make a line malformed, or a symbol wrong.
 const BYTES: &[u8] = b" \t\r\0+-/:?19CMR\xff";
 
@@ -25,7 +32,7 @@ pub fn check() -> Checked<String> {
     let Some(program) = fogzurt::boxlines() else {
         return Ok("boxlines: NOT RUN, there is no target/bin/boxlines".to_string());
     };
-    let lines: usize = sum_of_jobs("boxlines", RUNS, |job| {
+    let lines = sum_of_jobs("boxlines", RUNS, |job| {
         let rng = &mut Rng::new(job as u64);
         let input = stream(rng);
         let output = run(&program, &input, rng)?;
@@ -69,25 +76,54 @@ fn malformed(mut line: Vec<u8>, rng: &mut Rng) -> Vec<u8> {
     line
 }
 
+/// All that the program prints for this input, which is written in pieces cut at random. On
+/// standard error it says how many lines it answered.
+fn run(program: &Path, input: &[u8], rng: &mut Rng) -> Checked<Vec<u8>> {
+    let failed = |what: &str| Mismatch(format!("{}: {what}", program.display()));
+    let mut child = Command::new(program)
+        .stdin(Stdio::piped())
+        .stdout(Stdio::piped())
+        .stderr(Stdio::piped())
+        .spawn()
+        .map_err(|error| failed(&error.to_string()))?;
+    let mut pipe = child.stdin.take().expect("the input is piped");
+    let output = thread::scope(|scope| {
+        scope.spawn(move || {
+            let mut rest = input;
+            while !rest.is_empty() {
+                let (piece, later) = rest.split_at(rng.from_one_to(PIECE.min(rest.len())));
+                // A program that ends early shows by its output.
+                if pipe.write_all(piece).is_err() {
+                    break;
+                }
+                rest = later;
+            }
+        });
+        child.wait_with_output()
+    });
+    let output = output.map_err(|error| failed(&error.to_string()))?;
+    if !output.status.success() {
+        return Err(failed(&format!("ended with {}", output.status)));
+    }
+    let answered = output.stdout.iter().filter(|&&byte| byte == b'\n').count();
+    let told = String::from_utf8_lossy(&output.stderr);
+    if told != format!("boxlines: {answered} lines answered\n") {
+        return Err(failed(&format!("answered {answered} lines, and said {told:?}")));
+    }
+    Ok(output.stdout)
+}
+
 /// Compares what boxlines printed with what it should; a mismatch is the first line's.
 fn compare_lines(input: &[u8], output: &[u8]) -> Checked {
-    if output == boxlines(input).as_bytes() {
+    let expected = boxlines(input).into_bytes();
+    if output == expected {
         return Ok(());
     }
-    let mut printed = output.split(|&byte| byte == b'\n');
-    for line in input.split(|&byte| byte == b'\n') {
-        let expected = answer(line);
-        let answer = printed.next().unwrap_or_default();
-        if answer != expected.as_bytes() {
-            return Err(Mismatch(format!(
-                "line      {}\nboxlines  {}\nexpected  {expected}",
-                line.escape_ascii(),
-                answer.escape_ascii()
-            )));
-        }
-    }
-    Err(Mismatch(format!(
-        "boxlines printed too much, or ended otherwise: {}",
-        output.escape_ascii()
-    )))
+    let same = output.iter().zip(&expected).take_while(|(a, b)| a == b).count();
+    let number = output[..same].iter().filter(|&&byte| byte == b'\n').count();
+    let [line, printed, expected] = [input, output, &expected].map(|text| {
+        let line = text.split_inclusive(|&byte| byte == b'\n').nth(number);
+        line.unwrap_or_default().escape_ascii()
+    });
+    Err(Mismatch(format!("line      {line}\nboxlines  {printed}\nexpected  {expected}")))
 }

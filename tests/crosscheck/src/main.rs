@@ -1,39 +1,17 @@
-//! Compares the static library, and the program boxlines, with the separately written coder:
-//! every answer, and every byte of every buffer after each call. Each section prints one line; the
-//! first mismatch prints the input and both answers, and ends the program with 1.
-
-mod base3;
-mod buffer;
-mod calls;
-mod codeword_list;
-mod every_word;
-mod lines;
-mod mismatch;
-mod pairs;
-mod parallel;
-mod program_run;
-mod received;
-mod refusals;
-mod sheet;
-mod sheets;
+//! The cross-check of the static library and of boxlines. Each section prints one line; the first
+//! mismatch prints the input and both answers, and ends the program with 1.
 
 use std::process::ExitCode;
 use std::time::Instant;
 
-use mismatch::Checked;
-
-/// A part of the run; what it did, in words.
-type Section = fn() -> Checked<String>;
-
-const QUICK: [Section; 5] =
-    [refusals::check, pairs::check, sheets::check, lines::check, received::check];
-const LONG: [Section; 1] = [every_word::check];
+use crosscheck::{Section, LONG, QUICK};
+use fogzurt::LIBRARY;
 
 fn run(sections: &[Section]) -> ExitCode {
     let started = Instant::now();
     for section in sections {
         let section_started = Instant::now();
-        match section() {
+        match section(&LIBRARY) {
             Ok(done) => println!("{done} ({:.1} s)", section_started.elapsed().as_secs_f64()),
             Err(mismatch) => {
                 println!("MISMATCH\n{mismatch}");

@@ -5,13 +5,16 @@ use coder::codeword::{codewords, components_of, interleave, with_check_symbols, 
 use coder::profile::{Profile, PROFILES};
 use coder::random_words::{changed, changed_at};
 use coder::rng::Rng;
+use fogzurt::EntryPoints;
 
 use crate::calls::{decode, encode};
-use crate::mismatch::Checked;
+use crate::compare::Checked;
 use crate::parallel::sum_of_jobs;
 
-/// Pairs of messages for each profile. Each has its encoded word, and the words of KINDS.
+/// Pairs of messages for each profile, for the library and for a coder that is only a yardstick.
+/// Each has its encoded word, and the words of KINDS.
 const PAIRS: usize = 5000;
+const FEWER_PAIRS: usize = 500;
 
 /// Makes a received word of a profile, as a rule from a codeword.
 type Receive = fn(&Profile, &[u8], &mut Rng) -> Vec<u8>;
@@ -27,24 +30,30 @@ const KINDS: [(usize, Receive); 7] = [
     (4, one_component_of_noise),
 ];
 
-pub fn check() -> Checked<String> {
-    let words: usize = sum_of_jobs("received words", PAIRS * PROFILES.len(), |job| {
-        check_pair(&PROFILES[job % PROFILES.len()], &mut Rng::new(job as u64))
+pub fn check(tried: &EntryPoints) -> Checked<String> {
+    check_pairs(tried, PAIRS * PROFILES.len())
+}
+
+pub fn check_fewer(tried: &EntryPoints) -> Checked<String> {
+    check_pairs(tried, FEWER_PAIRS * PROFILES.len())
+}
+
+/// Decodes the words of so many pairs, the profiles by turns.
+fn check_pairs(tried: &EntryPoints, pairs: usize) -> Checked<String> {
+    let words = sum_of_jobs("received words", pairs, |job| {
+        check_pair(tried, &PROFILES[job % PROFILES.len()], &mut Rng::new(job as u64))
     })?;
-    Ok(format!(
-        "received words: {words} of four profiles decoded, {} pairs encoded",
-        PAIRS * PROFILES.len()
-    ))
+    Ok(format!("received words: {words} of four profiles decoded, {pairs} pairs encoded"))
 }
 
 /// How many words were received, all of one random pair.
-fn check_pair(profile: &Profile, rng: &mut Rng) -> Checked<usize> {
+fn check_pair(tried: &EntryPoints, profile: &Profile, rng: &mut Rng) -> Checked<usize> {
     let messages = rng.messages(profile);
     let number = u64::from(profile.number);
-    encode(number, [&messages[0], &messages[1]], profile.word_length())?;
+    encode(tried, number, [&messages[0], &messages[1]], profile.word_length())?;
     let words = received_words(profile, &messages, rng);
     for word in &words {
-        decode(number, word, [profile.k(); 2])?;
+        decode(tried, number, word, [profile.k(); 2])?;
     }
     Ok(words.len())
 }
@@ -79,24 +88,9 @@ fn one_component_of_noise(profile: &Profile, codeword: &[u8], rng: &mut Rng) -> 
 #[cfg(test)]
 mod tests {
     use coder::near_miss::{self, Slip};
+    use coder::near_misses::NEAR_MISSES;
 
     use super::*;
-
-    const SLIPS: [Slip; 13] = [
-        Slip::PrintedDelta,
-        Slip::CheckSymbolsAdded,
-        Slip::BalanceIsClean,
-        Slip::ExcessReduced,
-        Slip::CheckSumOffByAny,
-        Slip::RemovedModQ,
-        Slip::FirstInRange,
-        Slip::PositionZero,
-        Slip::LastRowIgnored,
-        Slip::BothTaken,
-        Slip::FirstComponentOnly,
-        Slip::SecondComponentOnly,
-        Slip::EncodedWordOnly,
-    ];
 
     /// A fiftieth of what is received tells each decoder with a slip from the right one, but for
     /// 002's printed δ, which is right for q = 3.
@@ -104,7 +98,7 @@ mod tests {
     fn every_slip_of_a_decoder_is_told() {
         for profile in &PROFILES {
             let rng = &mut Rng::new(1);
-            let mut untold = SLIPS.to_vec();
+            let mut untold = NEAR_MISSES.map(|near_miss| near_miss.slip).to_vec();
             for _ in 0..PAIRS / 50 {
                 let messages = rng.messages(profile);
                 for word in received_words(profile, &messages, rng) {

@@ -4,9 +4,10 @@ use coder::codeword::codewords;
 use coder::decode::replaced;
 use coder::profile::{Profile, PROFILES};
 use coder::rng::Rng;
+use fogzurt::EntryPoints;
 
 use crate::calls::{decode, encode};
-use crate::mismatch::Checked;
+use crate::compare::Checked;
 use crate::parallel::sum_of_jobs;
 
 /// The profiles, and numbers that name none. Cut to 8, 16 or 32 bits many of them would.
@@ -20,12 +21,12 @@ pub const NUMBERS: [u64; 22] = [
 /// An oversize buffer.
 const OVERSIZE: usize = 1000;
 
-pub fn check() -> Checked<String> {
-    let calls: usize = sum_of_jobs("refusals", NUMBERS.len() * PROFILES.len(), |job| {
+pub fn check(tried: &EntryPoints) -> Checked<String> {
+    let calls = sum_of_jobs("refusals", NUMBERS.len() * PROFILES.len(), |job| {
         let number = NUMBERS[job / PROFILES.len()];
         let profile = &PROFILES[job % PROFILES.len()];
         let rng = &mut Rng::new(job as u64);
-        Ok(check_encode(number, profile, rng)? + check_decode(number, profile, rng)?)
+        Ok(check_encode(tried, number, profile, rng)? + check_decode(tried, number, profile, rng)?)
     })?;
     Ok(format!("refusals: {calls} calls with profiles, lengths and symbols of every kind"))
 }
@@ -48,13 +49,18 @@ fn faulty(q: u8, word: &[u8]) -> Vec<Vec<u8>> {
     resized.chain(out_of_range).collect()
 }
 
-fn check_encode(number: u64, profile: &Profile, rng: &mut Rng) -> Checked<usize> {
+fn check_encode(
+    tried: &EntryPoints,
+    number: u64,
+    profile: &Profile,
+    rng: &mut Rng,
+) -> Checked<usize> {
     let [first, second] = rng.messages(profile).map(|message| faulty(profile.q, &message));
     let mut calls = 0;
     for first in &first {
         for second in &second {
             for length in lengths(profile.word_length()) {
-                encode(number, [first, second], length)?;
+                encode(tried, number, [first, second], length)?;
                 calls += 1;
             }
         }
@@ -62,13 +68,18 @@ fn check_encode(number: u64, profile: &Profile, rng: &mut Rng) -> Checked<usize>
     Ok(calls)
 }
 
-fn check_decode(number: u64, profile: &Profile, rng: &mut Rng) -> Checked<usize> {
+fn check_decode(
+    tried: &EntryPoints,
+    number: u64,
+    profile: &Profile,
+    rng: &mut Rng,
+) -> Checked<usize> {
     let (_, codeword) = &codewords(profile, &rng.messages(profile))[0];
     let mut calls = 0;
     for word in faulty(profile.q, codeword) {
         for first in lengths(profile.k()) {
             for second in lengths(profile.k()) {
-                decode(number, &word, [first, second])?;
+                decode(tried, number, &word, [first, second])?;
                 calls += 1;
             }
         }

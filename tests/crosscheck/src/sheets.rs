@@ -1,13 +1,17 @@
-//! Runs of calls on sheets of every capacity (01: R), sound and damaged, and of wrong lengths.
+//! Runs of calls on sheets of every capacity (01: R), sound and damaged, and of wrong lengths. The
+//! coder and the separate one keep a sheet each; after each call both have to be the same in every
+//! byte.
 
 use coder::list::{CELL, LAST_BOX};
 use coder::profile::PROFILES;
+use coder::queue;
 use coder::rng::Rng;
+use fogzurt::EntryPoints;
 
-use crate::mismatch::Checked;
+use crate::calls::{narrow, number_of};
+use crate::compare::{compare, After, Buffer, Checked, FILLER};
 use crate::parallel::sum_of_jobs;
 use crate::refusals::NUMBERS;
-use crate::sheet::Sheet;
 
 const LARGEST_CAPACITY: usize = 255;
 
@@ -20,52 +24,108 @@ const LENGTHS: [usize; 16] = [
     0, 1, 103, 104, 105, 207, 208, 209, 311, 313, 26_519, 26_623, 26_624, 26_625, 26_728, 53_248,
 ];
 
-pub fn check() -> Checked<String> {
-    let calls: usize = sum_of_jobs("sheets", LARGEST_CAPACITY, |job| {
-        let mut run = Run::new((job + 2) * CELL, job as u64);
-        run.sheet.format()?;
-        while run.calls < CALLS {
-            run.step()?;
+pub fn check(tried: &EntryPoints) -> Checked<String> {
+    let by_capacity = sum_of_jobs("sheets", LARGEST_CAPACITY, |job| {
+        let mut sheet = Sheet::new(tried, (job + 2) * CELL, job as u64);
+        sheet.format()?;
+        sheet.calls = 0;
+        while sheet.calls < CALLS {
+            sheet.step()?;
         }
-        Ok(run.calls)
+        Ok(sheet.calls)
     })?;
     let by_length: usize =
-        LENGTHS.iter().map(|&length| calls_by_length(length)).sum::<Checked<_>>()?;
-    Ok(format!(
-        "sheets: {} calls on sheets of R = 1 to 255 and of wrong lengths",
-        calls + by_length
-    ))
+        LENGTHS.iter().map(|&length| calls_by_length(tried, length)).sum::<Checked<_>>()?;
+    let calls = by_capacity + by_length;
+    Ok(format!("sheets: {calls} calls on sheets of R = 1 to 255 and of wrong lengths"))
 }
 
 /// Every call, before and after the buffer is formatted.
-fn calls_by_length(length: usize) -> Checked<usize> {
-    let mut run = Run::new(length, length as u64);
+fn calls_by_length(tried: &EntryPoints, length: usize) -> Checked<usize> {
+    let mut sheet = Sheet::new(tried, length, length as u64);
     for _ in 0..2 {
-        run.peek_some()?;
-        run.enqueue_good()?;
-        run.faulty()?;
-        run.dequeue(CELL)?;
-        run.format()?;
+        sheet.peek_some()?;
+        sheet.enqueue_good()?;
+        sheet.faulty()?;
+        sheet.dequeue(CELL)?;
+        sheet.format()?;
     }
-    Ok(run.calls)
+    Ok(sheet.calls)
 }
 
-/// A sheet, and how many calls were made on it.
-struct Run {
-    sheet: Sheet,
+/// The sheet of both coders, and how many calls were made on it.
+struct Sheet<'a> {
+    tried: &'a EntryPoints,
+    lent: Buffer,
+    expected: Vec<u8>,
     rng: Rng,
     calls: usize,
 }
 
-impl Run {
-    fn new(length: usize, seed: u64) -> Run {
-        Run { sheet: Sheet::new(length), rng: Rng::new(seed), calls: 0 }
+impl Sheet<'_> {
+    /// A buffer that was never formatted.
+    fn new(tried: &EntryPoints, length: usize, seed: u64) -> Sheet<'_> {
+        let expected = vec![FILLER; length];
+        Sheet { tried, lent: Buffer::output(length), expected, rng: Rng::new(seed), calls: 0 }
+    }
+
+    /// Counts a call, and compares both answers, both sheets and one more buffer.
+    fn compare(
+        &mut self,
+        call: impl FnOnce() -> String,
+        answers: [u64; 2],
+        other: &[After],
+    ) -> Checked {
+        self.calls += 1;
+        let call = || format!("{} on a sheet of {} bytes", call(), self.expected.len());
+        let sheet: After = ("sheet", &self.lent, &self.expected);
+        compare(call, answers, &[&[sheet], other].concat())
+    }
+
+    fn format(&mut self) -> Checked {
+        let answer = (self.tried.format)(self.lent.lent_mut());
+        let expected = number_of(queue::format(&mut self.expected));
+        self.compare(|| "format".to_string(), [answer, expected], &[])
+    }
+
+    fn enqueue(&mut self, box_number: u64, profile: u64, word: &[u8]) -> Checked {
+        let lent = Buffer::new(word);
+        let answer = (self.tried.enqueue)(self.lent.lent_mut(), box_number, profile, lent.lent());
+        let (narrow_box, narrow_profile) = (narrow(box_number), narrow(profile));
+        let expected = queue::enqueue(&mut self.expected, narrow_box, narrow_profile, word);
+        self.compare(
+            || format!("enqueue {box_number}, {profile}, {word:?}"),
+            [answer, number_of(expected)],
+            &[("word", &lent, word)],
+        )
+    }
+
+    fn peek(&mut self, record: u64, length: usize) -> Checked {
+        let (mut out, mut expected_out) = (Buffer::output(length), vec![FILLER; length]);
+        let answer = (self.tried.peek)(self.lent.lent(), record, out.lent_mut());
+        let expected = queue::peek(&self.expected, record as usize, &mut expected_out);
+        self.compare(
+            || format!("peek {record} into {length} bytes"),
+            [answer, number_of(expected)],
+            &[("out", &out, &expected_out)],
+        )
+    }
+
+    fn dequeue(&mut self, length: usize) -> Checked {
+        let (mut out, mut expected_out) = (Buffer::output(length), vec![FILLER; length]);
+        let answer = (self.tried.dequeue)(self.lent.lent_mut(), out.lent_mut());
+        let expected = queue::dequeue(&mut self.expected, &mut expected_out);
+        self.compare(
+            || format!("dequeue into {length} bytes"),
+            [answer, number_of(expected)],
+            &[("out", &out, &expected_out)],
+        )
     }
 
     /// Most steps fill the sheet or, by turns, drain it. The others look, ask for what is refused,
     /// do damage, or start anew.
     fn step(&mut self) -> Checked {
-        let capacity = self.sheet.bytes().len() / CELL - 1;
+        let capacity = self.expected.len() / CELL - 1;
         let filling = (self.calls / (2 * capacity + 3)).is_multiple_of(2);
         match self.rng.below(24) {
             0 => self.damage(),
@@ -75,26 +135,6 @@ impl Run {
             draw if (draw < 19) == filling => self.enqueue_good(),
             _ => self.dequeue(CELL),
         }
-    }
-
-    fn format(&mut self) -> Checked {
-        self.calls += 1;
-        self.sheet.format()
-    }
-
-    fn enqueue(&mut self, box_number: u64, profile: u64, word: &[u8]) -> Checked {
-        self.calls += 1;
-        self.sheet.enqueue(box_number, profile, word)
-    }
-
-    fn peek(&mut self, record: u64, length: usize) -> Checked {
-        self.calls += 1;
-        self.sheet.peek(record, length)
-    }
-
-    fn dequeue(&mut self, length: usize) -> Checked {
-        self.calls += 1;
-        self.sheet.dequeue(length)
     }
 
     /// Any word of its profile, readable or not.
@@ -108,7 +148,7 @@ impl Run {
     /// A record that may be there, and now and then one that cannot.
     fn peek_some(&mut self) -> Checked {
         let wide = self.rng.once_in(10);
-        let likely = self.rng.below(self.sheet.bytes().len() / CELL + 2) as u64;
+        let likely = self.rng.below(self.expected.len() / CELL + 2) as u64;
         let record = if wide { *self.rng.pick(&NUMBERS) } else { likely };
         self.peek(record, CELL)
     }
@@ -137,7 +177,7 @@ impl Run {
     /// Writes a byte from outside, calls everything, and puts the sheet back as it was. Half of the
     /// time the byte is a link: byte 0 of a cell, or one of the two in cell 0.
     fn damage(&mut self) -> Checked {
-        let before = self.sheet.bytes().to_vec();
+        let before = self.expected.clone();
         let cells = before.len() / CELL;
         let link = self.rng.below(cells + 1);
         let (index, value) = if self.rng.once_in(2) {
@@ -145,12 +185,16 @@ impl Run {
         } else {
             (if link == cells { 1 } else { link * CELL }, self.rng.below((cells + 1).min(256)))
         };
-        self.sheet.poke(index, value as u8);
+        for sheet in [self.lent.lent_mut(), &mut self.expected] {
+            sheet[index] = value as u8;
+        }
         self.peek(1, CELL)?;
         self.enqueue_good()?;
         self.dequeue(CELL)?;
         self.faulty()?;
-        self.sheet.restore(&before);
+        for sheet in [self.lent.lent_mut(), &mut self.expected] {
+            sheet.copy_from_slice(&before);
+        }
         Ok(())
     }
 }

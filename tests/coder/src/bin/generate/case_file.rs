@@ -1,7 +1,7 @@
 //! A file of cases in the making: its input, its expected output, and the names of its groups.
 
+use coder::lines::boxlines;
 use coder::profile::{Profile, PROFILES};
-use coder::refusal::Refusal;
 
 /// What a buffer holds before a call, so that a byte changed by a refusal shows.
 pub const FILLER: u8 = 170;
@@ -47,22 +47,13 @@ impl CaseFile {
         self.lines
     }
 
-    /// A file of one group, whose input is not made of ended lines.
-    pub fn whole(name: &str, input: &[u8], expected: &str) -> CaseFile {
-        let lines = expected.lines().count();
+    /// A stream for boxlines as one group, ended or not, and all that is printed for it.
+    pub fn stream(name: &str, input: Vec<u8>) -> CaseFile {
+        let expected = boxlines(&input).into_bytes();
+        let lines = expected.iter().filter(|&&byte| byte == b'\n').count();
         let group = Group { name: name.to_string(), first: 1, last: lines };
-        CaseFile {
-            input: input.to_vec(),
-            expected: expected.as_bytes().to_vec(),
-            groups: vec![group],
-            lines,
-        }
+        CaseFile { input, expected, groups: vec![group], lines }
     }
-}
-
-/// How a refusal stands in the expected output.
-pub fn refusal_text(refusal: Refusal) -> String {
-    format!("R {}", refusal.number())
 }
 
 /// The profiles, and numbers that name none.

@@ -1,7 +1,5 @@
 //! The page that says which lines of which file hold what, so that a case has a name.
 
-use std::fmt::Write;
-
 use crate::case_file::{CaseFile, Group};
 
 const HEAD: &str = "\
@@ -10,6 +8,11 @@ const HEAD: &str = "\
 `generate` makes this page with the vectors; the formats are in [README.md](README.md).
 Lines are those of the input, and the expected output has one for each; where inputs share one, their answers stand in this order.
 A near miss is a decoder with one slip; coder/src/near_miss.rs says what the slip is.
+
+## Files
+
+| input | lines | bytes | longest line |
+|---|---|---|---|
 ";
 
 const GROUP_HEAD: &str = "
@@ -19,39 +22,28 @@ const GROUP_HEAD: &str = "
 |---|---|---|
 ";
 
-const FILE_HEAD: &str = "
-## Files
-
-| input | lines | bytes | longest line |
-|---|---|---|---|
-";
-
+/// The rows of both tables.
+#[derive(Default)]
 pub struct Page {
     files: String,
     groups: String,
 }
 
 impl Page {
-    pub fn new() -> Page {
-        Page { files: FILE_HEAD.to_string(), groups: GROUP_HEAD.to_string() }
-    }
-
     /// Adds a file's row and the rows of its groups.
     pub fn add(&mut self, path: &str, file: &CaseFile) {
         let lines = file.input.split(|&byte| byte == b'\n');
         let longest = lines.map(<[u8]>::len).max().unwrap_or(0);
         let (count, bytes) = (file.lines(), file.input.len());
-        writeln!(self.files, "| {path} | {count} | {bytes} | {longest} |")
-            .expect("a string takes any text");
+        self.files += &format!("| {path} | {count} | {bytes} | {longest} |\n");
         for Group { name, first, last } in &file.groups {
             let lines = if last < first { "none".into() } else { format!("{first} to {last}") };
-            writeln!(self.groups, "| {path} | {lines} | {name} |")
-                .expect("a string takes any text");
+            self.groups += &format!("| {path} | {lines} | {name} |\n");
         }
     }
 
     /// The whole page.
     pub fn text(&self) -> String {
-        [HEAD, &self.files, &self.groups].concat()
+        [HEAD, &self.files, GROUP_HEAD, &self.groups].concat()
     }
 }

@@ -48,7 +48,7 @@ pub fn make() -> CaseFile {
 }
 
 /// Adds the case of one line.
-fn add(file: &mut CaseFile, line: impl AsRef<[u8]>) {
+pub fn add(file: &mut CaseFile, line: impl AsRef<[u8]>) {
     let expected = answer(line.as_ref());
     file.case(line, &expected);
 }
@@ -61,7 +61,7 @@ fn add_all<const COUNT: usize>(file: &mut CaseFile, lines: [Vec<u8>; COUNT]) {
 }
 
 /// profile, one space, the digits of a word.
-fn line(profile: u8, word: &[u8]) -> String {
+pub fn line(profile: u8, word: &[u8]) -> String {
     format!("{profile} {}", digits(word))
 }
 

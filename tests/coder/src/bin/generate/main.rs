@@ -4,13 +4,10 @@
 
 mod case_file;
 mod contents;
-mod line_endings;
 mod line_forms;
-mod near_miss_words;
-mod near_misses;
 mod pairs;
-mod queue_run;
 mod sheets;
+mod streams;
 mod words;
 
 use std::path::PathBuf;
@@ -18,50 +15,46 @@ use std::process::ExitCode;
 
 use case_file::CaseFile;
 
-/// Where the input and the expected output go, from the root of the repository, and what makes
-/// them. Inputs of one program share its expected output, which joins theirs in this order.
-type Destination = (&'static str, &'static str, fn() -> CaseFile);
+/// A program of the gate: its crate, its inputs by name, and how often it runs all of them. Its
+/// expected output joins theirs, in this order.
+struct Program {
+    name: &'static str,
+    inputs: Vec<(String, CaseFile)>,
+    runs: usize,
+}
 
-#[rustfmt::skip]
-const DESTINATIONS: &[Destination] = &[
-    ("crates/codec_cases/stdin", "crates/codec_cases/stdout", pairs::make),
-    ("crates/codec_cases/data/words", "crates/codec_cases/stdout", words::make),
-    ("crates/queue_cases/stdin", "crates/queue_cases/stdout", sheets::make),
-    ("crates/boxlines/stdin", "crates/boxlines/stdout", line_endings::example),
-    ("crates/lines_cases/stdin", "crates/lines_cases/stdout", line_forms::make),
-    ("crates/lines_cases/data/02", "crates/lines_cases/stdout", line_endings::empty_input),
-    ("crates/lines_cases/data/03", "crates/lines_cases/stdout", line_endings::one_empty_line),
-    ("crates/lines_cases/data/04", "crates/lines_cases/stdout", line_endings::two_empty_lines),
-    ("crates/lines_cases/data/05", "crates/lines_cases/stdout", line_endings::ended),
-    ("crates/lines_cases/data/06", "crates/lines_cases/stdout", line_endings::unended),
-    ("crates/lines_cases/data/07", "crates/lines_cases/stdout", line_endings::second_unended),
-    ("crates/lines_cases/data/08", "crates/lines_cases/stdout", line_endings::malformed_unended),
-    ("crates/lines_cases/data/09", "crates/lines_cases/stdout", line_endings::return_unended),
-    ("crates/lines_cases/data/10", "crates/lines_cases/stdout", line_endings::longest_unended),
-    ("crates/lines_cases/data/11", "crates/lines_cases/stdout", line_endings::too_long_unended),
-    ("crates/lines_cases/data/12", "crates/lines_cases/stdout", line_endings::too_long_ended),
-    ("crates/lines_cases/data/13", "crates/lines_cases/stdout", line_endings::very_long_unended),
-    ("crates/lines_cases/data/14", "crates/lines_cases/stdout", line_endings::very_long_then_good),
-    ("crates/lines_cases/data/15", "crates/lines_cases/stdout", line_endings::good_then_very_long),
-];
+fn programs() -> [Program; 4] {
+    let one = |name: &str, file: CaseFile| (name.to_string(), file);
+    let codec = vec![one("stdin", pairs::make()), one("data/words", words::make())];
+    let lines = [line_forms::make()].into_iter().chain(streams::endings());
+    let lines = lines.zip(1..).map(|(file, number)| (format!("data/{number:02}"), file));
+    [
+        Program { name: "codec_cases", inputs: codec, runs: 1 },
+        Program { name: "queue_cases", inputs: vec![one("stdin", sheets::make())], runs: 1 },
+        Program { name: "boxlines", inputs: vec![one("stdin", streams::long())], runs: 1 },
+        // Once for each way to cut the inputs.
+        Program { name: "lines_cases", inputs: lines.collect(), runs: 4 },
+    ]
+}
 
 /// The page that names the cases, made with them.
 const CONTENTS: &str = "tests/VECTORS.md";
 
 /// Every file: its path from the root of the repository, and its bytes.
-fn files() -> Vec<(&'static str, Vec<u8>)> {
-    let mut files: Vec<(&'static str, Vec<u8>)> = Vec::new();
-    let mut page = contents::Page::new();
-    for (input, expected, make) in DESTINATIONS {
-        let made = make();
-        page.add(input, &made);
-        files.push((*input, made.input));
-        match files.iter_mut().find(|(path, _)| path == expected) {
-            Some((_, joined)) => joined.extend(made.expected),
-            None => files.push((*expected, made.expected)),
+fn files() -> Vec<(String, Vec<u8>)> {
+    let mut files = Vec::new();
+    let mut page = contents::Page::default();
+    for Program { name, inputs, runs } in programs() {
+        let mut expected = Vec::new();
+        for (input, made) in inputs {
+            let path = format!("crates/{name}/{input}");
+            page.add(&path, &made);
+            expected.extend(made.expected);
+            files.push((path, made.input));
         }
+        files.push((format!("crates/{name}/stdout"), expected.repeat(runs)));
     }
-    files.push((CONTENTS, page.text().into_bytes()));
+    files.push((CONTENTS.to_string(), page.text().into_bytes()));
     files
 }
 
@@ -73,22 +66,19 @@ fn in_repository(path: &str) -> PathBuf {
 /// Writes every file; names one that cannot be written. Whether all were.
 fn write() -> bool {
     files().into_iter().all(|(path, bytes)| {
-        let written = std::fs::write(in_repository(path), bytes);
+        let written = std::fs::write(in_repository(&path), bytes);
         written.map_err(|error| eprintln!("{path}: {error}")).is_ok()
     })
 }
 
 /// Names every stored file that is missing or no longer what is made here; whether there is none.
 fn check() -> bool {
-    let stale: Vec<&str> = files()
-        .into_iter()
-        .filter(|(path, bytes)| std::fs::read(in_repository(path)).ok().as_ref() != Some(bytes))
-        .map(|(path, _)| path)
-        .collect();
-    for path in &stale {
+    let mut files = files();
+    files.retain(|(path, bytes)| std::fs::read(in_repository(path)).ok().as_ref() != Some(bytes));
+    for (path, _) in &files {
         println!("not what generate makes: {path}");
     }
-    stale.is_empty()
+    files.is_empty()
 }
 
 fn main() -> ExitCode {
@@ -106,4 +96,11 @@ fn main() -> ExitCode {
     } else {
         ExitCode::FAILURE
     }
+}
+
+/// With the files, what making them insists on is tried: that the list answers every call on the
+/// queue as the queue does, and that a stream's lines are answered one by one.
+#[test]
+fn the_stored_files_are_what_is_made() {
+    assert!(check());
 }

@@ -3,13 +3,13 @@
 use std::iter::repeat_with;
 
 use coder::codeword::{codewords, Messages};
-use coder::encode::{encode, encoded_word};
+use coder::encode::encode;
 use coder::examples;
 use coder::profile::{Profile, PROFILES};
 use coder::rng::Rng;
-use coder::text::{digits, symbols};
+use coder::text::digits;
 
-use crate::case_file::{refusal_text, row_for, CaseFile, FILLER, PROFILE_NUMBERS};
+use crate::case_file::{row_for, CaseFile, FILLER, PROFILE_NUMBERS};
 
 const SEED: u64 = 0x7061_6972;
 
@@ -36,14 +36,9 @@ fn add(file: &mut CaseFile, profile: u8, [first, second]: &Messages, length: usi
     let mut output = vec![FILLER; length];
     let expected = match encode(profile, first, second, &mut output) {
         Ok(()) => digits(&output),
-        Err(refusal) => refusal_text(refusal),
+        Err(refusal) => refusal.to_string(),
     };
-    file.case(input_line(profile, first, second, length), &expected);
-}
-
-/// profile, both messages, length of the output.
-fn input_line(profile: u8, first: &[u8], second: &[u8], length: usize) -> String {
-    format!("{profile} {} {} {length}", digits(first), digits(second))
+    file.case(format!("{profile} {} {} {length}", digits(first), digits(second)), &expected);
 }
 
 /// Adds the case of two messages with an output of the right length.
@@ -54,10 +49,8 @@ fn add_pair(file: &mut CaseFile, profile: &Profile, messages: &Messages) {
 /// 01's own cases, with 01's words.
 fn cases_of_01(file: &mut CaseFile) {
     file.group("cases of 01");
-    for case in examples::encoded() {
-        let (first, second) = (symbols(&case.first), symbols(&case.second));
-        let line = input_line(case.profile, &first, &second, case.word.len());
-        file.case(line, &case.word);
+    for (profile, [first, second], word) in examples::encoded() {
+        file.case(format!("{profile} {first} {second} {}", word.len()), &word);
     }
 }
 
@@ -96,16 +89,11 @@ fn unit_messages(file: &mut CaseFile) {
     single_symbols(file, |profile| [profile.q, 9]);
 }
 
-/// A near miss of the encoder: the word that is found first if v is tried before s.
-fn encoded_v_first(profile: &Profile, messages: &Messages) -> Vec<u8> {
-    let words = codewords(profile, messages).into_iter();
-    let first = words.min_by_key(|(choice, _)| (choice.v, choice.s));
-    first.expect("01: a balancing choice always exists").1
-}
-
-/// Whether the word depends on the order in which s and v are tried.
+/// Whether the word depends on the order of trying: another is found first if v is before s.
 fn depends_on_order(profile: &Profile, messages: &Messages) -> bool {
-    encoded_v_first(profile, messages) != encoded_word(profile, messages)
+    let words = codewords(profile, messages);
+    let v_first = words.iter().min_by_key(|(choice, _)| (choice.v, choice.s));
+    v_first != words.first()
 }
 
 /// Pairs that an encoder which tries v before s gets wrong.
@@ -138,17 +126,12 @@ fn order_of_refusals(file: &mut CaseFile, rng: &mut Rng) {
         let [firsts, seconds] = rng.messages(profile).map(|message| variants(profile, &message));
         for first in &firsts {
             for second in &seconds {
-                add_every_length(file, number, &[first.clone(), second.clone()]);
+                let length = profile.word_length();
+                for length in [length, length - 1, length + 1, 0] {
+                    add(file, number, &[first.clone(), second.clone()], length);
+                }
             }
         }
-    }
-}
-
-/// Adds the case of two messages with an output of the right length, and of wrong ones.
-fn add_every_length(file: &mut CaseFile, profile: u8, messages: &Messages) {
-    let length = row_for(profile).word_length();
-    for length in [length, length - 1, length + 1, 0] {
-        add(file, profile, messages, length);
     }
 }
 
@@ -166,17 +149,10 @@ fn variants(profile: &Profile, message: &[u8]) -> [Vec<u8>; 6] {
     ]
 }
 
-#[cfg(test)]
-mod tests {
-    use super::*;
-
-    /// The zero pair is balanced by s = 0 and v = 1, which both orders try first.
-    #[test]
-    fn the_order_of_trying_matters_to_some_pairs() {
-        let depends = |first: &str, second: &str| {
-            depends_on_order(&PROFILES[0], &[symbols(first), symbols(second)])
-        };
-        assert!(!depends("00000", "00000"));
-        assert!(depends("20000", "12002"));
-    }
+/// The zero pair is balanced by s = 0 and v = 1, which both orders try first.
+#[test]
+fn the_order_of_trying_matters_to_some_pairs() {
+    let depends = |pair: [&str; 2]| depends_on_order(&PROFILES[0], &pair.map(coder::text::symbols));
+    assert!(!depends(["00000", "00000"]));
+    assert!(depends(["20000", "12002"]));
 }

@@ -6,15 +6,15 @@ use coder::balance::balanced_words;
 use coder::codeword::with_check_symbols;
 use coder::decode::{decode, replaced, within_one};
 use coder::examples::DECODED;
+use coder::near_misses::NEAR_MISSES;
 use coder::profile::{Profile, PROFILES};
 use coder::random_words::{
     both_check_symbols, by_another_choice, changed_at, codeword, encoded, with_changes, Build,
 };
 use coder::rng::Rng;
-use coder::text::{digits, symbols};
+use coder::text::digits;
 
-use crate::case_file::{refusal_text, row_for, CaseFile, FILLER, PROFILE_NUMBERS};
-use crate::near_misses::NEAR_MISSES;
+use crate::case_file::{row_for, CaseFile, FILLER, PROFILE_NUMBERS};
 
 const SEED: u64 = 0x776f_7264;
 
@@ -50,18 +50,10 @@ pub fn make() -> CaseFile {
 fn add(file: &mut CaseFile, profile: u8, word: &[u8], lengths: [usize; 2]) {
     let [mut first, mut second] = lengths.map(|length| vec![FILLER; length]);
     let expected = match decode(profile, word, &mut first, &mut second) {
-        Ok(decoded) => {
-            let (kind, place, symbol) = decoded.parts();
-            format!("{kind} {place} {symbol} {} {}", digits(&first), digits(&second))
-        }
-        Err(refusal) => refusal_text(refusal),
+        Ok(decoded) => decoded.answer(&first, &second),
+        Err(refusal) => refusal.to_string(),
     };
-    file.case(input_line(profile, word, lengths), &expected);
-}
-
-/// profile, word, lengths of both outputs.
-fn input_line(profile: u8, word: &[u8], [first, second]: [usize; 2]) -> String {
-    format!("{profile} {} {first} {second}", digits(word))
+    file.case(format!("{profile} {} {} {}", digits(word), lengths[0], lengths[1]), &expected);
 }
 
 /// Adds the case of a word with outputs of the right length.
@@ -73,9 +65,7 @@ fn add_word(file: &mut CaseFile, profile: &Profile, word: &[u8]) {
 fn cases_of_01(file: &mut CaseFile) {
     file.group("cases of 01");
     for (word, expected) in DECODED {
-        let profile = &PROFILES[0];
-        let line = input_line(profile.number, &symbols(word), [profile.k(); 2]);
-        file.case(line, expected);
+        file.case(format!("1 {word} 5 5"), expected);
     }
 }
 
@@ -157,18 +147,11 @@ fn order_of_refusals(file: &mut CaseFile, rng: &mut Rng) {
             [&replaced(&word, 1, 9)[..], &[0]].concat(),
             changed_at(profile, &word, &[1, 2], rng),
         ];
+        let lengths = [profile.k(), profile.k() - 1, profile.k() + 1, 0];
         for word in &words {
-            add_every_length(file, number, word);
-        }
-    }
-}
-
-/// Adds the case of a word with outputs of the right length, and of wrong ones.
-fn add_every_length(file: &mut CaseFile, profile: u8, word: &[u8]) {
-    let k = row_for(profile).k();
-    for first in [k, k - 1, k + 1, 0] {
-        for second in [k, k - 1, k + 1, 0] {
-            add(file, profile, word, [first, second]);
+            for pair in 0..16 {
+                add(file, number, word, [lengths[pair / 4], lengths[pair % 4]]);
+            }
         }
     }
 }

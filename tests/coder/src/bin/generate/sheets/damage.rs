@@ -4,8 +4,8 @@
 use coder::list::CELL;
 use coder::queue::is_sound;
 
+use super::calls::Call;
 use super::{Maker, DEQUEUE, PEEK};
-use crate::queue_run::Call;
 
 /// Cell, byte and value: what is written into a queue with the used list 1, 2, 3 of profiles 1, 4,
 /// 2 and the free list 4, 5. Three of these leave it sound: another box, symbol or profile.
@@ -45,28 +45,21 @@ const OTHER_ORDERS: [(usize, usize, u8); 10] = [
 ];
 
 impl Maker {
-    pub fn damage(&mut self) {
-        self.every_damage();
-        self.other_orders();
-        self.every_byte();
-        self.long_damage();
-    }
-
     /// Pokes a byte, makes calls and pokes it back. A queue that is still sound is only looked at.
     pub fn poke_and_repair(&mut self, index: usize, value: u8) {
-        let before = self.run.buffer[index];
-        self.call(Call::Poke { index, value });
+        let before = self.buffer[index];
+        self.call(Call::Poke(index, value));
         self.call(PEEK);
-        if !is_sound(&self.run.buffer) {
+        if !is_sound(&self.buffer) {
             let enqueue = self.enqueue();
             self.calls([enqueue, DEQUEUE]);
         }
-        self.call(Call::Poke { index, value: before });
+        self.call(Call::Poke(index, before));
         self.call(PEEK);
     }
 
     /// DAMAGES, one after the other.
-    fn every_damage(&mut self) {
+    pub fn every_damage(&mut self) {
         self.file
             .group("damage of every kind, met and repaired: used list 1, 2, 3, free list 4, 5");
         self.start(5);
@@ -80,32 +73,32 @@ impl Maker {
     }
 
     /// OTHER_ORDERS, then calls that show both lists.
-    fn other_orders(&mut self) {
+    pub fn other_orders(&mut self) {
         self.file.group("a sound queue that no call leaves behind: used list 4, 3, free list 2, 1");
         self.start(4);
         for (cell, byte, value) in OTHER_ORDERS {
-            self.calls([Call::Poke { index: cell * CELL + byte, value }, PEEK]);
+            self.calls([Call::Poke(cell * CELL + byte, value), PEEK]);
         }
         self.fill(3);
         self.calls([DEQUEUE; 5]);
     }
 
     /// No byte can be 255 in a queue of two cells.
-    fn every_byte(&mut self) {
+    pub fn every_byte(&mut self) {
         self.file.group("255 at every byte of a queue with one used and one free cell");
         self.start(2);
         let enqueue = self.enqueue_of(2);
         self.call(enqueue);
-        for index in 0..self.run.buffer.len() {
-            let before = self.run.buffer[index];
-            let poke = |value: u8| Call::Poke { index, value };
+        for index in 0..self.buffer.len() {
+            let before = self.buffer[index];
+            let poke = |value: u8| Call::Poke(index, value);
             self.calls([poke(255), DEQUEUE, poke(before)]);
         }
         self.call(DEQUEUE);
     }
 
     /// LONG_DAMAGES, one after the other.
-    fn long_damage(&mut self) {
+    pub fn long_damage(&mut self) {
         self.file.group("damage of long lists: R = 255, used list 1 to 128, free list 129 to 255");
         self.start(255);
         self.fill(128);

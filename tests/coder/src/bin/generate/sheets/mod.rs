@@ -1,15 +1,16 @@
 //! sheets: runs of calls on the queue (01: the sheet), refused calls and damage among them.
 
+mod calls;
 mod damage;
 mod refusals;
 mod runs;
 
-use coder::list::{CELL, LAST_BOX};
+use coder::list::{RecordList, CELL, LAST_BOX};
 use coder::profile::PROFILES;
 use coder::rng::Rng;
 
 use crate::case_file::{row_for, CaseFile};
-use crate::queue_run::{Call, QueueRun};
+use calls::Call;
 
 const SEED: u64 = 0x7368_6565;
 
@@ -19,43 +20,43 @@ const LENGTHS: [usize; 17] = [
 ];
 
 /// Calls that a queue with a record does not refuse.
-const PEEK: Call = Call::Peek { record: 1, output_length: CELL };
-const DEQUEUE: Call = Call::Dequeue { output_length: CELL };
+const PEEK: Call = Call::Peek(1, CELL);
+const DEQUEUE: Call = Call::Dequeue(CELL);
 
 pub fn make() -> CaseFile {
-    let mut maker = Maker { file: CaseFile::default(), run: QueueRun::new(), rng: Rng::new(SEED) };
+    let mut maker = Maker::default();
     maker.layouts();
     maker.one_cell();
-    maker.refusals();
-    maker.damage();
-    maker.runs();
+    maker.order_of_refusals();
+    maker.every_box();
+    maker.every_damage();
+    maker.other_orders();
+    maker.every_byte();
+    maker.long_damage();
+    maker.random_runs();
+    maker.full_day();
     maker.file
 }
 
-/// The file in the making, and the queue that its calls are made on.
+/// The file in the making, the queue that its calls are made on, and the list that it must answer as.
 struct Maker {
     file: CaseFile,
-    run: QueueRun,
+    buffer: Vec<u8>,
+    list: RecordList,
     rng: Rng,
 }
 
+impl Default for Maker {
+    fn default() -> Maker {
+        let (file, list) = (CaseFile::default(), RecordList::new(0));
+        Maker { file, buffer: Vec::new(), list, rng: Rng::new(SEED) }
+    }
+}
+
 impl Maker {
-    /// Makes a call and adds its case.
-    fn call(&mut self, call: Call) {
-        self.run.call(&mut self.file, call);
-    }
-
-    /// Makes several calls.
-    fn calls(&mut self, calls: impl IntoIterator<Item = Call>) {
-        for call in calls {
-            self.call(call);
-        }
-    }
-
     /// A new, formatted queue of this capacity (01: R).
     fn start(&mut self, capacity: usize) {
-        let length = (capacity + 1) * CELL;
-        self.calls([Call::New { length }, Call::Format]);
+        self.calls([Call::New((capacity + 1) * CELL), Call::Format]);
     }
 
     /// An enqueue that only 5, 6 or 8 can refuse; the word is any word of its profile.
@@ -67,11 +68,8 @@ impl Maker {
     /// The same with a given profile.
     fn enqueue_of(&mut self, profile: u8) -> Call {
         let row = row_for(profile);
-        Call::Enqueue {
-            box_number: self.rng.from_one_to(usize::from(LAST_BOX)) as u8,
-            profile,
-            word: self.rng.word(row.q, row.word_length()),
-        }
+        let box_number = self.rng.from_one_to(usize::from(LAST_BOX)) as u8;
+        Call::Enqueue(box_number, profile, self.rng.word(row.q, row.word_length()))
     }
 
     /// Enqueues this many records.
@@ -89,11 +87,11 @@ impl Maker {
         for length in LENGTHS {
             let enqueue = self.enqueue_of(1);
             let uses = [enqueue, PEEK, DEQUEUE];
-            self.call(Call::New { length });
-            self.calls(uses.clone());
-            self.call(Call::Format);
-            self.calls(uses);
-            self.call(Call::Format);
+            self.call(Call::New(length));
+            for _ in 0..2 {
+                self.calls(uses.clone());
+                self.call(Call::Format);
+            }
         }
     }
 

@@ -3,43 +3,33 @@
 use coder::list::{CELL, LAST_BOX};
 use coder::profile::PROFILES;
 
+use super::calls::Call;
 use super::{Maker, DEQUEUE};
 use crate::case_file::{row_for, PROFILE_NUMBERS};
-use crate::queue_run::Call;
 
-/// A queue on which the order of refusals is tried.
-struct State {
-    name: &'static str,
-    length: usize,
-    records: usize,
-    damaged: bool,
-}
+/// A queue on which the order of refusals is tried: its name, its length, how many records it has,
+/// and whether it is damaged.
+type State = (&'static str, usize, usize, bool);
 
-#[rustfmt::skip]
 const STATES: [State; 5] = [
-    State { name: "wrong length", length: 3 * CELL - 1, records: 0, damaged: false },
-    State { name: "unsound", length: 3 * CELL, records: 1, damaged: true },
-    State { name: "full", length: 3 * CELL, records: 2, damaged: false },
-    State { name: "empty", length: 3 * CELL, records: 0, damaged: false },
-    State { name: "one record and room", length: 3 * CELL, records: 1, damaged: false },
+    ("wrong length", 3 * CELL - 1, 0, false),
+    ("unsound", 3 * CELL, 1, true),
+    ("full", 3 * CELL, 2, false),
+    ("empty", 3 * CELL, 0, false),
+    ("one record and room", 3 * CELL, 1, false),
 ];
 
 impl Maker {
-    pub fn refusals(&mut self) {
-        self.order_of_refusals();
-        self.every_box();
-    }
-
     /// Every fault of each call's arguments, alone and together, on a queue of a wrong length, an
     /// unsound one, and sound ones. A call that changes the queue is followed by a new queue.
-    fn order_of_refusals(&mut self) {
-        for state in &STATES {
-            self.file.group(format!("refusals, alone and together, in 01's order: {}", state.name));
+    pub fn order_of_refusals(&mut self) {
+        for state in STATES {
+            self.file.group(format!("refusals, alone and together, in 01's order: {}", state.0));
             self.prepare(state);
             for call in self.calls_with_faults() {
-                let before = self.run.buffer.clone();
+                let before = self.buffer.clone();
                 self.call(call);
-                if self.run.buffer != before {
+                if self.buffer != before {
                     self.prepare(state);
                 }
             }
@@ -47,11 +37,11 @@ impl Maker {
     }
 
     /// A new queue in this state.
-    fn prepare(&mut self, state: &State) {
-        self.calls([Call::New { length: state.length }, Call::Format]);
-        self.fill(state.records);
-        if state.damaged {
-            self.call(Call::Poke { index: 2, value: 1 });
+    fn prepare(&mut self, (_, length, records, is_damaged): State) {
+        self.calls([Call::New(length), Call::Format]);
+        self.fill(records);
+        if is_damaged {
+            self.call(Call::Poke(2, 1));
         }
     }
 
@@ -63,26 +53,26 @@ impl Maker {
             let right = self.rng.word(row.q, row.word_length());
             for box_number in [1, LAST_BOX, 0, LAST_BOX + 1, 255] {
                 let words = word_variants(row.q, &right);
-                calls.extend(words.map(|word| Call::Enqueue { box_number, profile, word }));
+                calls.extend(words.map(|word| Call::Enqueue(box_number, profile, word)));
             }
         }
-        for output_length in [CELL, CELL - 1, CELL + 1, 0, 2 * CELL] {
-            let peeks = [1, 2, 3, 0, 255].map(|record| Call::Peek { record, output_length });
+        for length in [CELL, CELL - 1, CELL + 1, 0, 2 * CELL] {
+            let peeks = [1, 2, 3, 0, 255].map(|record| Call::Peek(record, length));
             calls.extend(peeks);
-            calls.push(Call::Dequeue { output_length });
+            calls.push(Call::Dequeue(length));
         }
         calls
     }
 
     /// "Any box number may come with any profile."
-    fn every_box(&mut self) {
+    pub fn every_box(&mut self) {
         self.file.group("every box number, and those beyond, with every profile");
         self.start(16);
         for profile in &PROFILES {
             for box_number in (0..=LAST_BOX + 1).chain([255]) {
                 let word = self.rng.word(profile.q, profile.word_length());
                 let profile = profile.number;
-                self.calls([Call::Enqueue { box_number, profile, word }, DEQUEUE]);
+                self.calls([Call::Enqueue(box_number, profile, word), DEQUEUE]);
             }
         }
     }

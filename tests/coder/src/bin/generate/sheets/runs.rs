@@ -2,8 +2,8 @@
 
 use coder::list::CELL;
 
+use super::calls::Call;
 use super::{Maker, DEQUEUE};
-use crate::queue_run::Call;
 
 /// The capacities of the random runs, and how many calls each has.
 const RANDOM_RUNS: [(usize, usize); 5] = [(1, 300), (2, 400), (3, 500), (16, 900), (255, 1500)];
@@ -12,11 +12,10 @@ const RANDOM_RUNS: [(usize, usize); 5] = [(1, 300), (2, 400), (3, 500), (16, 900
 const ROTATIONS: usize = 1600;
 
 impl Maker {
-    pub fn runs(&mut self) {
+    pub fn random_runs(&mut self) {
         for (capacity, calls) in RANDOM_RUNS {
             self.random_run(capacity, calls);
         }
-        self.full_day();
     }
 
     /// Random calls on a queue that fills and drains by turns; some refused, some on damage.
@@ -30,7 +29,7 @@ impl Maker {
                 1 => self.random_fault(),
                 2 | 3 => {
                     let record = self.rng.below((capacity + 2).min(256)) as u8;
-                    self.call(Call::Peek { record, output_length: CELL });
+                    self.call(Call::Peek(record, CELL));
                 }
                 draw => {
                     let call = if filling == (draw < 15) { self.enqueue() } else { DEQUEUE };
@@ -42,7 +41,7 @@ impl Maker {
 
     /// Any byte, set to any value and back.
     fn random_damage(&mut self) {
-        let index = self.rng.below(self.run.buffer.len());
+        let index = self.rng.below(self.buffer.len());
         let value = self.rng.below(256) as u8;
         self.poke_and_repair(index, value);
     }
@@ -56,7 +55,7 @@ impl Maker {
 
     /// Fills 255 cells, goes round them, drains them in two steps, and does so once more with the
     /// free list in the order that this leaves.
-    fn full_day(&mut self) {
+    pub fn full_day(&mut self) {
         self.file.group("a day on R = 255 that goes round the cells many times");
         self.start(255);
         for rotations in [ROTATIONS, 0] {
@@ -66,7 +65,7 @@ impl Maker {
                 self.calls([DEQUEUE, enqueue]);
                 if count % 8 == 0 {
                     let record = self.rng.from_one_to(255) as u8;
-                    self.call(Call::Peek { record, output_length: CELL });
+                    self.call(Call::Peek(record, CELL));
                 }
             }
             self.calls([DEQUEUE; 100]);

@@ -1,18 +1,18 @@
 //! How the words of each near miss are built at random. An attempt may give none, or a word that
 //! the near miss gets right after all.
 
-use coder::balance::{add, balanced_words, choices, subtract};
-use coder::codeword::{check_symbols, interleave, with_check_symbols};
-use coder::component::component_with_syndrome;
-use coder::decode::replaced;
-use coder::near_miss::printed_delta;
-use coder::profile::Profile;
-use coder::random_words::{changed_at, codeword, components, excess, with_changes};
-use coder::rng::Rng;
+use crate::balance::{add, balanced_words, choices, subtract};
+use crate::codeword::{check_symbols, interleave, with_check_symbols};
+use crate::component::component_with_syndrome;
+use crate::decode::replaced;
+use crate::near_miss::printed_delta;
+use crate::profile::Profile;
+use crate::random_words::{changed_at, codeword, components, excess};
+use crate::rng::Rng;
 
 /// A word with right check symbols whose weight is off by q, with one more symbol changed: away
 /// from the balancing value or back toward it.
-fn off_balance(profile: &Profile, rng: &mut Rng, away: bool) -> Option<Vec<u8>> {
+pub fn off_balance(profile: &Profile, rng: &mut Rng, away: bool) -> Option<Vec<u8>> {
     let x = interleave(&components(profile, rng));
     let unbalanced: Vec<Vec<u8>> = choices(profile.q, x.len())
         .map(|choice| choice.apply(profile.q, &x))
@@ -30,32 +30,12 @@ fn off_balance(profile: &Profile, rng: &mut Rng, away: bool) -> Option<Vec<u8>> 
     ((raised == heavy) == away).then(|| replaced(&word, position, symbol))
 }
 
-/// Off balance by q, and by more with one symbol changed.
-pub fn away_from_balance(profile: &Profile, rng: &mut Rng) -> Option<Vec<u8>> {
-    off_balance(profile, rng, true)
-}
-
-/// Off balance by q, and by less with one symbol changed.
-pub fn back_to_balance(profile: &Profile, rng: &mut Rng) -> Option<Vec<u8>> {
-    off_balance(profile, rng, false)
-}
-
 /// A codeword with one symbol of w changed, and the check symbol of that parity too.
 pub fn symbol_and_its_check(profile: &Profile, rng: &mut Rng) -> Option<Vec<u8>> {
     let position = rng.from_one_to(profile.m());
     let check = if position % 2 == 1 { profile.m() + 1 } else { profile.m() + 2 };
     let word = codeword(profile, rng);
     Some(changed_at(profile, &word, &[position, check], rng))
-}
-
-/// A codeword with one symbol changed.
-pub fn one_symbol(profile: &Profile, rng: &mut Rng) -> Option<Vec<u8>> {
-    Some(with_changes(profile, 1, rng))
-}
-
-/// A codeword as it is.
-pub fn any_codeword(profile: &Profile, rng: &mut Rng) -> Option<Vec<u8>> {
-    Some(codeword(profile, rng))
 }
 
 /// A codeword whose α is the one that 002's printed δ gives.
@@ -94,16 +74,11 @@ pub fn position_zero(profile: &Profile, rng: &mut Rng) -> Option<Vec<u8>> {
     with_components(profile, &in_either_order([in_code, off], rng))
 }
 
-/// A first component in code, and a random second one.
-pub fn second_random(profile: &Profile, rng: &mut Rng) -> Option<Vec<u8>> {
-    let [first, _] = components(profile, rng);
-    with_components(profile, &[first, rng.word(profile.q, profile.n)])
-}
-
-/// A random first component, and a second one in code.
-pub fn first_random(profile: &Profile, rng: &mut Rng) -> Option<Vec<u8>> {
-    let [_, second] = components(profile, rng);
-    with_components(profile, &[rng.word(profile.q, profile.n), second])
+/// Components in code, one of them (0 or 1) replaced by a random one.
+pub fn one_random(profile: &Profile, rng: &mut Rng, replaced: usize) -> Option<Vec<u8>> {
+    let mut components = components(profile, rng);
+    components[replaced] = rng.word(profile.q, profile.n);
+    with_components(profile, &components)
 }
 
 /// The component with an amount added at a random position.

@@ -1,0 +1,142 @@
+//! Received words that a near miss of a decoder gets wrong, by name. Each is looked for: words are
+//! built at random in the way its row says until the slip answers one of them differently.
+
+use crate::codeword::with_check_symbols;
+use crate::decode::search;
+use crate::examples::POSITION_ZERO_W;
+use crate::near_miss::{self, Slip};
+use crate::profile::{Profile, PROFILES};
+use crate::random_words::{both_check_symbols, by_another_choice, codeword, with_changes, Build};
+use crate::rng::Rng;
+use crate::text::symbols;
+
+use crate::near_miss_words::*;
+
+/// A slip, whether the right decoder decodes the words that tell it or refuses them, how they are
+/// built, and what they are called.
+pub struct NearMiss {
+    pub slip: Slip,
+    decodes: bool,
+    build: Build,
+    pub name: &'static str,
+}
+
+const fn decodes(slip: Slip, build: Build, name: &'static str) -> NearMiss {
+    NearMiss { slip, decodes: true, build, name }
+}
+
+const fn refuses(slip: Slip, build: Build, name: &'static str) -> NearMiss {
+    NearMiss { slip, decodes: false, build, name }
+}
+
+#[rustfmt::skip]
+pub const NEAR_MISSES: [NearMiss; 13] = [
+    refuses(Slip::ExcessReduced, |profile, rng| off_balance(profile, rng, true),
+        "weight off by q or more, and one check sum off"),
+    refuses(Slip::CheckSumOffByAny, symbol_and_its_check,
+        "check sum off by something other than the weight's excess mod q"),
+    refuses(Slip::PositionZero, position_zero,
+        "syndrome of zeros with a last 1; the first word has w = 00200111222111021"),
+    refuses(Slip::BalanceIsClean, both_check_symbols,
+        "both check symbols wrong on a balanced word"),
+    decodes(Slip::FirstInRange, |profile, rng| Some(with_changes(profile, 1, rng)),
+        "the first position in range is not the right one"),
+    decodes(Slip::EncodedWordOnly, by_another_choice,
+        "codeword by a choice that the encoder does not make"),
+    refuses(Slip::RemovedModQ, |profile, rng| off_balance(profile, rng, false),
+        "error that would be accepted if removed mod q"),
+    refuses(Slip::FirstComponentOnly, |profile, rng| one_random(profile, rng, 1),
+        "decodes if only the first component is tested"),
+    refuses(Slip::SecondComponentOnly, |profile, rng| one_random(profile, rng, 0),
+        "decodes if only the second component is tested"),
+    refuses(Slip::BothTaken, one_added_to_both,
+        "both components have a 1 to be taken"),
+    refuses(Slip::LastRowIgnored, more_than_one_added,
+        "component with more than 1 added at one position"),
+    decodes(Slip::PrintedDelta, alpha_by_printed_delta,
+        "alpha by the printed delta, which is right for q = 3"),
+    decodes(Slip::CheckSymbolsAdded, |profile, rng| Some(codeword(profile, rng)),
+        "codeword whose check symbols must be subtracted, not added"),
+];
+
+/// How many words are built before a slip is taken to do no harm in a profile.
+const ATTEMPTS: usize = 4000;
+
+impl NearMiss {
+    /// Words of the profile that the slip gets wrong. There are none where it does no harm: the
+    /// printed δ is right for q = 3.
+    pub fn words(&self, profile: &Profile, count: usize, rng: &mut Rng) -> Vec<Vec<u8>> {
+        let known = self.slip == Slip::PositionZero && profile == &PROFILES[0];
+        let known = known.then(|| with_check_symbols(profile, &symbols(POSITION_ZERO_W)));
+        let built = (0..ATTEMPTS).filter_map(|_| (self.build)(profile, rng));
+        let words = known.into_iter().chain(built);
+        words.filter(|word| self.gets_wrong(profile, word)).take(count).collect()
+    }
+
+    /// Whether the slip answers the word otherwise than the right decoder, which does as named.
+    fn gets_wrong(&self, profile: &Profile, word: &[u8]) -> bool {
+        let right = search(profile, word);
+        right.is_some() == self.decodes
+            && near_miss::decode(profile, word, Some(self.slip)) != right
+    }
+}
+
+#[cfg(test)]
+mod tests {
+    use crate::balance::subtract;
+    use crate::codeword::{check_symbols, components_of};
+    use crate::component::syndrome;
+    use crate::random_words::excess;
+
+    use super::*;
+
+    /// Every slip has words in every profile that tell it from the right decoder, which is what
+    /// the search and 002's steps without a slip agree on; and the words are as they are called.
+    #[test]
+    fn every_slip_is_told() {
+        let rng = &mut Rng::new(1);
+        for near_miss in &NEAR_MISSES {
+            for profile in &PROFILES {
+                let words = near_miss.words(profile, 3, rng);
+                let harmless = near_miss.slip == Slip::PrintedDelta && profile.q == 3;
+                assert_eq!(words.len(), if harmless { 0 } else { 3 }, "{}", near_miss.name);
+                for word in words {
+                    assert_eq!(near_miss::decode(profile, &word, None), search(profile, &word));
+                    assert!(is_as_called(profile, near_miss.slip, &word), "{}", near_miss.name);
+                }
+            }
+        }
+    }
+
+    /// Whether the weight and the check sums are off as the word's name says, where it says so.
+    fn is_as_called(profile: &Profile, slip: Slip, word: &[u8]) -> bool {
+        let (w, received) = word.split_at(profile.m());
+        let (excess, q) = (excess(profile, w), i64::from(profile.q));
+        let sums = check_symbols(profile, w);
+        let off = [0, 1].map(|index| subtract(profile.q, sums[index], received[index]));
+        let one_off = off.contains(&0) && off != [0, 0];
+        match slip {
+            Slip::ExcessReduced => excess.abs() >= q && one_off,
+            Slip::CheckSumOffByAny => {
+                excess != 0
+                    && off.contains(&0)
+                    && i64::from(off[0] + off[1]) != excess.rem_euclid(q)
+            }
+            Slip::BalanceIsClean => excess == 0 && !off.contains(&0),
+            _ => true,
+        }
+    }
+
+    /// The known word names position 0: it is balanced, one component is in code, and the other
+    /// has a syndrome of zeros with a last 1.
+    #[test]
+    fn the_known_word_of_position_zero_is_refused() {
+        let profile = &PROFILES[0];
+        let w = symbols(POSITION_ZERO_W);
+        assert_eq!(excess(profile, &w), 0);
+        let mut syndromes = components_of(profile, &w).map(|c| syndrome(profile, &c));
+        syndromes.sort();
+        assert_eq!(syndromes, [[0, 0, 0], [0, 0, 1]]);
+        assert_eq!(search(profile, &with_check_symbols(profile, &w)), None);
+    }
+}

@@ -1,0 +1,31 @@
+//! Compares a coder's entry points, and the program boxlines, with the separately written coder:
+//! every answer, and every byte of every buffer after each call. The seeds are fixed.
+
+mod calls;
+mod compare;
+mod every_word;
+mod lines;
+mod pairs;
+mod parallel;
+mod received;
+mod refusals;
+mod sheets;
+
+use fogzurt::EntryPoints;
+
+pub use calls::{number_of, packed};
+pub use compare::{Checked, Mismatch};
+
+/// A part of the run; what it did, in words.
+pub type Section = fn(&EntryPoints) -> Checked<String>;
+
+/// The quick run; boxlines is the program, whatever the entry points are.
+pub const QUICK: [Section; 5] =
+    [refusals::check, pairs::check, sheets::check, |_| lines::check(), received::check];
+
+/// All received words of profile 1.
+pub const LONG: [Section; 1] = [every_word::check];
+
+/// What holds another coder to the separate one: the quick run's calls, with fewer received words.
+pub const YARDSTICK: [Section; 4] =
+    [refusals::check, pairs::check, sheets::check, received::check_fewer];
