@@ -21,12 +21,12 @@ impl PackedAnswer {
         PackedAnswer::of(number, 0, 0, 0)
     }
 
-    /// The word arrived as it was sent.
+    /// The word is a codeword.
     pub const fn clean() -> PackedAnswer {
         PackedAnswer::of(0, CLEAN, 0, 0)
     }
 
-    /// One symbol arrived wrong: its position, counted from 1, and what was sent there.
+    /// A codeword differs from the word in one position, counted from 1, and has this symbol there.
     pub const fn corrected(position: usize, symbol: u8) -> PackedAnswer {
         PackedAnswer::of(0, CORRECTED, position as u8, symbol)
     }

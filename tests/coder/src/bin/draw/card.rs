@@ -27,8 +27,8 @@ const WORD_ANSWERS: [Row; 7] = [
     ("M", "mended at that place", &["Read again. C with the same two messages:",
         "go by them. Anything else: hold the box, ask",
         "the supervisor, note the place for service."]),
-    ("R 4", "two or more symbols bad", &["Read again. Still R 4: hold the box, count",
-        "by hand, tell service."]),
+    ("R 4", "two or more symbols bad", &["Read again. Still R 4: hold the box, ask",
+        "the supervisor, tell service."]),
     ("R 3", "a symbol above the levels", &["Read again. The profile is not the cause."]),
     ("R 2", "wrong length for the profile", &["Check the profile by the box number.",
         "Then read again."]),
@@ -53,6 +53,10 @@ const NOTES: [&str; 3] = [
     "add up to; with a wrong total the word is not good, with the right one it may still be bad.",
 ];
 
+/// How an answer with messages is laid out.
+const FIELDS: &str =
+    "C and M: profile, letter, place, symbol sent there, message of the opening, of the seal.";
+
 const LINE: u32 = 21;
 
 fn sized(size: u32, style: &str) -> String {
@@ -65,7 +69,8 @@ pub fn draw() -> Picture {
     let y = draw_profiles(&mut picture, 116);
     let y = draw_limit(&mut picture, y + 14);
     let y = draw_answers(&mut picture, y + 40, "Answers to a word", &WORD_ANSWERS);
-    let y = draw_answers(&mut picture, y + 26, "Answers of the sheet", &QUEUE_ANSWERS);
+    picture.text(122, y + 15, &sized(15, ""), FIELDS);
+    let y = draw_answers(&mut picture, y + 54, "Answers of the sheet", &QUEUE_ANSWERS);
     let note = "No refusal (R) changes anything. Why, and how often: docs/SERVICE-BOOK.md.";
     picture.text(50, y + 26, &sized(16, ""), note);
     picture

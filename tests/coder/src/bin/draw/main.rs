@@ -1,5 +1,5 @@
 //! Draws the pictures of docs/SERVICE-BOOK.md from real words of profile 1, and the card for the
-//! wall: the walk of the weight, the parts of a word, a codeword beside the nearest other one.
+//! wall: the walk of the weight, the parts of a word, a codeword beside another as near as any.
 
 mod card;
 mod picture;

@@ -39,12 +39,12 @@ impl Walk {
     }
 
     fn left(&self, step: usize) -> u32 {
-        70 + 13 * step as u32
+        70 + 16 * step as u32
     }
 
     fn top(&self, weight: u32) -> u32 {
         let most = self.weights.iter().max().copied().unwrap_or_default();
-        56 + 11 * (most - weight)
+        56 + 12 * (most - weight)
     }
 
     fn bottom(&self) -> u32 {
@@ -55,7 +55,7 @@ impl Walk {
 pub fn draw(profile: &Profile, messages: &Messages) -> Picture {
     let walk = Walk::new(profile, messages);
     let last = walk.weights.len() - 1;
-    let mut picture = Picture::new(walk.left(last) + 60, walk.bottom() + 92);
+    let mut picture = Picture::new(walk.left(last) + 60, walk.bottom() + 100);
     picture.text(10, 18, BOLD, "The weight of w, from choice to choice of the walk");
     let legend =
         "A dot is a choice, a square the start of a round with its weight, red is on the middle. \
@@ -79,7 +79,7 @@ fn draw_rounds(picture: &mut Picture, walk: &Walk) {
     let (bottom, last) = (walk.bottom(), walk.weights.len() - 1);
     for step in 0..=last {
         if step.is_multiple_of(walk.m) {
-            let path = format!("M{} 46V{}", walk.left(step), bottom + 34);
+            let path = format!("M{} 46V{}", walk.left(step), bottom + 8);
             picture.path(&path, "stroke=\"#bbb\" stroke-dasharray=\"2 3\"");
         }
         if step > 0 {
@@ -90,12 +90,14 @@ fn draw_rounds(picture: &mut Picture, walk: &Walk) {
     }
     picture.text(52, bottom + 22, END, "v");
     for s in 0..last / walk.m {
-        let centre = walk.left(s * walk.m + walk.m / 2 + 1);
-        picture.text(centre, bottom + 42, CENTRED, &format!("round s = {s}"));
+        let (start, end) = (walk.left(s * walk.m), walk.left((s + 1) * walk.m));
+        picture.text((start + end) / 2, bottom + 42, CENTRED, &format!("round s = {s}"));
+        picture.text(start + 8, bottom + 60, "", "the walk →");
+        picture.text(end - 8, bottom + 60, END, "← the writer: v = 1, 2, 3 ..");
     }
-    picture.text(walk.left(0), bottom + 64, "", "the walk goes to the right, round after round →");
-    let note = "← the writer tries round after round, each from its right end: v = 1, 2, 3 ..";
-    picture.text(walk.left(last), bottom + 82, END, note);
+    let note = "Both take round after round, s from 0 up: the walk each round from left to right, \
+                the writer each round from right to left.";
+    picture.text(walk.left(0), bottom + 84, "", note);
 }
 
 fn draw_balancing_value(picture: &mut Picture, walk: &Walk) {
@@ -109,7 +111,10 @@ fn draw_dot(picture: &mut Picture, walk: &Walk, step: usize, weight: u32) {
     let (x, y) = (walk.left(step), walk.top(weight));
     if step.is_multiple_of(walk.m) {
         picture.rectangle(x - 5, y - 5, 10, 10, "fill=\"white\" stroke=\"#357\"");
-        picture.text(x + 9, y + 15, BOLD, &weight.to_string());
+        // Beside the square, clear of the line that goes on from it.
+        let falls = walk.weights.get(step + 1).is_some_and(|&next| next < weight);
+        let (right, down) = if falls { (20, 4) } else { (9, 15) };
+        picture.text(x + right, y + down, BOLD, &weight.to_string());
     }
     let used = step == walk.step_of(walk.earliest);
     match (weight == walk.target, used) {
@@ -120,7 +125,7 @@ fn draw_dot(picture: &mut Picture, walk: &Walk, step: usize, weight: u32) {
     if used {
         let BalancingChoice { s, v } = walk.earliest;
         let note = format!("the writer's choice: s = {s}, v = {v}");
-        picture.path(&format!("M{x} {}V86", y - 8), "stroke=\"#c33\"");
-        picture.text(x, 80, &format!("{CENTRED} fill=\"#c33\""), &note);
+        picture.path(&format!("M{x} {}V70", y - 8), "stroke=\"#c33\"");
+        picture.text(x + 4, 66, &format!("{END} fill=\"#c33\""), &note);
     }
 }

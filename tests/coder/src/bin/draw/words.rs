@@ -1,7 +1,7 @@
-//! A word's parts, and a word beside the nearest other codeword, with real words of profile 1.
+//! A word's parts, and a word beside another codeword as near as any, with real words of profile 1.
 
 use coder::codeword::{all_messages, codewords, components_of, Messages};
-use coder::component::syndrome;
+use coder::component::{message_positions, syndrome};
 use coder::decode::{replaced, search};
 use coder::encode::encoded_word;
 use coder::profile::Profile;
@@ -14,6 +14,7 @@ const ODD: &str = "#e3ecfb";
 const EVEN: &str = "#fdf3d0";
 const BAD: &str = "#f99";
 const CELL: u32 = 28;
+const FAINT: &str = "font-size=\"10\" fill=\"#666\"";
 
 /// The left edge of a position's cell; α and β stand apart from w.
 fn left(profile: &Profile, position: usize) -> u32 {
@@ -48,23 +49,23 @@ fn parity_colour(position: usize) -> &'static str {
     }
 }
 
-/// The step into a position, in a circle above the cells or below them.
-fn draw_step(picture: &mut Picture, x: u32, cells: u32, above: bool, step: u8) {
+/// The step into a position, in a circle above the cells or below them, with its number.
+fn draw_step(picture: &mut Picture, x: u32, cells: u32, position: usize, step: u8) {
+    let above = position.is_multiple_of(2);
     let (edge, y) = if above { (cells - 16, cells - 46) } else { (cells + CELL, cells + 54) };
-    let near = if above { y + 10 } else { y - 10 };
+    let (near, number) = if above { (y + 10, y - 15) } else { (y - 10, y + 22) };
     let (from, to) = (x - CELL / 2, x + CELL / 2);
     picture.path(&format!("M{from} {edge}L{x} {near}L{to} {edge}"), "stroke=\"#888\"");
-    let fill = if above { EVEN } else { ODD };
-    picture.circle(x, y, 10, fill, "#357");
+    picture.circle(x, y, 10, parity_colour(position), "#357");
     picture.text(x, y + 4, CENTRED, &step.to_string());
+    picture.text(x, number, &format!("{CENTRED} {FAINT}"), &(position / 2).to_string());
 }
 
 pub fn draw_anatomy(profile: &Profile, messages: &Messages) -> Picture {
-    let word = encoded_word(profile, messages);
-    let w = &word[..profile.m()];
-    let components = components_of(profile, w);
-    let cells = 100;
-    let mut picture = Picture::new(left(profile, word.len()) + CELL + 40, 256);
+    let (choice, word) = codewords(profile, messages).swap_remove(0);
+    let components = components_of(profile, &word[..profile.m()]);
+    let cells = 114;
+    let mut picture = Picture::new(left(profile, word.len()) + CELL + 40, 328);
     let title = format!("A word of profile 1 and its parts: {}", digits(&word));
     picture.text(10, 18, BOLD, &title);
     draw_positions(&mut picture, profile, cells - 4);
@@ -74,35 +75,58 @@ pub fn draw_anatomy(profile: &Profile, messages: &Messages) -> Picture {
         let x = left(profile, position);
         draw_cell(&mut picture, x, cells, parity_colour(position), symbol);
         if (2..=profile.m()).contains(&position) {
-            let parity = position % 2;
-            let step = components[parity][position / 2 - 1];
-            draw_step(&mut picture, x - 2, cells, parity == 0, step);
+            let step = components[position % 2][position / 2 - 1];
+            draw_step(&mut picture, x - 2, cells, position, step);
         }
     }
     picture.text(90, cells - 42, END, "first half");
     picture.text(90, cells + 58, END, "second half");
-    for (line, text) in anatomy_notes(profile, &word, &components).iter().enumerate() {
-        picture.text(10, 190 + 18 * line as u32, "", text);
+    picture.text(90, cells - 61, &format!("{END} {FAINT}"), "step number");
+    let halves = components.iter().zip(messages).enumerate();
+    let notes = halves.flat_map(|(half, (component, message))| {
+        half_notes(profile, half, component, message, choice.v)
+    });
+    for (line, text) in notes.chain(sum_notes(profile, &word)).enumerate() {
+        picture.text(10, cells + 106 + 18 * line as u32, "", &text);
     }
     picture
 }
 
-fn anatomy_notes(profile: &Profile, word: &[u8], components: &[Vec<u8>; 2]) -> [String; 4] {
+/// What a half is and holds, and its check sums; v is the choice's.
+fn half_notes(
+    profile: &Profile,
+    half: usize,
+    component: &[u8],
+    message: &[u8],
+    v: usize,
+) -> [String; 2] {
+    let (name, places) =
+        [("First", "the even places of w"), ("Second", "the odd places from 3 on")][half];
+    let positions = message_positions(profile);
+    let (from, to) = (positions[0], positions[positions.len() - 1]);
+    let sums = syndrome(profile, component).iter().map(u8::to_string).collect::<Vec<_>>().join(" ");
+    let column = if v > 1 && v % 2 == half {
+        format!(", column {}: the 1 that the writer added at place {v}", v / 2)
+    } else {
+        String::new()
+    };
+    [
+        format!("{name} half, the steps into {places}: {}. ", digits(component))
+            + &format!("Steps {from} to {to}: its message, {}.", digits(message)),
+        format!("Its check sums (threes, ones, plain): {sums}{column}."),
+    ]
+}
+
+/// What w weighs, and what all symbols and those of each parity add up to.
+fn sum_notes(profile: &Profile, word: &[u8]) -> [String; 2] {
     let sum = |symbols: &mut dyn Iterator<Item = &u8>| symbols.map(|&s| u32::from(s)).sum::<u32>();
     let (odd, even) = (sum(&mut word.iter().step_by(2)), sum(&mut word.iter().skip(1).step_by(2)));
     let (weight, q) = (sum(&mut word[..profile.m()].iter()), u32::from(profile.q));
-    let [first, second] = components.each_ref().map(|component| {
-        let sums =
-            syndrome(profile, component).iter().map(u8::to_string).collect::<Vec<_>>().join(" ");
-        format!("{}; its check sums (threes, ones, plain): {sums}", digits(component))
-    });
     let (m, total) = (profile.m(), odd + even);
     [
-        format!("first half, the steps into the even places of w: {first}"),
-        format!("second half, the steps into the odd places from 3 on: {second}"),
-        format!("w, places 1 to {m}, weighs {weight}, the middle; all symbols together {total}"),
-        format!("odd places (blue), β among them: {odd}, remainder {}; ", odd % q)
-            + &format!("even places (yellow), α among them: {even}, remainder {}", even % q),
+        format!("w, places 1 to {m}, weighs {weight}, the middle. All symbols together: {total}."),
+        format!("Odd places (blue), β among them: {odd}, remainder {}. ", odd % q)
+            + &format!("Even places (yellow), α among them: {even}, remainder {}.", even % q),
     ]
 }
 
@@ -111,12 +135,13 @@ fn differing(a: &[u8], b: &[u8]) -> Vec<usize> {
     (1..=a.len()).filter(|&position| a[position - 1] != b[position - 1]).collect()
 }
 
-/// What is answered to a received word of the profile.
-fn answer(profile: &Profile, word: &[u8]) -> String {
-    search(profile, word).map_or_else(
-        || Refusal::Unreadable.to_string(),
-        |(decoded, [first, second])| decoded.answer(&first, &second),
-    )
+/// What boxlines answers to a received word of the profile, and whether that is the pair sent.
+fn answer(profile: &Profile, word: &[u8], sent: &Messages) -> String {
+    let Some((decoded, read)) = search(profile, word) else {
+        return Refusal::Unreadable.to_string();
+    };
+    let judged = if read == *sent { "right" } else { "wrong" };
+    format!("{} {}: {judged}", profile.number, decoded.answer(&read[0], &read[1]))
 }
 
 pub fn draw_neighbours(profile: &Profile, messages: &Messages) -> Picture {
@@ -129,9 +154,12 @@ pub fn draw_neighbours(profile: &Profile, messages: &Messages) -> Picture {
         .expect("there are other codewords");
     let positions = differing(&sent, &nearest);
     let right = left(profile, sent.len()) + CELL + 10;
-    let mut picture = Picture::new(right + 170, 68 + 36 * (positions.len() as u32 + 1));
-    let title = "A lawful word, and what arrives on the way to the nearest other lawful word";
-    picture.text(10, 18, BOLD, title);
+    let mut picture = Picture::new(right + 205, 68 + 36 * (positions.len() as u32 + 1));
+    let title = format!(
+        "A lawful word, and what arrives on the way to another lawful word, {} places away",
+        positions.len()
+    );
+    picture.text(10, 18, BOLD, &title);
     draw_positions(&mut picture, profile, 58);
     picture.text(right, 58, BOLD, "answer");
     for bad in 0..=positions.len() {
@@ -147,7 +175,7 @@ pub fn draw_neighbours(profile: &Profile, messages: &Messages) -> Picture {
             let fill = if is_bad { BAD } else { parity_colour(position) };
             draw_cell(&mut picture, left(profile, position), y, fill, symbol);
         }
-        picture.text(right, y + 17, "", &answer(profile, &arrived));
+        picture.text(right, y + 17, "", &answer(profile, &arrived, messages));
     }
     picture
 }
