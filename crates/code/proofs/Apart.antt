@@ -2,25 +2,25 @@
 -- Assumes nothing.
 use mathlib.Core.Path.{_≡_, sym, ap, ap₂, subst, subst₂, _∙_}
 use mathlib.Core.Logic.{_⊎_, inl, inr, _≢_}
-use mathlib.Core.Bool.{true, false}
+use mathlib.Core.Bool.{true}
 use mathlib.Core.List.{List, [], _∷_, head-eq-of-cons-eq}
 use Prim.Native.Nat.{ℕ, suc, _+_, _*_, _%_, _≤_, _<_}
-use native.Mathlib.Nat.{suc-inj, zero-add, pos-of-ne-zero}
+use native.Mathlib.Nat.{suc-inj, zero-add, add-comm, pos-of-ne-zero}
 use native.Mathlib.Omega.{arith}
 use lib.Dec.{T}
 use lib.ListN.{length, getD, set}
-use lib.Seq.{getD-set-other, lt-length-set}
+use lib.Seq.{getD-set-same, getD-set-other, lt-length-set, set-set, set-getD}
 use Rattle.modular.specs.Sum.{weight, dot}
 use Rattle.modular.specs.Residue.{Congruent, Invertible, minus}
-use Rattle.modular.proofs.Residue.{of-eq, same, symm, _then_, add, scale, small, cancel, minus-add, minus-below, prime-inverse}
-use Rattle.modular.proofs.Sum.{dot-set, dot-one, weight-set}
+use Rattle.modular.proofs.Residue.{of-eq, same, symm, _then_, add, small, cancel, minus-add, minus-below, prime-inverse}
+use Rattle.modular.proofs.Sum.{dot-gain, dot-one, weight-set}
 use Rattle.code.specs.Parameters.{Parameters, Sized, balancedLength, delta}
 use Rattle.code.specs.Codeword.{alternate, alpha, beta, withChecks, body, received, codeword}
 use Rattle.code.specs.Reading.{distance}
 use Rattle.code.specs.Claims.{ApartByUnits, DifferencesInvertible, Apart}
-use Rattle.code.proofs.Weights.{double, spread, part, dot-alternate}
+use Rattle.code.proofs.Weights.{double, spread, dot-alternate}
 use Rattle.code.proofs.Columns.{q-positive}
-use Rattle.code.proofs.Moves.{Move, Near, kept, told, no-move}
+use Rattle.code.proofs.Moves.{Move, NearIn, kept, told, no-move}
 use Rattle.code.proofs.Distance.{equal-or-not, Differing, differing, TwoApart, two-apart, distance-zero, distance-sym, distance-append}
 use Rattle.code.proofs.Symbols.{symbol-below}
 use Rattle.code.proofs.Lawful.{Lawful, lawful, length-body, balanced-length, body-at}
@@ -62,15 +62,16 @@ move q h w i j a b hi hj ne k = record { sums = sums }
         let l : b + e + x ≡ b + (e + x) = omega arith in
         cancel x (of-eq l then add (same b) gained then of-eq (sym exchange))
 
+    -- w₁ is w′ with what was taken at j put back
+    back : set w′ j y ≡ w₁
+    back = set-set w₁ j b y ∙ ap (set w₁ j) (sym other) ∙ set-getD w₁ j 0
+
     sums : (f : ℕ → ℕ) → Congruent q (dot f w′ + f j * e) (dot f w + f i * e)
     sums f =
-        let d : dot f w′ + f j * y ≡ dot f w₁ + f j * b = subst (λ (z : ℕ). dot f w′ + f j * z ≡ dot f w₁ + f j * b) other (dot-set f w₁ j b hj′) in
-        let l : dot f w′ + f j * e + (f j * b + f i * x) ≡ dot f w′ + f i * x + f j * (b + e) = omega arith in
-        let m : dot f w′ + f i * x + f j * y ≡ dot f w + f j * b + f i * a = omega (arith, dot-set f w i a hi) in
-        let r : dot f w + f j * b + f i * (e + x) ≡ dot f w + f i * e + (f j * b + f i * x) = omega arith in
-        cancel (f j * b + f i * x)
-        (of-eq l then add (same (dot f w′ + f i * x)) (scale (f j) lost) then of-eq m
-        then add (same (dot f w + f j * b)) (scale (f i) (symm gained)) then of-eq r)
+        let here : getD w′ j 0 ≡ b = getD-set-same w₁ j b 0 hj′ in
+        let raised : Congruent q (dot f (set w′ j y)) (dot f w′ + f j * e) =
+        dot-gain f w′ j y e (lt-length-set w₁ j b hj′) (rw here lost) in
+        symm raised then of-eq (ap (dot f) back) then dot-gain f w i a e hi (of-eq (add-comm x e) then gained)
 
 -- the check sum over the odd positions is kept where the check symbol is
 odd-sum : (q : ℕ) (w w′ : List ℕ) → length w ≡ length w′ → alpha q w ≡ alpha q w′ → Congruent q (dot (spread true (λ x. 1)) w) (dot (spread true (λ x. 1)) w′)
@@ -92,7 +93,7 @@ not-one w w′ l k e =
 
 -- nor in two, where they have components near the code and the same check symbol α, and the difference has an inverse
 not-two : (p : Parameters) → Sized p → (w w′ : List ℕ) → length w ≡ suc (double (p .n)) → length w′ ≡ suc (double (p .n)) → weight w ≡ weight w′
-    → Near p (part (p .q) true w) (part (p .q) false w) → Near p (part (p .q) true w′) (part (p .q) false w′) → alpha (p .q) w ≡ alpha (p .q) w′
+    → NearIn p w → NearIn p w′ → alpha (p .q) w ≡ alpha (p .q) w′
     → ((i : ℕ) → i < length w → getD w i 0 ≢ getD w′ i 0 → Invertible (p .q) (minus (p .q) (getD w′ i 0) (getD w i 0))) → TwoApart w w′ → ⊥
 not-two p s w w′ l l′ k a a′ c f t =
     moved (t .i) (t .j) (t .i-within) (t .j-within) (t .distinct) (f (t .i) (t .i-within) (t .unequal)) (t .changed)

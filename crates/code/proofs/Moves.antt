@@ -14,7 +14,8 @@ use Rattle.modular.specs.Residue.{Congruent, Invertible}
 use Rattle.modular.proofs.Residue.{of-eq, same, symm, _then_, add, mul, multiple, small, cancel, cancel-unit}
 use Rattle.code.specs.Parameters.{Parameters, Sized}
 use Rattle.code.specs.Component.{checkRow}
-use Rattle.code.proofs.Weights.{double, double-is, spread, spread-take, spread-skip, later, part, checkWeight, dot-part, times-pred, weight-first-odd, weight-second-odd, weight-first-even, weight-second-even}
+use Rattle.code.specs.Codeword.{differenced}
+use Rattle.code.proofs.Weights.{double, double-is, spread, spread-take, spread-skip, later, checkWeight, dot-differenced, times-pred, weight-first-odd, weight-second-odd, weight-first-even, weight-second-even}
 use Rattle.code.proofs.Syndrome.{Zero, ColumnOf}
 use Rattle.code.proofs.Columns.{q-positive, last-row, last-below, one-not-zero, entry, entry-last, entry-out, entries-differ, laters-differ}
 
@@ -58,9 +59,13 @@ pub data Near (p : Parameters) (c d : List ℕ) : Type 0 where
   first : Column p c → Zero p d → Near p c d
   second : Zero p c → Column p d → Near p c d
 
+-- those of the word w, as differencing gives them
+abbrev pub NearIn : Parameters → List ℕ → Type 0
+NearIn p w = Near p (differenced p true w) (differenced p false w)
+
 -- the weight of row k of component b at index t
 abbrev pub rowWeight : Parameters → Bool → ℕ → ℕ → ℕ
-rowWeight p b k = checkWeight (p .q) (p .n) b (checkRow p k)
+rowWeight p b k = checkWeight p b (checkRow p k)
 
 -- the weight of the last row
 abbrev pub lastWeight : Parameters → Bool → ℕ → ℕ
@@ -154,19 +159,18 @@ near-rows p s c h = go h
     go (first a b) = first (last true a) b
     go (second a b) = second a (last false b)
 
--- the components of the word w, as differencing gives them
-abbrev partsOf : Parameters → List ℕ → Bool → List ℕ
-partsOf p w b = part (p .q) b w
-
 pub no-move : (p : Parameters) → Sized p → {w w′ : List ℕ} {e i j : ℕ} → Move (p .q) w w′ e i j → Invertible (p .q) e
     → length w ≡ suc (double (p .n)) → length w′ ≡ suc (double (p .n)) → Told p i j
-    → Near p (part (p .q) true w) (part (p .q) false w) → Near p (part (p .q) true w′) (part (p .q) false w′) → ⊥
-no-move p s {w} {w′} {e} {i} {j} m u l l′ t a a′ = no-shift p s shift u t (near-rows p s (partsOf p w) a) (near-rows p s (partsOf p w′) a′)
+    → NearIn p w → NearIn p w′ → ⊥
+no-move p s {w} {w′} {e} {i} {j} m u l l′ t a a′ = no-shift p s shift u t (near-rows p s (parts w) a) (near-rows p s (parts w′) a′)
   where
-    row-is : (b : Bool) (k : ℕ) (v : List ℕ) → length v ≡ suc (double (p .n)) → Congruent (p .q) (rowsOf p (partsOf p v) b k) (dot (rowWeight p b k) v)
-    row-is b k v h = dot-part (p .q) (p .n) (q-positive p s) b (checkRow p k) v h
+    parts : List ℕ → Bool → List ℕ
+    parts v b = differenced p b v
 
-    shift : Shift p (rowsOf p (partsOf p w)) (rowsOf p (partsOf p w′)) e i j
+    row-is : (b : Bool) (k : ℕ) (v : List ℕ) → length v ≡ suc (double (p .n)) → Congruent (p .q) (rowsOf p (parts v) b k) (dot (rowWeight p b k) v)
+    row-is b k v h = dot-differenced p (q-positive p s) b (checkRow p k) v h
+
+    shift : Shift p (rowsOf p (parts w)) (rowsOf p (parts w′)) e i j
     shift =
         record {
           rows = λ b k h.
@@ -188,8 +192,8 @@ module _ (p : Parameters) (s : Sized p) where
       factor false x = (p .q - 1) * x
 
       at : (b : Bool) (k x : ℕ) → rowWeight p b k (suc (double x)) ≡ factor b (entry p k x)
-      at true k x = weight-first-even (p .q) (p .n) (checkRow p k) x
-      at false k x = weight-second-even (p .q) (p .n) (checkRow p k) x
+      at true k x = weight-first-even p (checkRow p k) x
+      at false k x = weight-second-even p (checkRow p k) x
 
       unfactor : (b : Bool) (x y : ℕ) → Congruent (p .q) (factor b x) (factor b y) → Congruent (p .q) x y
       unfactor true x y h = h
@@ -230,10 +234,10 @@ module _ (p : Parameters) (s : Sized p) where
   told-odd a c ha hc ne = record { differ = λ b e. ne (sym (differ b e)); last = λ e. go (eq-or-lt-of-le ha) (eq-or-lt-of-le hc) e }
     where
       first-is : (k x : ℕ) → rowWeight p true k (double x) ≡ (p .q - 1) * entry p k x
-      first-is k x = weight-first-odd (p .q) (p .n) (checkRow p k) x
+      first-is k x = weight-first-odd p (checkRow p k) x
 
       second-is : (k x : ℕ) → rowWeight p false k (double x) ≡ later (entry p k) x
-      second-is k x = weight-second-odd (p .q) (p .n) (checkRow p k) x
+      second-is k x = weight-second-odd p (checkRow p k) x
 
       total-is : (x : ℕ) → lastWeight p true (double x) + lastWeight p false (double x) ≡ total x
       total-is x = ap₂ (λ (y z : ℕ). y + z) (first-is (p .r - 1) x) (second-is (p .r - 1) x)

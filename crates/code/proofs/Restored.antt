@@ -15,7 +15,7 @@ use Rattle.code.specs.Parameters.{Parameters, Sized}
 use Rattle.code.specs.Component.{inCode, message}
 use Rattle.code.specs.Codeword.{body, received, lowered, restored, carried}
 use Rattle.code.specs.Claims.{Restores, Carries, OnePair}
-use Rattle.code.proofs.Weights.{length-part}
+use Rattle.code.proofs.Weights.{length-differenced}
 use Rattle.code.proofs.Syndrome.{Zero, ColumnOf, code-zero, zero-code, lowered-column, column-lowered}
 use Rattle.code.proofs.Columns.{q-positive, last-row, last-below, one-not-zero, columns-differ}
 use Rattle.code.proofs.Moves.{Column, Near, neither, first, second}
@@ -83,7 +83,7 @@ one-pair p s u h = (carries (l .near), only)
     l = lawful p (q-positive p s) u h
 
     long : (b : Bool) → length (received p b u) ≡ p .n
-    long b = length-part (p .q) (p .n) b (body p u) (length-body p u (l .long) ∙ balanced-length p)
+    long b = length-differenced p b (body p u) (length-body p u (l .long) ∙ balanced-length p)
 
     pair : Restores p (received p true u) (restored p (received p true u)) → Restores p (received p false u) (restored p (received p false u))
         → (restored p (received p true u) ≡ received p true u) ⊎ (restored p (received p false u) ≡ received p false u)

@@ -82,6 +82,12 @@ module _ (p : Parameters) (v : List ℕ) where
   unfolding body
   body-set i y h = take-set-lt (balancedLength p) v i y h
 
+  pub weight-body-set : length v ≡ codewordLength p → (i y : ℕ) → i < balancedLength p
+      → weight (body p (set v i y)) + getD v i 0 ≡ weight (body p v) + y
+  weight-body-set n i y h =
+      let l : i < length (body p v) = rw (length-body p v n) h in
+      omega (arith, ap weight (body-set i y h), weight-set (body p v) i y l, body-at p v i h)
+
   pub checks-kept : (b : Bool) (i y : ℕ) → i < balancedLength p → getD (set v i y) (checkIndex p b) 0 ≡ getD v (checkIndex p b) 0
   checks-kept b i y h = getD-set-other v i (checkIndex p b) y 0 (omega (arith, check-past p b))
 
@@ -145,7 +151,7 @@ module _ (p : Parameters) (s : Sized p) {v : List ℕ} (n : length v ≡ codewor
   unfolding received
   summed-moved =
       record {
-        weighs = omega (arith, ap weight here, weight-set (body p v) (index b k) y (raised .within), body-at p v (index b k) within, m .weighs);
+        weighs = omega (arith, weight-body-set p v n (index b k) y within, m .weighs);
         asked =
             both b (λ c. update b ((t .asked b + e) % p .q) (t .asked) c ≡ checkSymbol (p .q) c (body p (set v (index b k) y)))
             (update-here b _ (t .asked) ∙ ap (λ (x : ℕ). (x + e) % p .q) (m .asked b)

@@ -10,14 +10,14 @@ use lib.ListN.{length, getD, set, length-set}
 use Rattle.modular.specs.Sum.{weight, dot}
 use Rattle.modular.specs.Residue.{Congruent}
 use Rattle.modular.proofs.Residue.{of-eq, same, symm, _then_, add, reduce}
-use Rattle.modular.proofs.Sum.{dot-one}
+use Rattle.modular.proofs.Sum.{dot-one, dot-gain}
 use Rattle.code.specs.Parameters.{delta}
 use Rattle.code.specs.Codeword.{alternate, alpha, beta}
 use Rattle.code.proofs.Weights.{spread, spread-take, dot-alternate}
 use Rattle.code.proofs.Alternate.{first-kept, second-kept}
 use Rattle.decoding.specs.Syndromes.{index}
 use Rattle.decoding.specs.Decoded.{checkSymbol}
-use Rattle.decoding.proofs.Moved.{index-odd, index-even, dot-gain}
+use Rattle.decoding.proofs.Moved.{index-odd, index-even}
 
 -- what is added to the sum of the symbols
 abbrev offset : ℕ → Bool → ℕ → ℕ

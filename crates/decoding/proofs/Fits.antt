@@ -1,6 +1,6 @@
 -- An index of the body fits exactly where the symbol that balances there makes a codeword, if the other check symbol is right.
 -- Assumes nothing.
-use mathlib.Core.Path.{_≡_, sym, ap, subst, _∙_}
+use mathlib.Core.Path.{_≡_, sym, subst, _∙_}
 use mathlib.Core.Logic.{_≢_}
 use mathlib.Core.Bool.{Bool, not}
 use mathlib.Core.List.{List}
@@ -9,23 +9,20 @@ use native.Mathlib.Nat.{zero-add, add-zero, add-comm}
 use native.Mathlib.Omega.{arith}
 use lib.Dec.{T, eqb, leb, ltb, eqb→eq, leb→le, ltb→lt, le→leb, lt→ltb}
 use lib.ListN.{length, getD, set, length-set}
-use Rattle.modular.specs.Sum.{weight}
 use Rattle.modular.specs.Residue.{Congruent}
 use Rattle.modular.proofs.Search.{eq-test, and-left, and-right, and-intro}
 use Rattle.modular.proofs.Residue.{of-eq, same, symm, _then_, add, reduce, small, cancel}
-use Rattle.modular.proofs.Sum.{weight-set}
-use Rattle.code.specs.Parameters.{Parameters, Sized, balancedLength, codewordLength}
+use Rattle.code.specs.Parameters.{Parameters, Sized, codewordLength}
 use Rattle.code.specs.Component.{symbolsBelow, isWord}
 use Rattle.code.specs.Codeword.{body, codeword}
 use Rattle.code.proofs.Columns.{q-positive}
-use Rattle.code.proofs.Lawful.{body-at, length-body}
 use Rattle.code.proofs.Merge.{word-length, word-below, word-of}
 use Rattle.code.proofs.Symbols.{symbols-set}
 use Rattle.decoding.specs.Syndromes.{index}
 use Rattle.decoding.specs.Decoded.{checkSymbol, checkIndex, Sums, target, lack, balancingSymbol, inRange, offByLack, nearAfter, fits, places}
 use Rattle.decoding.proofs.Tests.{and-three, three-parts, both}
 use Rattle.decoding.proofs.Answers.{Tests, codeword-tests, tests-codeword}
-use Rattle.decoding.proofs.Changed.{index-within, body-set, checks-kept, Summed, lack-gained, changed, changed-check, kept-check, changed-near}
+use Rattle.decoding.proofs.Changed.{index-within, weight-body-set, checks-kept, Summed, lack-gained, changed, changed-check, kept-check, changed-near}
 
 -- what the test says: y is the symbol that balances in place of x
 pub record Fit (p : Parameters) (s : Sums) (b : Bool) (k x y : ℕ) : Type 0 where
@@ -86,11 +83,7 @@ module _ (p : Parameters) (s : Sized p) {v : List ℕ} (w : T (isWord (p .q) (co
     tests = codeword-tests p (set v (index b k) y) h
 
     balances : y + t .weighs ≡ getD v (index b k) 0 + target p
-    balances =
-        let i : index b k < balancedLength p = index-within p b k l in
-        let n : index b k < length (body p v) = rw (length-body p v long) i in
-        omega
-        (arith, ap weight (body-set p v (index b k) y i), weight-set (body p v) (index b k) y n, body-at p v (index b k) i, tests .weighs, m .weighs)
+    balances = omega (arith, weight-body-set p v long (index b k) y (index-within p b k l), tests .weighs, m .weighs)
 
     check : (t .asked b + lack p t) % p .q ≡ t .arrived b
     check = sym (changed-check p s long m b k y l balances) ∙ tests .checks b ∙ sym (arrived-is b)

@@ -11,7 +11,7 @@ use Rattle.modular.specs.Sum.{weight}
 use Rattle.code.specs.Parameters.{Parameters, Sized, codewordLength}
 use Rattle.code.specs.Component.{isWord}
 use Rattle.code.specs.Codeword.{body, received, hasComponents, codeword}
-use Rattle.code.specs.Reading.{unreadable, reading}
+use Rattle.code.specs.Reading.{unreadable, mends, reading}
 use Rattle.code.specs.Claims.{OneNear}
 use Rattle.code.proofs.Merge.{word-length}
 use Rattle.decoding.specs.Syndromes.{nearSyndromes, index}
@@ -61,6 +61,7 @@ module _ (p : Parameters) (s : Sized p) {v : List ℕ} (w : T (isWord (p .q) (co
       (codeword-fit p s w m b k y l h a ne)
 
   pub none-nearby : OneNear p → (Nearby p t v → ⊥) → reading p v ≡ unreadable
+  unfolding mends
   none-nearby one none =
       reads-none p s one v w (λ h. none (sent-nearby h))
       (λ i y l a ne h.

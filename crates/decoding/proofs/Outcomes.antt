@@ -5,7 +5,7 @@ use mathlib.Core.Path.{_≡_, sym, ap, ap₂, subst, _∙_}
 use mathlib.Core.Logic.{_≢_}
 use mathlib.Core.Bool.{Bool, true, false, not}
 use mathlib.Core.List.{List}
-use Prim.Native.Nat.{ℕ, _+_, _≤_, _<_}
+use Prim.Native.Nat.{ℕ, _≤_, _<_}
 use native.Mathlib.Nat.{mod-lt}
 use native.Mathlib.Omega.{arith}
 use lib.Dec.{T}
@@ -15,7 +15,7 @@ use Rattle.modular.specs.Sum.{weight}
 use Rattle.code.specs.Parameters.{Parameters, Sized, codewordLength}
 use Rattle.code.specs.Component.{isWord}
 use Rattle.code.specs.Codeword.{alpha, beta, body, carried}
-use Rattle.code.specs.Reading.{Finding, correctionAt, read, unreadable, clean, corrected, readAs, reading}
+use Rattle.code.specs.Reading.{Finding, correctionAt, read, unreadable, clean, corrected, readAs, mends, reading}
 use Rattle.code.specs.Claims.{OneNear}
 use Rattle.code.proofs.Columns.{q-positive}
 use Rattle.code.proofs.Merge.{word-length}
@@ -65,7 +65,7 @@ module _ (p : Parameters) (s : Sized p) (one : OneNear p) {v : List ℕ} (w : T 
   -- the check symbol that is wrong is the one that changed
   pub check-reading : (b : Bool) → t .weighs ≡ target p → T (nearSyndromes p (t .first) (t .second)) → t .asked (not b) ≡ t .arrived (not b)
       → t .asked b ≢ t .arrived b → reading p v ≡ decodedCheck p t b v
-  unfolding decodedCheck
+  unfolding decodedCheck mends
   check-reading b a n r ne =
       reads-changed p s one v w i y (check-within p b) (λ e. ne (e ∙ sym (m .arrived b))) (tests-codeword p u tests)
       ∙ ap₂ (λ (c d : List ℕ). read (corrected (correctionAt i (getD v i 0) y)) c d) (carried-kept p v b y true) (carried-kept p v b y false)
@@ -99,7 +99,7 @@ module _ (p : Parameters) (s : Sized p) (one : OneNear p) {v : List ℕ} (w : T 
   -- an index that fits, whichever, is the one that changed
   pub fit-reading : (b : Bool) (k : ℕ) → k < places p b → t .weighs ≢ target p → t .asked (not b) ≡ t .arrived (not b)
       → T (fits p t b k (getD v (index b k) 0)) → reading p v ≡ readFit p t b k v
-  unfolding readFit nearAfter
+  unfolding readFit nearAfter mends
   fit-reading b k l a r f =
       reads-changed p s one v w i y inside differs (fit-codeword p s w m b k y l g r)
       ∙ sym

@@ -8,7 +8,7 @@ use native.Mathlib.Omega.{arith}
 use lib.ListN.{length, getD, set, replicate}
 use Rattle.modular.specs.Sum.{weight, dot}
 use Rattle.modular.specs.Residue.{Congruent}
-use Rattle.modular.proofs.Residue.{of-eq, same, symm, _then_, add, scale, mul}
+use Rattle.modular.proofs.Residue.{of-eq, same, symm, _then_, add, scale, mul, cancel}
 
 -- one changed symbol
 pub dot-set : (f : ℕ → ℕ) (c : List ℕ) (i y : ℕ) → i < length c → dot f (set c i y) + f i * getD c i 0 ≡ dot f c + f i * y
@@ -47,6 +47,14 @@ dot-agree f [] (y ∷ ys) l h = absurd (omega arith)
 dot-agree f (x ∷ xs) [] l h = absurd (omega arith)
 dot-agree f (x ∷ xs) (y ∷ ys) l h =
     add (h 0 (suc-le-suc zero-le)) (dot-agree (λ i. f (suc i)) xs ys (suc-inj l) (λ i k. h (suc i) (suc-le-suc k)))
+
+-- one changed symbol, by e more mod q
+pub dot-gain : {q : ℕ} (f : ℕ → ℕ) (c : List ℕ) (i y e : ℕ) → i < length c → Congruent q (getD c i 0 + e) y
+    → Congruent q (dot f (set c i y)) (dot f c + f i * e)
+dot-gain f c i y e l h =
+    let x : ℕ = getD c i 0 in
+    let k : dot f c + f i * (x + e) ≡ dot f c + f i * e + f i * x = omega arith in
+    cancel (f i * x) (of-eq (dot-set f c i y l) then add (same (dot f c)) (scale (f i) (symm h)) then of-eq k)
 
 -- one changed symbol, where mod q it counts u times, once or not at all
 dot-set-congruent : {q u : ℕ} (f : ℕ → ℕ) (c : List ℕ) (i y : ℕ) → i < length c → Congruent q (f i) u
