@@ -20,7 +20,7 @@ use Rattle.code.specs.Reading.{distance}
 use Rattle.code.specs.Claims.{ApartByUnits, DifferencesInvertible, Apart}
 use Rattle.code.proofs.Weights.{double, spread, dot-alternate}
 use Rattle.code.proofs.Columns.{q-positive}
-use Rattle.code.proofs.Moves.{Move, NearIn, kept, told, no-move}
+use Rattle.code.proofs.Moves.{Move, NearIn, move-weight, told, no-move}
 use Rattle.code.proofs.Distance.{equal-or-not, Differing, differing, TwoApart, two-apart, distance-zero, distance-sym, distance-append}
 use Rattle.code.proofs.Symbols.{symbol-below}
 use Rattle.code.proofs.Lawful.{Lawful, lawful, length-body, balanced-length, body-at}
@@ -105,7 +105,7 @@ not-two p s w w′ l l′ k a a′ c f t =
     moved i j hi hj ne u z =
         no-move p s m u l l′
         (told p s i j (subst (λ (x : ℕ). i < x) l hi) (subst (λ (x : ℕ). j < x) l hj) (λ x. ne (sym x))
-        (kept m u (spread true (λ x. 1)) (odd-sum (p .q) w w′ (l ∙ sym l′) c)))
+        (move-weight m u (spread true (λ x. 1)) (odd-sum (p .q) w w′ (l ∙ sym l′) c)))
         a a′
       where
         m : Move (p .q) w w′ (e i) i j

@@ -28,13 +28,13 @@ use Rattle.code.proofs.Symbols.{symbol-below, symbols-below, symbols-se
 use Rattle.code.proofs.Syndrome.{code-zero, zero-code}
 use Rattle.code.proofs.Columns.{q-positive}
 use Rattle.code.proofs.Merge.{opposite, word-length, word-below, word-of, below-keep, below-merge, count, count-not, length-keep, length-merge, merge-keep, keep-merge, keep-at, keep-set}
-use Rattle.code.proofs.Reduced.{place, reduced, Vanish, place-below, check-place, place-check, reduced-same, reduced-other, check-count, reduced-rows, rows-reduced}
+use Rattle.code.proofs.Reduced.{pivot, reducedRow, Vanish, pivot-below, check-pivot, pivot-check, reduced-same, reduced-other, check-count, reduced-rows, rows-reduced}
 
 module _ (p : Parameters) (s : Sized p) where
   -- words whose reduced sums vanish and that agree off the check positions agree mod q there too
   determined : (c d : List ℕ) → length c ≡ p .n → length d ≡ p .n → ((i : ℕ) → (T (checkAt p i) → ⊥) → getD c i 0 ≡ getD d i 0)
       → Vanish p (p .r) c → Vanish p (p .r) d → (k : ℕ) → k < p .r
-      → Congruent (p .q) (getD c (place p k) 0) (getD d (place p k) 0)
+      → Congruent (p .q) (getD c (pivot p k) 0) (getD d (pivot p k) 0)
   determined c d l m e u v k h =
       let a : Congruent (p .q) (dot f c) (dot f x) = dot-agree f c x (l ∙ sym (length-set d i (getD c i 0) ∙ m)) term in
       of-eq (sym (zero-add (getD c i 0)))
@@ -44,21 +44,21 @@ module _ (p : Parameters) (s : Sized p) where
       then of-eq (zero-add (getD d i 0))
     where
       f : ℕ → ℕ
-      f = reduced p k
+      f = reducedRow p k
 
       i : ℕ
-      i = place p k
+      i = pivot p k
 
       x : List ℕ
       x = set d i (getD c i 0)
 
       inside : i < length d
-      inside = rw m (place-below p s k h)
+      inside = rw m (pivot-below p s k h)
 
       off : (j : ℕ) → j ≢ i → T (checkAt p j) ⊎ (T (checkAt p j) → ⊥) → Congruent (p .q) (f j * getD c j 0) (f j * getD d j 0)
       off j n (inl t) =
-          let (l, b, y) = check-place p s j t in
-          let z : Congruent (p .q) (f j) 0 = of-eq (ap f y) then reduced-other p s k l h b (λ g. n (y ∙ ap (place p) (sym g))) in
+          let (l, b, y) = check-pivot p s j t in
+          let z : Congruent (p .q) (f j) 0 = of-eq (ap f y) then reduced-other p s k l h b (λ g. n (y ∙ ap (pivot p) (sym g))) in
           mul z (same (getD c j 0)) then of-eq (zero-mul (getD c j 0) ∙ sym (zero-mul (getD d j 0))) then symm (mul z (same (getD d j 0)))
       off j n (inr t) = of-eq (ap (λ (y : ℕ). f j * y) (e j t))
 
@@ -88,7 +88,7 @@ module _ (p : Parameters) (s : Sized p) where
 
       at : (i : ℕ) → T (checkAt p i) ⊎ (T (checkAt p i) → ⊥) → getD c i 0 ≡ getD d i 0
       at i (inl t) =
-          let (k, l, e) = check-place p s i t in
+          let (k, l, e) = check-pivot p s i t in
           small (below c h i) (below d g i) (rw e (determined c d (size c h) (size d g) off (sums c h) (sums d g) k l))
       at i (inr t) = off i t
 
@@ -127,8 +127,8 @@ module _ (p : Parameters) (s : Sized p) (a : List ℕ) (w : T (isWord (p .q) (me
       record {
         solution = x;
         size = length-set c i y ∙ b .size;
-        below = symbols-set (p .q) c i y (minus-below (p .q) (getD c i 0) (dot (reduced p k) c) (q-positive p s)) (b .below);
-        holds = keep-set (opposite (checkAt p)) c i y (λ n. T-not (checkAt p i) n (place-check p s k h)) ∙ b .holds;
+        below = symbols-set (p .q) c i y (minus-below (p .q) (getD c i 0) (dot (reducedRow p k) c) (q-positive p s)) (b .below);
+        holds = keep-set (opposite (checkAt p)) c i y (λ n. T-not (checkAt p i) n (pivot-check p s k h)) ∙ b .holds;
         sums = λ l m. sum l m (ℕ-discrete l k);
       }
     where
@@ -136,21 +136,21 @@ module _ (p : Parameters) (s : Sized p) (a : List ℕ) (w : T (isWord (p .q) (me
       c = b .solution
 
       i : ℕ
-      i = place p k
+      i = pivot p k
 
       y : ℕ
-      y = minus (p .q) (getD c i 0) (dot (reduced p k) c)
+      y = minus (p .q) (getD c i 0) (dot (reducedRow p k) c)
 
       x : List ℕ
       x = set c i y
 
       inside : i < length c
-      inside = rw (b .size) (place-below p s k h)
+      inside = rw (b .size) (pivot-below p s k h)
 
-      sum : (l : ℕ) → l < suc k → Dec (l ≡ k) → Congruent (p .q) (dot (reduced p l) x) 0
+      sum : (l : ℕ) → l < suc k → Dec (l ≡ k) → Congruent (p .q) (dot (reducedRow p l) x) 0
       sum l m (yes e) =
-          let f : ℕ → ℕ = reduced p k in
-          of-eq (ap (λ (o : ℕ). dot (reduced p o) x) e)
+          let f : ℕ → ℕ = reducedRow p k in
+          of-eq (ap (λ (o : ℕ). dot (reducedRow p o) x) e)
           then cancel (getD c i 0)
           (dot-set-one f c i y inside (reduced-same p s k h)
           then of-eq (add-comm (dot f c) y)
@@ -158,7 +158,7 @@ module _ (p : Parameters) (s : Sized p) (a : List ℕ) (w : T (isWord (p .q) (me
           then of-eq (sym (zero-add (getD c i 0))))
       sum l m (no d) =
           let n : l < k = lt-of-le-ne (le-of-suc-le-suc m) d in
-          dot-set-zero (reduced p l) c i y inside (reduced-other p s l k (omega arith) h d) then b .sums l n
+          dot-set-zero (reducedRow p l) c i y inside (reduced-other p s l k (omega arith) h d) then b .sums l n
 
   -- all of them in turn
   solve : (k : ℕ) → k ≤ p .r → Solution p a k

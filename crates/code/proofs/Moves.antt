@@ -31,9 +31,9 @@ same-weight {q} {e} {x} {x′} {a} {a′} u m k =
     cancel-unit u
     (of-eq (mul-comm e a′) then cancel x′ (of-eq (sym c) then m then of-eq d then add (same (a * e)) k) then of-eq (mul-comm a e))
 
-pub kept : {q : ℕ} {w w′ : List ℕ} {e i j : ℕ} → Move q w w′ e i j → Invertible q e → (f : ℕ → ℕ) → Congruent q (dot f w) (dot f w′)
+pub move-weight : {q : ℕ} {w w′ : List ℕ} {e i j : ℕ} → Move q w w′ e i j → Invertible q e → (f : ℕ → ℕ) → Congruent q (dot f w) (dot f w′)
     → Congruent q (f j) (f i)
-kept m u f k = same-weight u (m .sums f) k
+move-weight m u f k = same-weight u (m .sums f) k
 
 -- (q - 1) times a number cancels
 pub cancel-pred : (q a b : ℕ) → 1 ≤ q → Congruent q ((q - 1) * a) ((q - 1) * b) → Congruent q a b

@@ -23,7 +23,7 @@ use Rattle.code.proofs.Columns.{q-positive}
 use Rattle.code.proofs.Symbols.{symbol-below, symbols-set}
 use Rattle.code.proofs.Distance.{distance-self, distance-sym, distance-set, triangle, one-apart}
 use Rattle.code.proofs.Merge.{word-length, word-of}
-use Rattle.code.proofs.Found.{found-clean, found-at, found-sent}
+use Rattle.code.proofs.Found.{found-clean, found-differing, found-sent}
 use Rattle.code.proofs.Lawful.{lawful}
 use Rattle.code.proofs.Apart.{apart}
 
@@ -169,7 +169,7 @@ module _ (p : Parameters) (s : Sized p) (one : OneNear p) where
       let within : i < length u = subst (λ (x : ℕ). i < x) (sym (lawful p (q-positive p s) u h .long)) l in
       let here : getD (set u i y) i 0 ≡ y = getD-set-same u i y 0 within in
       let found : findingOf (set u i y) u ≡ corrected (correctionAt i y (getD u i 0)) =
-      found-at (set u i y) u i (subst (λ (x : ℕ). i < x) (sym (length-set u i y)) within) (λ e. ne (sym here ∙ e)) (λ j d. getD-set-other u i j y 0 d)
+      found-differing (set u i y) u i (subst (λ (x : ℕ). i < x) (sym (length-set u i y)) within) (λ e. ne (sym here ∙ e)) (λ j d. getD-set-other u i j y 0 d)
       ∙ ap (λ (x : ℕ). corrected (correctionAt i x (getD u i 0))) here in
       reads (set u i y) (changed-word p s u h i y b) .sent u (near-changed u h i y) ∙ ap (λ (f : Finding). readAs p f u) found
 

@@ -25,7 +25,7 @@ use Rattle.code.proofs.Syndrome.{zero-code}
 use Rattle.code.proofs.Columns.{last-row, digit-row, q-positive}
 use Rattle.code.proofs.Weights.{times-pred}
 use Rattle.code.proofs.Merge.{opposite, word-below, word-of, below-merge, length-merge, keep-merge, keep-set}
-use Rattle.code.proofs.Reduced.{place, reducedTwo, reduced, place-below, place-check, place-injective, row-two-first, row-two-other, reduced-same, reduced-other, rows-reduced}
+use Rattle.code.proofs.Reduced.{pivot, reducedTwo, reducedRow, pivot-below, pivot-check, pivot-injective, row-two-first, row-two-other, reduced-same, reduced-other, rows-reduced}
 use Rattle.code.proofs.Component.{unique, component-holding, message-fits}
 use Rattle.symbols.specs.Syndromes.{fourRows}
 use Rattle.components.specs.Checks.{checkPosition, checked, Solves}
@@ -82,7 +82,7 @@ module _ (p : Parameters) (s : Sized p) (four : p .r ≤ 4) where
         ∙ dot-add (λ i. f 0 i + f 1 i + f 2 i) (λ i. (p .q - 1) * f 3 i) c
         ∙ ap₂ (λ (x y : ℕ). x + y) (dot-add (λ i. f 0 i + f 1 i) (f 2) c ∙ ap (λ (x : ℕ). x + total 2) (dot-add (f 0) (f 1) c)) (dot-scale (p .q - 1) (f 3) c)
 
-    power-total : (j : ℕ) → j < p .r - 1 → dot (reduced p (suc j)) c ≡ total j + (p .q - checkRow p j 1) * dot (reducedTwo p) c
+    power-total : (j : ℕ) → j < p .r - 1 → dot (reducedRow p (suc j)) c ≡ total j + (p .q - checkRow p j 1) * dot (reducedTwo p) c
     power-total j h =
         dot-add (checkRow p j) (λ i. (p .q - checkRow p j 1) * reducedTwo p i) c
         ∙ ap₂ (λ (x y : ℕ). x + y) (row-total j h) (dot-scale (p .q - checkRow p j 1) (reducedTwo p) c)
@@ -116,14 +116,14 @@ module _ (p : Parameters) (s : Sized p) (four : p .r ≤ 4) where
 
       makes-power : (j u : ℕ) → suc j < p .r → checkRow p j 1 ≡ u → u ≤ p .q
           → Congruent (p .q) (getD e (suc j) 0 + (getD sums j 0 + u * getD e 0 0)) 0
-          → Congruent (p .q) (getD e (suc j) 0 + dot (reduced p (suc j)) c) 0
+          → Congruent (p .q) (getD e (suc j) 0 + dot (reducedRow p (suc j)) c) 0
       makes-power j u h r l k =
           let m : j < p .r - 1 = omega arith in
           of-eq (ap (λ (x : ℕ). getD e (suc j) 0 + x) (power-total j m ∙ ap (λ (x : ℕ). total j + (p .q - x) * dot (reducedTwo p) c) r))
           then add (same (getD e (suc j) 0)) (add (symm (sum-is j (omega arith))) (turned u l))
           then k
 
-      pub makes : (k : ℕ) → k < p .r → Congruent (p .q) (getD e k 0 + dot (reduced p k) c) 0
+      pub makes : (k : ℕ) → k < p .r → Congruent (p .q) (getD e k 0 + dot (reducedRow p k) c) 0
       makes zero h = makes-two
       makes (suc zero) h = makes-power 0 2 h (row-two-first p s) (omega (arith, s .levels)) (solves .one)
       makes (suc (suc j)) h =
@@ -137,15 +137,15 @@ record Filling (p : Parameters) (a c d : List ℕ) (k : ℕ) : Type 0 where
   size : length d ≡ p .n
   below : T (symbolsBelow (p .q) d)
   holds : message p d ≡ a
-  vanish : (l : ℕ) → l < k → Congruent (p .q) (dot (reduced p l) d) 0
-  kept : (l : ℕ) → k ≤ l → l < p .r → Congruent (p .q) (dot (reduced p l) d) (dot (reduced p l) c)
-  zeros : (l : ℕ) → k ≤ l → l < p .r → getD d (place p l) 0 ≡ 0
+  vanish : (l : ℕ) → l < k → Congruent (p .q) (dot (reducedRow p l) d) 0
+  kept : (l : ℕ) → k ≤ l → l < p .r → Congruent (p .q) (dot (reducedRow p l) d) (dot (reducedRow p l) c)
+  zeros : (l : ℕ) → k ≤ l → l < p .r → getD d (pivot p l) 0 ≡ 0
 
 -- the message with 0 at the check positions
 abbrev pub bare : Parameters → List ℕ → List ℕ
 bare p a = merge (checkAt p) (p .n) [] a
 
-pub at-place : (p : Parameters) (d : List ℕ) (k y : ℕ) → set d (checkPosition (p .q) k - 1) y ≡ set d (place p k) y
+pub at-place : (p : Parameters) (d : List ℕ) (k y : ℕ) → set d (checkPosition (p .q) k - 1) y ≡ set d (pivot p k) y
 at-place p d zero y = refl
 at-place p d (suc j) y = refl
 
@@ -160,44 +160,44 @@ module _ (p : Parameters) (s : Sized p) (a : List ℕ) (w : T (isWord (p .q) (me
             (λ i l. below-merge (p .q) (checkAt p) (p .n) [] a (λ j. q-positive p s) (word-below (p .q) (messageLength p) a (q-positive p s) w) i);
         holds = keep-merge (checkAt p) (p .n) [] a (message-fits p s a w);
         vanish = λ l h. absurd (not-suc-le-zero h);
-        kept = λ l h g. same (dot (reduced p l) (bare p a));
-        zeros = λ l h g. merge-check (checkAt p) (p .n) [] a (place p l) (place-below p s l g) (passes (place-check p s l g));
+        kept = λ l h g. same (dot (reducedRow p l) (bare p a));
+        zeros = λ l h g. merge-check (checkAt p) (p .n) [] a (pivot p l) (pivot-below p s l g) (passes (pivot-check p s l g));
       }
 
-  filled-more : {c d : List ℕ} {k : ℕ} → Filling p a c d k → k < p .r → (y : ℕ) → y < p .q → Congruent (p .q) (y + dot (reduced p k) c) 0
-      → Filling p a c (set d (place p k) y) (suc k)
+  filled-more : {c d : List ℕ} {k : ℕ} → Filling p a c d k → k < p .r → (y : ℕ) → y < p .q → Congruent (p .q) (y + dot (reducedRow p k) c) 0
+      → Filling p a c (set d (pivot p k) y) (suc k)
   unfolding message
   filled-more {c} {d} {k} b h y small makes =
       record {
         size = length-set d i y ∙ b .size;
         below = symbols-set (p .q) d i y small (b .below);
-        holds = keep-set (opposite (checkAt p)) d i y (λ n. T-not (checkAt p i) n (place-check p s k h)) ∙ b .holds;
+        holds = keep-set (opposite (checkAt p)) d i y (λ n. T-not (checkAt p i) n (pivot-check p s k h)) ∙ b .holds;
         vanish = λ l m. vanish l m (ℕ-discrete l k);
-        kept = λ l m n. dot-set-zero (reduced p l) d i y inside (reduced-other p s l k n h (omega arith)) then b .kept l (omega arith) n;
-        zeros = λ l m n. getD-set-other d i (place p l) y 0 (apart l m n) ∙ b .zeros l (omega arith) n;
+        kept = λ l m n. dot-set-zero (reducedRow p l) d i y inside (reduced-other p s l k n h (omega arith)) then b .kept l (omega arith) n;
+        zeros = λ l m n. getD-set-other d i (pivot p l) y 0 (apart l m n) ∙ b .zeros l (omega arith) n;
       }
     where
       i : ℕ
-      i = place p k
+      i = pivot p k
 
       inside : i < length d
-      inside = rw (b .size) (place-below p s k h)
+      inside = rw (b .size) (pivot-below p s k h)
 
-      apart : (l : ℕ) → suc k ≤ l → l < p .r → place p l ≢ i
-      apart l m n e = let g : l ≡ k = place-injective p s l k n h e in omega arith
+      apart : (l : ℕ) → suc k ≤ l → l < p .r → pivot p l ≢ i
+      apart l m n e = let g : l ≡ k = pivot-injective p s l k n h e in omega arith
 
-      vanish : (l : ℕ) → l < suc k → Dec (l ≡ k) → Congruent (p .q) (dot (reduced p l) (set d i y)) 0
+      vanish : (l : ℕ) → l < suc k → Dec (l ≡ k) → Congruent (p .q) (dot (reducedRow p l) (set d i y)) 0
       vanish l m (yes e) =
-          let f : ℕ → ℕ = reduced p k in
+          let f : ℕ → ℕ = reducedRow p k in
           let z : getD d i 0 ≡ 0 = b .zeros k (le-refl k) h in
-          of-eq (ap (λ (o : ℕ). dot (reduced p o) (set d i y)) e ∙ sym (add-zero (dot f (set d i y))) ∙ ap (λ (x : ℕ). dot f (set d i y) + x) (sym z))
+          of-eq (ap (λ (o : ℕ). dot (reducedRow p o) (set d i y)) e ∙ sym (add-zero (dot f (set d i y))) ∙ ap (λ (x : ℕ). dot f (set d i y) + x) (sym z))
           then dot-set-one f d i y inside (reduced-same p s k h)
           then add (b .kept k (le-refl k) h) (same y)
           then of-eq (add-comm (dot f c) y)
           then makes
       vanish l m (no n) =
           let g : l < k = lt-of-le-ne (le-of-suc-le-suc m) n in
-          dot-set-zero (reduced p l) d i y inside (reduced-other p s l k (omega arith) h n) then b .vanish l g
+          dot-set-zero (reducedRow p l) d i y inside (reduced-other p s l k (omega arith) h n) then b .vanish l g
 
   module _ (sums e : List ℕ) (four : p .r ≤ 4) (are : (j : ℕ) → j < 4 → getD sums j 0 ≡ syndrome (fourRows (p .q) (p .n)) (bare p a) j) (solves : Solves (p .q) sums e) where
     fill : (k : ℕ) → k ≤ p .r → Filling p a (bare p a) (checked (p .q) e (bare p a) k) k

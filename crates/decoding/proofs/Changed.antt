@@ -22,7 +22,7 @@ use Rattle.code.proofs.Moves.{parity}
 use Rattle.code.proofs.Lawful.{length-body, balanced-length, body-at}
 use Rattle.decoding.specs.Syndromes.{index}
 use Rattle.decoding.specs.Decoded.{checkSymbol, checkIndex, Sums, sums, update, movedSums, target, lack, nearAfter, places}
-use Rattle.decoding.proofs.Tests.{both}
+use Rattle.decoding.proofs.Tests.{for-both}
 use Rattle.decoding.proofs.Near.{Rows, rows}
 use Rattle.decoding.proofs.Components.{components-test}
 use Rattle.decoding.proofs.Moved.{index-odd, index-even, Gain, moved-side}
@@ -35,15 +35,15 @@ index-within p true k h = omega arith
 index-within p false k h = omega arith
 
 -- an index of the body is one of a parity
-pub data Placed (p : Parameters) : ℕ → Type 0 where
-  placed : (b : Bool) (k : ℕ) → k < places p b → Placed p (index b k)
+pub data OfParity (p : Parameters) : ℕ → Type 0 where
+  of-parity : (b : Bool) (k : ℕ) → k < places p b → OfParity p (index b k)
 
-pub place : (p : Parameters) (i : ℕ) → i < balancedLength p → Placed p i
-place p i h = go (parity i .0) (parity i .1)
+pub in-parity : (p : Parameters) (i : ℕ) → i < balancedLength p → OfParity p i
+in-parity p i h = go (parity i .0) (parity i .1)
   where
-    go : (a : ℕ) → (i ≡ double a) ⊎ (i ≡ suc (double a)) → Placed p i
-    go a (inl e) = subst (Placed p) (index-odd a ∙ sym e) (placed true a (omega (arith, double-is a)))
-    go a (inr e) = subst (Placed p) (index-even a ∙ sym e) (placed false a (omega (arith, double-is a)))
+    go : (a : ℕ) → (i ≡ double a) ⊎ (i ≡ suc (double a)) → OfParity p i
+    go a (inl e) = subst (OfParity p) (index-odd a ∙ sym e) (of-parity true a (omega (arith, double-is a)))
+    go a (inr e) = subst (OfParity p) (index-even a ∙ sym e) (of-parity false a (omega (arith, double-is a)))
 
 -- the others are the check symbols'
 pub index-cases : (p : Parameters) (i : ℕ) → i < codewordLength p → (i < balancedLength p) ⊎ ((b : Bool) × (i ≡ checkIndex p b))
@@ -153,7 +153,7 @@ module _ (p : Parameters) (s : Sized p) {v : List ℕ} (n : length v ≡ codewor
       record {
         weighs = omega (arith, weight-body-set p v n (index b k) y within, m .weighs);
         asked =
-            both b (λ c. update b ((t .asked b + e) % p .q) (t .asked) c ≡ checkSymbol (p .q) c (body p (set v (index b k) y)))
+            for-both b (λ c. update b ((t .asked b + e) % p .q) (t .asked) c ≡ checkSymbol (p .q) c (body p (set v (index b k) y)))
             (update-here b _ (t .asked) ∙ ap (λ (x : ℕ). (x + e) % p .q) (m .asked b)
             ∙ sym (ap (checkSymbol (p .q) b) here ∙ check-gained b (body p v) k y e (raised .within) (raised .gained)))
             (update-other b _ (t .asked) ∙ m .asked (not b) ∙ sym (ap (checkSymbol (p .q) (not b)) here ∙ check-kept (p .q) b (body p v) k y));

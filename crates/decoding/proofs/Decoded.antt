@@ -16,7 +16,7 @@ use Rattle.code.specs.Reading.{reading}
 use Rattle.code.specs.Claims.{OneNear}
 use Rattle.decoding.specs.Syndromes.{nearSyndromes, index}
 use Rattle.decoding.specs.Decoded.{Sums, target, fits, places, firstFit, decodedBody, agrees, decodedBalanced, decodedUnbalanced, decodedBy, decoded}
-use Rattle.decoding.proofs.Tests.{false-test, both}
+use Rattle.decoding.proofs.Tests.{false-test, for-both}
 use Rattle.decoding.proofs.Changed.{Summed, summed}
 use Rattle.decoding.proofs.Outcomes.{clean-reading, check-reading, fit-reading, far-refused, checks-refused, right-refused, wrong-refused, unfit-refused}
 
@@ -24,10 +24,10 @@ module _ (p : Parameters) (s : Sized p) (one : OneNear p) {v : List ℕ} (w : T 
     (m : Summed p v t) where
   -- both check symbols, from the values of their tests
   agree : agrees t true ≡ true → agrees t false ≡ true → (b : Bool) → t .asked b ≡ t .arrived b
-  agree f g = both true (λ b. t .asked b ≡ t .arrived b) (eqb-true _ _ f) (eqb-true _ _ g)
+  agree f g = for-both true (λ b. t .asked b ≡ t .arrived b) (eqb-true _ _ f) (eqb-true _ _ g)
 
   disagree : agrees t true ≡ false → agrees t false ≡ false → (b : Bool) → t .asked b ≢ t .arrived b
-  disagree f g = both true (λ b. t .asked b ≢ t .arrived b) (eqb-false _ _ f) (eqb-false _ _ g)
+  disagree f g = for-both true (λ b. t .asked b ≢ t .arrived b) (eqb-false _ _ f) (eqb-false _ _ g)
 
   body-decoded : (b : Bool) → t .weighs ≢ target p → agrees t (not b) ≡ true → decodedBody p t b v ≡ reading p v
   unfolding decodedBody firstFit

@@ -20,7 +20,7 @@ use Rattle.code.proofs.Merge.{word-length, word-below, word-of}
 use Rattle.code.proofs.Symbols.{symbols-set}
 use Rattle.decoding.specs.Syndromes.{index}
 use Rattle.decoding.specs.Decoded.{checkSymbol, checkIndex, Sums, target, lack, balancingSymbol, inRange, offByLack, nearAfter, fits, places}
-use Rattle.decoding.proofs.Tests.{and-three, three-parts, both}
+use Rattle.decoding.proofs.Tests.{and-three, three-parts, for-both}
 use Rattle.decoding.proofs.Answers.{Tests, codeword-tests, tests-codeword}
 use Rattle.decoding.proofs.Changed.{index-within, weight-body-set, checks-kept, Summed, lack-gained, changed, changed-check, kept-check, changed-near}
 
@@ -71,7 +71,7 @@ module _ (p : Parameters) (s : Sized p) {v : List ℕ} (w : T (isWord (p .q) (co
         word = word-set p v (index b k) y w (f .below);
         weighs = sym (changed p s long m b k y l (f .balances) .weighs);
         checks =
-            both b (λ c. checkSymbol (p .q) c (body p (set v (index b k) y)) ≡ getD (set v (index b k) y) (checkIndex p c) 0)
+            for-both b (λ c. checkSymbol (p .q) c (body p (set v (index b k) y)) ≡ getD (set v (index b k) y) (checkIndex p c) 0)
             (changed-check p s long m b k y l (f .balances) ∙ f .check ∙ arrived-is b)
             (kept-check p s long m b k y l (f .balances) ∙ a ∙ arrived-is (not b));
         near = subst T (changed-near p s long m b k y l (f .balances)) (f .near);

@@ -83,9 +83,9 @@ pub restored-as-is : (p : Parameters) (S c : List ℕ) → zeroSyndrome p S ≡ 
 unfolding restoredBy
 restored-as-is p S c e = rw (e, restoredBy)
 
-pub restored-lowered : (p : Parameters) (S c : List ℕ) → zeroSyndrome p S ≡ false → restoredBy p S c ≡ lowered (p .q) c (columnPosition p S - 1)
+pub restored-at-position : (p : Parameters) (S c : List ℕ) → zeroSyndrome p S ≡ false → restoredBy p S c ≡ lowered (p .q) c (columnPosition p S - 1)
 unfolding restoredBy
-restored-lowered p S c e = rw (e, restoredBy)
+restored-at-position p S c e = rw (e, restoredBy)
 
 module _ (p : Parameters) (s : Sized p) {c S : List ℕ} (w : Rows p c S) where
   row-digits : Digits (p .q) (p .r - 1) S
@@ -125,16 +125,16 @@ module _ (p : Parameters) (s : Sized p) {c S : List ℕ} (w : Rows p c S) where
     row-is : (j : ℕ) → j < p .r → getD S j 0 ≡ checkRow p j i
     row-is j h = small (rows-below (q-positive p s) w j h) (entry-below j h) (rows-congruent w j h then k j h)
 
-    pub position-is : columnPosition p S ≡ suc i
+    pub position-named : columnPosition p S ≡ suc i
     unfolding columnPosition
-    position-is =
+    position-named =
         value-digits (p .q) (p .r - 1) (suc i) S (q-positive p s) (le-trans (suc-le-suc l) (s .columns)) (row-digits .long)
         (λ j h. row-is j (omega arith) ∙ digit-row p j i h)
 
     pub column-test : T (columnSyndrome p S)
     column-test =
         named-test p S
-        (record { last = row-is (p .r - 1) (last-below p s) ∙ last-row p i; some = omega (arith, position-is); within = omega (arith, position-is) })
+        (record { last = row-is (p .r - 1) (last-below p s) ∙ last-row p i; some = omega (arith, position-named); within = omega (arith, position-named) })
 
   module _ (n : length c ≡ p .n) where
     position-within : T (columnSyndrome p S) → columnPosition p S - 1 < length c
@@ -161,4 +161,4 @@ module _ (p : Parameters) (s : Sized p) {c S : List ℕ} (w : Rows p c S) where
       where
         go : (b : Bool) → zeroSyndrome p S ≡ b → T (b || columnSyndrome p S) → restoredBy p S c ≡ restored p c
         go true e k = restored-as-is p S c e ∙ sym (restored-zero p s c n (code-zero p c (subst T (zero-test w) (holds _ e))))
-        go false e k = restored-lowered p S c e ∙ sym (restored-column p s c n (columnPosition p S - 1) (position-within k) (column-named k))
+        go false e k = restored-at-position p S c e ∙ sym (restored-column p s c n (columnPosition p S - 1) (position-within k) (column-named k))

@@ -18,7 +18,7 @@ use Rattle.decoding.specs.Syndromes.{nearSyndromes, index}
 use Rattle.decoding.specs.Decoded.{checkSymbol, checkIndex, Sums, target, fits, places}
 use Rattle.decoding.proofs.Components.{components-test}
 use Rattle.decoding.proofs.Answers.{Tests, codeword-tests, reads-none}
-use Rattle.decoding.proofs.Changed.{Placed, placed, place, index-cases, body-kept, other-kept, Summed}
+use Rattle.decoding.proofs.Changed.{OfParity, of-parity, in-parity, index-cases, body-kept, other-kept, Summed}
 use Rattle.decoding.proofs.Fits.{unbalanced, other-agrees, own-disagrees, codeword-fit}
 
 -- a changed check symbol leaves the components
@@ -55,8 +55,8 @@ module _ (p : Parameters) (s : Sized p) {v : List ℕ} (w : T (isWord (p .q) (co
       check-changed b (m .weighs ∙ ap weight e ∙ c .weighs) (subst T (components-kept p v b y ∙ sym near-is) (c .near))
       (m .asked (not b) ∙ ap (checkSymbol (p .q) (not b)) e ∙ c .checks (not b) ∙ other-kept p v b y ∙ sym (m .arrived (not b)))
 
-  body-nearby : (i y : ℕ) → Placed p i → y < p .q → y ≢ getD v i 0 → T (codeword p (set v i y)) → Nearby p t v
-  body-nearby i y (placed b k l) a ne h =
+  body-nearby : (i y : ℕ) → OfParity p i → y < p .q → y ≢ getD v i 0 → T (codeword p (set v i y)) → Nearby p t v
+  body-nearby i y (of-parity b k l) a ne h =
       body-changed b k (unbalanced p s w m b k y l h a ne) (other-agrees p s w m b k y l h a ne) (own-disagrees p s w m b k y l h a ne) l
       (codeword-fit p s w m b k y l h a ne)
 
@@ -66,5 +66,5 @@ module _ (p : Parameters) (s : Sized p) {v : List ℕ} (w : T (isWord (p .q) (co
       reads-none p s one v w (λ h. none (sent-nearby h))
       (λ i y l a ne h.
       none
-      (⊎-elim (λ j. body-nearby i y (place p i j) a ne h)
+      (⊎-elim (λ j. body-nearby i y (in-parity p i j) a ne h)
       (λ (c : (b : Bool) × (i ≡ checkIndex p b)). check-nearby (c .0) y (subst (λ (j : ℕ). T (codeword p (set v j y))) (c .1) h)) (index-cases p i l)))

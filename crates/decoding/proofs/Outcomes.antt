@@ -21,7 +21,7 @@ use Rattle.code.proofs.Columns.{q-positive}
 use Rattle.code.proofs.Merge.{word-length}
 use Rattle.decoding.specs.Syndromes.{nearSyndromes, index}
 use Rattle.decoding.specs.Decoded.{checkSymbol, checkIndex, Sums, target, balancingSymbol, nearAfter, fits, places, readBy, readFit, decodedCheck, movedSums, lack}
-use Rattle.decoding.proofs.Tests.{both}
+use Rattle.decoding.proofs.Tests.{for-both}
 use Rattle.decoding.proofs.Components.{read-by}
 use Rattle.decoding.proofs.Answers.{Tests, tests-codeword, reads-sent, reads-changed}
 use Rattle.decoding.proofs.Changed.{index-within, check-within, body-kept, other-kept, Summed, changed}
@@ -89,7 +89,7 @@ module _ (p : Parameters) (s : Sized p) (one : OneNear p) {v : List ℕ} (w : T 
             word = word-set p v i y w (rw (m .asked b) (check-below (p .q) (q-positive p s) b (body p v)));
             weighs = ap weight same-body ∙ sym (m .weighs) ∙ a;
             checks =
-                both b (λ c. checkSymbol (p .q) c (body p u) ≡ getD u (checkIndex p c) 0)
+                for-both b (λ c. checkSymbol (p .q) c (body p u) ≡ getD u (checkIndex p c) 0)
                 (ap (checkSymbol (p .q) b) same-body ∙ sym (m .asked b)
                 ∙ sym (getD-set-same v i y 0 (subst (λ (k : ℕ). i < k) (sym long) (check-within p b))))
                 (ap (checkSymbol (p .q) (not b)) same-body ∙ sym (m .asked (not b)) ∙ r ∙ m .arrived (not b) ∙ sym (other-kept p v b y));
@@ -171,5 +171,5 @@ module _ (p : Parameters) (s : Sized p) (one : OneNear p) {v : List ℕ} (w : T 
       go (as-sent x n h) = a x
       go (check-changed c x n h) = a x
       go (body-changed c k x h g l o) =
-          both b (λ c. (k : ℕ) → t .asked c ≢ t .arrived c → k < places p c → T (fits p t c k (getD v (index c k) 0)) → ⊥) (λ k g l o. f k l o)
+          for-both b (λ c. (k : ℕ) → t .asked c ≢ t .arrived c → k < places p c → T (fits p t c k (getD v (index c k) 0)) → ⊥) (λ k g l o. f k l o)
           (λ k g l o. g r) c k g l o

@@ -45,8 +45,8 @@ pub digits-zero : (q k : ℕ) → digits q k 0 ≡ replicate k 0
 digits-zero q zero = refl
 digits-zero q (suc k) = rw (zero-mod, zero-div, digits-zero q k)
 
-pub digits-small : (q k i : ℕ) → i < q → digits q (suc k) i ≡ i ∷ replicate k 0
-digits-small q k i h = rw (mod-eq-of-lt h, div-eq-of-lt h, digits-zero q k)
+pub digits-single : (q k i : ℕ) → i < q → digits q (suc k) i ≡ i ∷ replicate k 0
+digits-single q k i h = rw (mod-eq-of-lt h, div-eq-of-lt h, digits-zero q k)
 
 -- The digits of the next number.
 
@@ -64,7 +64,7 @@ digits-carry q k i some h =
 
 pub digits-power : (q k j : ℕ) → 2 ≤ q → digits q k (q ^ j) ≡ set (replicate k 0) j 1
 digits-power q zero j h = refl
-digits-power q (suc k) zero h = rw pow-zero (digits-small q k 1 h)
+digits-power q (suc k) zero h = rw pow-zero (digits-single q k 1 h)
 digits-power q (suc k) (suc j) h =
     let p : 0 < q = omega arith in
     rw (pow-suc, mul-mod-left, mul-div-cancel, digits-power q k j h)

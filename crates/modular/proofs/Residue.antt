@@ -34,12 +34,12 @@ pub multiple : (q a k : ℕ) → Congruent q (a + k * q) a
 multiple q a k = record { same = add-mul-mod-self-right a k q }
 
 -- a number is its remainder and a multiple
-pub split : (q a : ℕ) → a ≡ a % q + a / q * q
-split q a = sym (mod-add-div' a q)
+pub div-split : (q a : ℕ) → a ≡ a % q + a / q * q
+div-split q a = sym (mod-add-div' a q)
 
 scale-mod : (q k a : ℕ) → Congruent q (k * a) (k * (a % q))
 scale-mod q k a =
-    of-eq (ap (λ (x : ℕ). k * x) (split q a) ∙ mul-add k (a % q) (a / q * q) ∙ ap (λ (x : ℕ). k * (a % q) + x) (sym (mul-assoc k (a / q) q)))
+    of-eq (ap (λ (x : ℕ). k * x) (div-split q a) ∙ mul-add k (a % q) (a / q * q) ∙ ap (λ (x : ℕ). k * (a % q) + x) (sym (mul-assoc k (a / q) q)))
     then multiple q (k * (a % q)) (k * (a / q))
 
 pub scale : {q a b : ℕ} (k : ℕ) → Congruent q a b → Congruent q (k * a) (k * b)
@@ -87,7 +87,7 @@ below-case q a b h true e =
     let k : a < suc b = ltb-true a (suc b) e in
     let d : ℕ = suc b - suc a in
     let m : d % q < q = mod-lt d h in
-    let f : (q - (d % q + 1)) + suc b ≡ a + suc (d / q) * q = omega (arith, split q d) in
+    let f : (q - (d % q + 1)) + suc b ≡ a + suc (d / q) * q = omega (arith, div-split q d) in
     of-eq f then multiple q a (suc (d / q))
 below-case q a b h false e =
     let k : suc b ≤ a = ltb-false a (suc b) e in
@@ -109,8 +109,8 @@ minus-is q a b h k =
     (cancel b (add (reduce q (a + (q - b))) (same b) then of-eq e then multiple q a 1 then symm (minus-add q a b h)))
 
 -- a number below q is its own remainder, and one below twice q is once it is less by q
-pub kept : {q s : ℕ} → s < q → (s ≡ s % q) × (s < q)
-kept h = (sym (mod-eq-of-lt h), h)
+pub already-reduced : {q s : ℕ} → s < q → (s ≡ s % q) × (s < q)
+already-reduced h = (sym (mod-eq-of-lt h), h)
 
 pub wrapped : {q s : ℕ} → q ≤ s → s < q + q → (s - q ≡ s % q) × (s - q < q)
 wrapped {q} {s} h l =
