@@ -19,10 +19,10 @@ use Rattle.code.specs.Component.{symbolsBelow, inCode, message, componen
 use Rattle.code.specs.Balance.{interleave, addAt, withZero, zeroIndex, addOne, differences, choice, chosen, earliestS, earliestV, balanced}
 use Rattle.code.specs.Codeword.{alternate, alpha, beta, withChecks, interleaved, encoded, body, differenced, received, lowered, restored, carried}
 use Rattle.code.specs.Claims.{Tried, Holding, Encodes, ChoiceCarries, EncodedCarries}
-use Rattle.code.proofs.Weights.{double, double-is}
+use Rattle.code.proofs.Weights.{double, double-is, parity}
 use Rattle.code.proofs.Syndrome.{Zero, ColumnOf, code-zero, lowered-column}
 use Rattle.code.proofs.Columns.{q-positive}
-use Rattle.code.proofs.Moves.{Column, neither, first, second, NearIn, parity}
+use Rattle.code.proofs.Moves.{Column, neither, first, second, NearIn}
 use Rattle.code.proofs.Symbols.{symbol-below, symbols-set, symbols-append}
 use Rattle.code.proofs.Lawful.{codeword-of, body-of}
 use Rattle.code.proofs.Choice.{length-chosen, tried-index}
@@ -82,8 +82,9 @@ raise-sent q c d t e l = go (parity t .0) (parity t .1)
     go : (k : ℕ) → (t ≡ double k) ⊎ (t ≡ suc (double k)) → Sent q c d (addAt q z t 1)
     go k (inl x) =
         let m : k < length c = omega (arith, length-interleave c d e, double-is k) in
+        let i : ℕ = double k in
         subst (λ (j : ℕ). Sent q c d (addAt q z j 1)) (sym x)
-        (first-raised k m (first-set z k (raised (double k)) ∙ set-is (double k) k one (first-at z k)) (second-kept z k (raised (double k)) ∙ two))
+        (first-raised k m (first-set z k (raised i) ∙ set-is i k one (first-at z k)) (second-kept z k (raised i) ∙ two))
     go k (inr x) =
         let m : k < length d = omega (arith, length-interleave c d e, double-is k) in
         let i : ℕ = suc (double k) in
@@ -91,7 +92,8 @@ raise-sent q c d t e l = go (parity t .0) (parity t .1)
         (second-raised k m (first-kept z k (raised i) ∙ one) (second-set z k (raised i) ∙ set-is i k two (second-at z k)))
 
 -- or to none of them
-choice-sent : (p : Parameters) (c d : List ℕ) (i : ℕ) → length c ≡ length d → i ≤ length (interleave c d) → Sent (p .q) c d (addOne p (interleave c d) i)
+choice-sent : (p : Parameters) (c d : List ℕ) (i : ℕ) → length c ≡ length d → i ≤ length (interleave c d)
+    → Sent (p .q) c d (addOne p (interleave c d) i)
 choice-sent p c d zero e l = as-made (alternate-first c d e) (alternate-second c d e)
 choice-sent p c d (suc t) e l = raise-sent (p .q) c d t e l
 
@@ -125,7 +127,8 @@ module _ (p : Parameters) (s : Sized p) {a c : List ℕ} (h : Holding p a c) (k 
       ∙ lowered-raised (p .q) (q-positive p s) c k (word-below h) l
 
 module _ (p : Parameters) (s : Sized p) (a b : List ℕ) (ha : Holding p a (component p a)) (hb : Holding p b (component p b)) (t v : ℕ)
-    (tried : Tried p (balancedLength p) v) (weighs : weight (chosen p (interleaved p a b) t v) ≡ balancingValue (p .q) (balancedLength p)) where
+    (tried : Tried p (balancedLength p) v)
+    (weighs : weight (chosen p (interleaved p a b) t v) ≡ balancingValue (p .q) (balancedLength p)) where
   abbrev w : List ℕ
   w = chosen p (interleaved p a b) t v
 

@@ -37,7 +37,8 @@ found-differing v u i l n same =
     rw (t, findingOf, e)
 
 -- v with another symbol was sent
-pub found-sent : (v : List ℕ) (i y : ℕ) → i < length v → y ≢ getD v i 0 → findingOf v (set v i y) ≡ corrected (correctionAt i (getD v i 0) y)
+pub found-sent : (v : List ℕ) (i y : ℕ) → i < length v → y ≢ getD v i 0
+    → findingOf v (set v i y) ≡ corrected (correctionAt i (getD v i 0) y)
 found-sent v i y l n =
     let here : getD (set v i y) i 0 ≡ y = getD-set-same v i y 0 l in
     found-differing v (set v i y) i l (λ e. n (sym (e ∙ here))) (λ j d. sym (getD-set-other v i j y 0 d))

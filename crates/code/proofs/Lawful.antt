@@ -74,12 +74,18 @@ two-last m u e =
     let i : m < length u = omega arith in
     let j : suc m < length u = omega arith in
     let k : length u ≡ suc (suc m) = omega arith in
+    let none : drop (suc (suc m)) u ≡ [] = ap (λ (x : ℕ). drop x u) (sym k) ∙ drop-length u in
+    let last : getD u (suc m) 0 ≡ getD u (m + 1) 0 = ap (λ (x : ℕ). getD u x 0) (sym (add-one m)) in
+    let tail : drop (suc m) u ≡ getD u (m + 1) 0 ∷ [] = drop-cons u (suc m) 0 j ∙ ap₂ (λ (x : ℕ) (t : List ℕ). x ∷ t) last none in
     sym (take-append-drop m u)
-    ∙ ap (λ (t : List ℕ). take m u ++ t)
-    (drop-cons u m 0 i
-    ∙ ap (λ (t : List ℕ). getD u m 0 ∷ t)
-    (drop-cons u (suc m) 0 j
-    ∙ ap₂ (λ (x : ℕ) (t : List ℕ). x ∷ t) (ap (λ (x : ℕ). getD u x 0) (sym (add-one m))) (ap (λ (x : ℕ). drop x u) (sym k) ∙ drop-length u)))
+    ∙ ap (λ (t : List ℕ). take m u ++ t) (drop-cons u m 0 i ∙ ap (λ (t : List ℕ). getD u m 0 ∷ t) tail)
+
+-- the two check symbols, each by its test
+abbrev alphaRight : Parameters → List ℕ → Bool
+alphaRight p u = eqb (getD u (balancedLength p) 0) (alpha (p .q) (body p u))
+
+abbrev betaRight : Parameters → List ℕ → Bool
+betaRight p u = eqb (getD u (balancedLength p + 1) 0) (beta (p .q) (body p u))
 
 pub lawful : (p : Parameters) → 1 ≤ p .q → (u : List ℕ) → T (codeword p u) → Lawful p u
 unfolding codeword isBalanced hasChecks hasComponents withChecks body
@@ -93,18 +99,14 @@ lawful p h u k = from (and-parts (isWord (p .q) (codewordLength p) u) (isBalance
           weighs = eqb→eq _ _ (t .1);
           checks =
               two-last (balancedLength p) u long
-              ∙ ap₂ (λ (x y : ℕ). take (balancedLength p) u ++ (x ∷ y ∷ [])) (eqb→eq _ _ (and-left A B (t .2))) (eqb→eq _ _ (and-right A B (t .2)));
+              ∙ ap₂ (λ (x y : ℕ). take (balancedLength p) u ++ (x ∷ y ∷ []))
+              (eqb→eq _ _ (and-left (alphaRight p u) (betaRight p u) (t .2)))
+              (eqb→eq _ _ (and-right (alphaRight p u) (betaRight p u) (t .2)));
           near = components-near p h (received p true u) (received p false u) (t .3);
         }
       where
         long : length u ≡ codewordLength p
         long = eqb→eq _ _ (and-left (eqb (length u) (codewordLength p)) (symbolsBelow (p .q) u) (t .0))
-
-        A : Bool
-        A = eqb (getD u (balancedLength p) 0) (alpha (p .q) (body p u))
-
-        B : Bool
-        B = eqb (getD u (balancedLength p + 1) 0) (beta (p .q) (body p u))
 
 -- the body of w with its check symbols is w
 pub body-of : (p : Parameters) (w : List ℕ) → length w ≡ balancedLength p → body p (withChecks (p .q) w) ≡ w
@@ -113,13 +115,12 @@ body-of p w e = take-at w (alpha (p .q) w ∷ beta (p .q) w ∷ []) (balancedLen
 
 -- a word of m symbols that balances, with its check symbols, is a codeword where its components are near the code
 pub codeword-of : (p : Parameters) → 1 ≤ p .q → (w : List ℕ) → length w ≡ balancedLength p → T (symbolsBelow (p .q) (withChecks (p .q) w))
-    → weight w ≡ balancingValue (p .q) (balancedLength p)
-    → NearIn p w → T (codeword p (withChecks (p .q) w))
+    → weight w ≡ balancingValue (p .q) (balancedLength p) → NearIn p w → T (codeword p (withChecks (p .q) w))
 unfolding codeword isBalanced hasChecks hasComponents withChecks received
 codeword-of p h w e b k z =
     and-four (isWord (p .q) (codewordLength p) u) (isBalanced p u) (hasChecks p u) (hasComponents p u) word (eq-test (ap weight here ∙ k))
-    (and-intro (eqb (getD u (balancedLength p) 0) (alpha (p .q) (body p u))) (eqb (getD u (balancedLength p + 1) 0) (beta (p .q) (body p u)))
-    (eq-test (first-check ∙ ap (alpha (p .q)) (sym here))) (eq-test (second-check ∙ ap (beta (p .q)) (sym here))))
+    (and-intro (alphaRight p u) (betaRight p u) (eq-test (first-check ∙ ap (alpha (p .q)) (sym here)))
+    (eq-test (second-check ∙ ap (beta (p .q)) (sym here))))
     (near-components p h (received p true u) (received p false u) (subst (NearIn p) (sym here) z))
   where
     u : List ℕ

@@ -1,8 +1,8 @@
--- What the symbols of a codeword at odd and at even positions add up to: since w has an odd number of symbols, α stands at an even position and β at
--- an odd one, so each stands among the symbols that it does not sum.
+-- What the symbols of a codeword at odd and at even positions add up to: since w has an odd number of symbols, α stands at an even position
+-- and β at an odd one, so each stands among the symbols that it does not sum.
 -- Assumes nothing.
 use mathlib.Core.Path.{_≡_, sym, ap, _∙_}
-use mathlib.Core.Bool.{Bool, true, false}
+use mathlib.Core.Bool.{true, false}
 use mathlib.Core.List.{List, [], _∷_, _++_}
 use Prim.Native.Nat.{ℕ, zero, suc, _+_}
 use native.Mathlib.Nat.{suc-ne-zero, suc-inj}

@@ -60,7 +60,8 @@ every-profile t h (suc j) k =
 pub profile-none : (i : ℕ) → isProfile i ≡ false → profile i ≡ row 0 0 0
 unfolding profile
 profile-none zero e = refl
-profile-none (suc i) e = ⊎-elim (λ (h : length profiles ≤ i). List·getD-eq-default profiles (row 0 0 0) h) (λ h. absurd (past h)) (le-or-lt (length profiles) i)
+profile-none (suc i) e =
+    ⊎-elim (λ (h : length profiles ≤ i). List·getD-eq-default profiles (row 0 0 0) h) (λ h. absurd (past h)) (le-or-lt (length profiles) i)
   where
     past : i < length profiles → ⊥
     past h =

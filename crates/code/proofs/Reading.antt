@@ -10,7 +10,7 @@ use native.Mathlib.Nat.{ne-of-lt, not-le-of-lt, le-of-suc-le-suc}
 use native.Mathlib.Omega.{arith}
 use lib.Dec.{T, ltb}
 use lib.ListN.{length, getD, set, length-set}
-use lib.Seq.{getD-set-same, getD-set-other, set-set, set-getD}
+use lib.Seq.{getD-set-same, getD-set-other, lt-length-set}
 use borrow.Author.Tests.{lt-ltb, le-ltb}
 use Rattle.modular.specs.Search.{anyBelow}
 use Rattle.modular.proofs.Search.{passes, fails, le-of-not-lt, least-hit, least-is, any-of, any-at}
@@ -21,7 +21,7 @@ use Rattle.code.specs.Reading.{distance, Finding, correctionAt, read, un
 use Rattle.code.specs.Claims.{NearCodeword, OneNear, NearIsOne, Reads, ReadingIs, Corrects, ReadingCorrects}
 use Rattle.code.proofs.Columns.{q-positive}
 use Rattle.code.proofs.Symbols.{symbol-below, symbols-set}
-use Rattle.code.proofs.Distance.{distance-self, distance-sym, distance-set, triangle, one-apart}
+use Rattle.code.proofs.Distance.{distance-self, distance-sym, distance-set, triangle, OneApart, one-apart}
 use Rattle.code.proofs.Merge.{word-length, word-of}
 use Rattle.code.proofs.Found.{found-clean, found-differing, found-sent}
 use Rattle.code.proofs.Lawful.{lawful}
@@ -80,7 +80,8 @@ module _ (p : Parameters) (s : Sized p) (one : OneNear p) (v : List ℕ) (word :
   mends-near i y n = n .lawful
 
   -- u, the codeword near v, is v with the symbol at index i as it was sent
-  module _ (u : List ℕ) (near : NearCodeword p v u) (i : ℕ) (l : i < length v) (ne : getD u i 0 ≢ getD v i 0) (back : set v i (getD u i 0) ≡ u) where
+  module _ (u : List ℕ) (near : NearCodeword p v u) (i : ℕ) (l : i < length v) (ne : getD u i 0 ≢ getD v i 0)
+      (back : set v i (getD u i 0) ≡ u) where
     is-sent : (j x : ℕ) → T (mends p v j x) → u ≡ set v j x
     is-sent j x k = one v word u (set v j x) near (near-mends j x k)
 
@@ -121,12 +122,10 @@ module _ (p : Parameters) (s : Sized p) (one : OneNear p) (v : List ℕ) (word :
   sent : (u : List ℕ) → NearCodeword p v u → reading p v ≡ readAs p (findingOf v u) u
   sent u near =
       ⊎-elim
-      (λ (e : u ≡ v). rw e (reads-clean p v (passes (subst (λ (x : List ℕ). T (codeword p x)) e (near .lawful))) ∙ ap (λ (f : Finding). readAs p f v) (sym (found-clean v))))
-      (λ (c : (i : ℕ) × (i < length u) × (getD u i 0 ≢ getD v i 0) × (set u i (getD v i 0) ≡ v)).
-      let i : ℕ = c .0 in
-      let back : set v i (getD u i 0) ≡ u =
-      ap (λ (x : List ℕ). set x i (getD u i 0)) (sym (c .3)) ∙ set-set u i (getD v i 0) (getD u i 0) ∙ set-getD u i 0 in
-      changed u near i (subst (λ (x : ℕ). i < x) (same ∙ sym long) (c .1)) (c .2) back)
+      (λ (e : u ≡ v).
+      let h : codeword p v ≡ true = passes (subst (λ (x : List ℕ). T (codeword p x)) e (near .lawful)) in
+      rw e (reads-clean p v h ∙ ap (λ (f : Finding). readAs p f v) (sym (found-clean v))))
+      (λ (c : OneApart u v). changed u near (c .i) (subst (λ (x : ℕ). c .i < x) (same ∙ sym long) (c .within)) (c .unequal) (c .back))
       (one-apart u v (same ∙ sym long) (near .close))
     where
       same : length u ≡ codewordLength p
@@ -169,7 +168,7 @@ module _ (p : Parameters) (s : Sized p) (one : OneNear p) where
       let within : i < length u = subst (λ (x : ℕ). i < x) (sym (lawful p (q-positive p s) u h .long)) l in
       let here : getD (set u i y) i 0 ≡ y = getD-set-same u i y 0 within in
       let found : findingOf (set u i y) u ≡ corrected (correctionAt i y (getD u i 0)) =
-      found-differing (set u i y) u i (subst (λ (x : ℕ). i < x) (sym (length-set u i y)) within) (λ e. ne (sym here ∙ e)) (λ j d. getD-set-other u i j y 0 d)
+      found-differing (set u i y) u i (lt-length-set u i y within) (λ e. ne (sym here ∙ e)) (λ j d. getD-set-other u i j y 0 d)
       ∙ ap (λ (x : ℕ). corrected (correctionAt i x (getD u i 0))) here in
       reads (set u i y) (changed-word p s u h i y b) .sent u (near-changed u h i y) ∙ ap (λ (f : Finding). readAs p f u) found
 
@@ -180,7 +179,8 @@ module _ (p : Parameters) (s : Sized p) (one : OneNear p) where
       ne (one (set u i y) (changed-word p s u hu i y b) v u (record { lawful = hv; close = le-of-suc-le-suc d }) (near-changed u hu i y)))
 
   -- a word is refused exactly when no codeword is near it
-  refused : (v : List ℕ) → T (isWord (p .q) (codewordLength p) v) → (reading p v ≡ unreadable) ↔ ((u : List ℕ) → T (codeword p u) → 2 ≤ distance u v)
+  refused : (v : List ℕ) → T (isWord (p .q) (codewordLength p) v)
+      → (reading p v ≡ unreadable) ↔ ((u : List ℕ) → T (codeword p u) → 2 ≤ distance u v)
   refused v word = (
     λ e u h. le-of-not-lt (λ d. never (sym (reads v word .sent u (record { lawful = h; close = le-of-suc-le-suc d })) ∙ e)),
     λ f. reads v word .none (λ u near. not-le-of-lt (f u (near .lawful)) (near .close)),

@@ -1,5 +1,5 @@
--- The check positions and the columns there: combinations of the check rows, the reduced rows, have at the check positions a single 1 mod q,
--- since the digit sum less 1 is 1 for 2 and 0 for a power of q.
+-- The check positions and the columns there: combinations of the check rows, the reduced rows, have at the check positions a single 1
+-- mod q, since the digit sum less 1 is 1 for 2 and 0 for a power of q.
 -- Assumes nothing.
 use mathlib.Core.Path.{_≡_, refl, sym, ap, _∙_}
 use mathlib.Core.Logic.{_≢_, ⊎-elim}
@@ -203,8 +203,9 @@ module _ (p : Parameters) (s : Sized p) where
       last : Congruent (p .q) (dot (checkRow p (p .r - 1)) c) 0
       last =
           let d : ℕ = dot (digitSum p) c in
-          let x : ℕ = dot (checkRow p (p .r - 1)) c in
+          let g : ℕ → ℕ = checkRow p (p .r - 1) in
+          let x : ℕ = dot g c in
           let e : dot (reducedTwo p) c ≡ d + (p .q - 1) * x =
-          dot-add (digitSum p) (λ i. (p .q - 1) * checkRow p (p .r - 1) i) c ∙ ap (λ (y : ℕ). d + y) (dot-scale (p .q - 1) (checkRow p (p .r - 1)) c) in
+          dot-add (digitSum p) (λ i. (p .q - 1) * g i) c ∙ ap (λ (y : ℕ). d + y) (dot-scale (p .q - 1) g c) in
           let f : x + dot (reducedTwo p) c ≡ d + x * p .q = omega (arith, times-pred (p .q) x (q-positive p s)) in
           of-eq (sym (add-zero x)) then add (same x) (symm two) then of-eq f then multiple (p .q) d x then digit-sum-vanishes c digit

@@ -1,6 +1,8 @@
--- A check of a component is a weighted sum over the word that was differenced: taking every other symbol and differencing both move into the weights.
+-- A check of a component is a weighted sum over the word that was differenced: taking every other symbol and differencing both move into
+-- the weights.
 -- Assumes nothing.
 use mathlib.Core.Path.{_≡_, refl, sym, ap, subst, _∙_}
+use mathlib.Core.Logic.{_⊎_, inl, inr, ⊎-elim}
 use mathlib.Core.Bool.{Bool, true, false}
 use mathlib.Core.List.{List, [], _∷_}
 use Prim.Native.Nat.{ℕ, zero, suc, _+_, _-_, _*_, _≤_, _<_, zero-le, suc-le-suc}
@@ -9,10 +11,10 @@ use native.Mathlib.Omega.{arith}
 use lib.Dec.{ltb}
 use lib.ListN.{length}
 use borrow.Author.Tests.{lt-ltb, le-ltb}
-use Rattle.modular.specs.Sum.{dot}
+use Rattle.modular.specs.Sum.{weight, dot}
 use Rattle.modular.specs.Residue.{Congruent}
 use Rattle.modular.proofs.Residue.{of-eq, same, symm, _then_, add, scale, multiple, minus-add, minus-below}
-use Rattle.modular.proofs.Sum.{dot-same}
+use Rattle.modular.proofs.Sum.{dot-one, dot-same}
 use Rattle.code.specs.Parameters.{Parameters}
 use Rattle.code.specs.Component.{Below}
 use Rattle.code.specs.Balance.{neighbourDifference, differences}
@@ -29,6 +31,13 @@ pub dot-alternate : (b : Bool) (f : ℕ → ℕ) (z : List ℕ) → dot f (alter
 dot-alternate b f [] = refl
 dot-alternate true f (x ∷ xs) = ap (λ (s : ℕ). f 0 * x + s) (dot-alternate false (λ i. f (suc i)) xs)
 dot-alternate false f (x ∷ xs) = omega (arith, dot-alternate true f xs)
+
+-- 1 at every other index, and 0 between
+abbrev pub ones : Bool → ℕ → ℕ
+ones b = spread b (λ i. 1)
+
+pub dot-ones : (b : Bool) (z : List ℕ) → dot (ones b) z ≡ weight (alternate b z)
+dot-ones b z = sym (dot-alternate b (λ i. 1) z) ∙ dot-one (alternate b z)
 
 -- the weights g, one index later
 abbrev pub later : (ℕ → ℕ) → ℕ → ℕ
@@ -78,6 +87,13 @@ double (suc a) = suc (suc (double a))
 pub double-is : (a : ℕ) → double a ≡ 2 * a
 double-is zero = refl
 double-is (suc a) = omega (arith, double-is a)
+
+-- an index is twice a number, or one more
+pub parity : (t : ℕ) → (a : ℕ) × ((t ≡ double a) ⊎ (t ≡ suc (double a)))
+parity zero = (0, inl refl)
+parity (suc t) =
+    let (a, c) = parity t in
+    ⊎-elim (λ (x : t ≡ double a). (a, inr (ap suc x))) (λ (x : t ≡ suc (double a)). (suc a, inl (ap suc x))) c
 
 pub spread-skip : (f : ℕ → ℕ) (a : ℕ) → spread false f (double a) ≡ 0
 spread-skip f zero = refl

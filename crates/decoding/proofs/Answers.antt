@@ -7,7 +7,6 @@ use mathlib.Core.List.{List}
 use Prim.Native.Nat.{ℕ, _<_}
 use lib.Dec.{T, eqb, eqb→eq}
 use lib.ListN.{length, getD, set}
-use lib.Seq.{set-set, set-getD}
 use Rattle.modular.specs.Sum.{weight}
 use Rattle.modular.proofs.Search.{eq-test, and-four, and-parts, and-left, and-right, and-intro}
 use Rattle.code.specs.Parameters.{Parameters, Sized, codewordLength}
@@ -17,7 +16,7 @@ use Rattle.code.specs.Reading.{correctionAt, Finding, clean, corrected, unreada
 use Rattle.code.specs.Claims.{NearCodeword, OneNear, Reads}
 use Rattle.code.proofs.Columns.{q-positive}
 use Rattle.code.proofs.Merge.{word-length, word-below}
-use Rattle.code.proofs.Distance.{one-apart}
+use Rattle.code.proofs.Distance.{OneApart, one-apart}
 use Rattle.code.proofs.Found.{found-clean, found-sent}
 use Rattle.code.proofs.Reading.{near-self, near-mends, mends-near, reading-is}
 use Rattle.decoding.specs.Decoded.{checkSymbol, checkIndex, target}
@@ -74,10 +73,9 @@ module _ (p : Parameters) (s : Sized p) (one : OneNear p) (v : List ℕ) (w : T 
           let word : T (isWord (p .q) (codewordLength p) u) = codeword-tests p u (n .lawful) .word in
           let size : length u ≡ codewordLength p = word-length (p .q) (codewordLength p) u word in
           ⊎-elim (λ (e : u ≡ v). f (subst (λ (x : List ℕ). T (codeword p x)) e (n .lawful)))
-          (λ (c : (i : ℕ) × (i < length u) × (getD u i 0 ≢ getD v i 0) × (set u i (getD v i 0) ≡ v)).
-          let i : ℕ = c .0 in
-          let y : ℕ = getD u i 0 in
-          let back : u ≡ set v i y = sym (set-getD u i 0) ∙ sym (set-set u i (getD v i 0) y) ∙ ap (λ (x : List ℕ). set x i y) (c .3) in
-          g i y (subst (λ (k : ℕ). i < k) size (c .1)) (word-below (p .q) (codewordLength p) u (q-positive p s) word i) (c .2)
-          (mends-near p s one v w i y (subst (NearCodeword p v) back n)))
+          (λ (c : OneApart u v).
+          let y : ℕ = getD u (c .i) 0 in
+          let below : y < p .q = word-below (p .q) (codewordLength p) u (q-positive p s) word (c .i) in
+          g (c .i) y (subst (λ (k : ℕ). c .i < k) size (c .within)) below (c .unequal)
+          (mends-near p s one v w (c .i) y (subst (NearCodeword p v) (sym (c .back)) n)))
           (one-apart u v (size ∙ sym long) (n .close))

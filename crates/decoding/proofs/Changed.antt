@@ -1,4 +1,5 @@
--- What one changed symbol of a received word changes: the body or a check symbol, and in the body the weight, one check symbol and the syndromes.
+-- What one changed symbol of a received word changes: the body or a check symbol, and in the body the weight, one check symbol and the
+-- syndromes.
 -- Assumes nothing.
 use mathlib.Core.Path.{_≡_, refl, sym, ap, subst, _∙_}
 use mathlib.Core.Logic.{_⊎_, inl, inr, ⊎-elim, _≢_}
@@ -16,9 +17,8 @@ use Rattle.modular.proofs.Residue.{of-eq, same, _then_, add, reduce, multiple, 
 use Rattle.modular.proofs.Sum.{weight-set}
 use Rattle.code.specs.Parameters.{Parameters, Sized, balancedLength, codewordLength}
 use Rattle.code.specs.Codeword.{body, received, hasComponents}
-use Rattle.code.proofs.Weights.{double, double-is, times-pred}
+use Rattle.code.proofs.Weights.{double, double-is, parity, times-pred}
 use Rattle.code.proofs.Columns.{q-positive}
-use Rattle.code.proofs.Moves.{parity}
 use Rattle.code.proofs.Lawful.{length-body, balanced-length, body-at}
 use Rattle.decoding.specs.Syndromes.{index}
 use Rattle.decoding.specs.Decoded.{checkSymbol, checkIndex, Sums, sums, update, movedSums, target, lack, nearAfter, places}
@@ -52,7 +52,8 @@ index-cases p i h = ⊎-elim past (λ (l : i < balancedLength p). inl l) (le-or-
     past : balancedLength p ≤ i → (i < balancedLength p) ⊎ ((b : Bool) × (i ≡ checkIndex p b))
     past l =
         let k : i ≤ balancedLength p + 1 = omega arith in
-        ⊎-elim (λ (e : i ≡ balancedLength p + 1). inr (false, e)) (λ (m : i < balancedLength p + 1). inr (true, omega arith)) (eq-or-lt-of-le k)
+        ⊎-elim (λ (e : i ≡ balancedLength p + 1). inr (false, e)) (λ (m : i < balancedLength p + 1). inr (true, omega arith))
+        (eq-or-lt-of-le k)
 
 pub check-within : (p : Parameters) (b : Bool) → checkIndex p b < codewordLength p
 check-within p true = omega arith
@@ -133,8 +134,8 @@ update-other true y f = refl
 update-other false y f = refl
 
 -- y, which is e more mod q, in place of the symbol at index k of the parity b moves the sums
-module _ (p : Parameters) (s : Sized p) {v : List ℕ} (n : length v ≡ codewordLength p) {t : Sums} (m : Summed p v t) (b : Bool) (k y e a : ℕ)
-    (l : k < places p b) (small : e ≤ p .q) (gained : Congruent (p .q) (getD v (index b k) 0 + e) y)
+module _ (p : Parameters) (s : Sized p) {v : List ℕ} (n : length v ≡ codewordLength p) {t : Sums} (m : Summed p v t) (b : Bool)
+    (k y e a : ℕ) (l : k < places p b) (small : e ≤ p .q) (gained : Congruent (p .q) (getD v (index b k) 0 + e) y)
     (weighed : y + t .weighs ≡ getD v (index b k) 0 + a) where
   within : index b k < balancedLength p
   within = index-within p b k l
@@ -147,6 +148,14 @@ module _ (p : Parameters) (s : Sized p) {v : List ℕ} (n : length v ≡ codewor
   here : body p (set v (index b k) y) ≡ set (body p v) (index b k) y
   here = body-set p v (index b k) y within
 
+  own-check : checkSymbol (p .q) b (body p (set v (index b k) y)) ≡ (t .asked b + e) % p .q
+  own-check =
+      ap (checkSymbol (p .q) b) here ∙ check-gained b (body p v) k y e (raised .within) (raised .gained)
+      ∙ ap (λ (x : ℕ). (x + e) % p .q) (sym (m .asked b))
+
+  other-check : checkSymbol (p .q) (not b) (body p (set v (index b k) y)) ≡ t .asked (not b)
+  other-check = ap (checkSymbol (p .q) (not b)) here ∙ check-kept (p .q) b (body p v) k y ∙ sym (m .asked (not b))
+
   pub summed-moved : Summed p (set v (index b k) y) (movedSums p b k e a t)
   unfolding received
   summed-moved =
@@ -154,9 +163,7 @@ module _ (p : Parameters) (s : Sized p) {v : List ℕ} (n : length v ≡ codewor
         weighs = omega (arith, weight-body-set p v n (index b k) y within, m .weighs);
         asked =
             for-both b (λ c. update b ((t .asked b + e) % p .q) (t .asked) c ≡ checkSymbol (p .q) c (body p (set v (index b k) y)))
-            (update-here b _ (t .asked) ∙ ap (λ (x : ℕ). (x + e) % p .q) (m .asked b)
-            ∙ sym (ap (checkSymbol (p .q) b) here ∙ check-gained b (body p v) k y e (raised .within) (raised .gained)))
-            (update-other b _ (t .asked) ∙ m .asked (not b) ∙ sym (ap (checkSymbol (p .q) (not b)) here ∙ check-kept (p .q) b (body p v) k y));
+            (update-here b _ (t .asked) ∙ sym own-check) (update-other b _ (t .asked) ∙ sym other-check);
         arrived = λ c. m .arrived c ∙ sym (checks-kept p v c (index b k) y within);
         first = rw here (moved-side (q-positive p s) true b raised (m .first));
         second = rw here (moved-side (q-positive p s) false b raised (m .second));

@@ -49,7 +49,8 @@ module _ (p : Parameters) (s : Sized p) (one : OneNear p) {v : List ℕ} (w : T 
   unfolding decodedBalanced
   balanced-decoded a = go (nearSyndromes p (t .first) (t .second)) (agrees t true) (agrees t false) refl refl refl
     where
-      go : (n c d : Bool) → nearSyndromes p (t .first) (t .second) ≡ n → agrees t true ≡ c → agrees t false ≡ d → decodedBalanced p t v ≡ reading p v
+      go : (n c d : Bool) → nearSyndromes p (t .first) (t .second) ≡ n → agrees t true ≡ c → agrees t false ≡ d
+          → decodedBalanced p t v ≡ reading p v
       go false c d e f g = rw (e, decodedBalanced) (sym (far-refused p s one w m a (false-test e)))
       go true true true e f g = rw (e, decodedBalanced, f, g) (sym (clean-reading p s one w m a (holds _ e) (agree f g)))
       go true true false e f g =
@@ -77,6 +78,7 @@ module _ (p : Parameters) (s : Sized p) (one : OneNear p) {v : List ℕ} (w : T 
       go true e = rw (e, decodedBy) (balanced-decoded (eqb-true _ _ e))
       go false e = rw (e, decodedBy) (unbalanced-decoded (eqb-false _ _ e))
 
-pub decoded-reading : (p : Parameters) → Sized p → OneNear p → (v : List ℕ) → T (isWord (p .q) (codewordLength p) v) → decoded p v ≡ reading p v
+pub decoded-reading : (p : Parameters) → Sized p → OneNear p → (v : List ℕ) → T (isWord (p .q) (codewordLength p) v)
+    → decoded p v ≡ reading p v
 unfolding decoded
 decoded-reading p s one v w = decoded-by p s one w (summed p v)

@@ -50,7 +50,8 @@ fit-test p s b k x y f =
     (lt→ltb (x + target p - s .weighs) (p .q) d))
     (eq-test (f .check)) (f .near)
 
-pub word-set : (p : Parameters) (v : List ℕ) (i y : ℕ) → T (isWord (p .q) (codewordLength p) v) → y < p .q → T (isWord (p .q) (codewordLength p) (set v i y))
+pub word-set : (p : Parameters) (v : List ℕ) (i y : ℕ) → T (isWord (p .q) (codewordLength p) v) → y < p .q
+    → T (isWord (p .q) (codewordLength p) (set v i y))
 word-set p v i y w h =
     word-of (p .q) (codewordLength p) (set v i y) (length-set v i y ∙ word-length (p .q) (codewordLength p) v w)
     (symbols-set (p .q) v i y h (and-right (eqb (length v) (codewordLength p)) (symbolsBelow (p .q) v) w))
@@ -100,12 +101,13 @@ module _ (p : Parameters) (s : Sized p) {v : List ℕ} (w : T (isWord (p .q) (co
         let c : ℕ = t .asked b in
         let d : ℕ = lack p t in
         let x : ℕ = getD v (index b k) 0 in
-        let z : Congruent (p .q) d 0 = cancel c (of-eq (add-comm d c) then symm (reduce (p .q) (c + d)) then of-eq (check ∙ sym a ∙ sym (zero-add c))) in
+        let z : Congruent (p .q) d 0 =
+        cancel c (of-eq (add-comm d c) then symm (reduce (p .q) (c + d)) then of-eq (check ∙ sym a ∙ sym (zero-add c))) in
         ne
         (small below (word-below (p .q) (codewordLength p) v (q-positive p s) w (index b k))
         (symm (lack-gained p t x y (q-positive p s) balances) then add (same x) z then of-eq (add-zero x)))
 
     pub codeword-fit : T (fits p t b k (getD v (index b k) 0))
     codeword-fit =
-        fit-test p t b k (getD v (index b k) 0) y
-        (record { balances = balances; below = below; check = check; near = subst T (sym (changed-near p s long m b k y l balances)) (tests .near) })
+        let near : T (nearAfter p t b k) = subst T (sym (changed-near p s long m b k y l balances)) (tests .near) in
+        fit-test p t b k (getD v (index b k) 0) y (record { balances = balances; below = below; check = check; near = near })

@@ -83,7 +83,8 @@ pub restored-as-is : (p : Parameters) (S c : List ℕ) → zeroSyndrome p S ≡ 
 unfolding restoredBy
 restored-as-is p S c e = rw (e, restoredBy)
 
-pub restored-at-position : (p : Parameters) (S c : List ℕ) → zeroSyndrome p S ≡ false → restoredBy p S c ≡ lowered (p .q) c (columnPosition p S - 1)
+pub restored-at-position : (p : Parameters) (S c : List ℕ) → zeroSyndrome p S ≡ false
+    → restoredBy p S c ≡ lowered (p .q) c (columnPosition p S - 1)
 unfolding restoredBy
 restored-at-position p S c e = rw (e, restoredBy)
 
@@ -133,8 +134,8 @@ module _ (p : Parameters) (s : Sized p) {c S : List ℕ} (w : Rows p c S) where
 
     pub column-test : T (columnSyndrome p S)
     column-test =
-        named-test p S
-        (record { last = row-is (p .r - 1) (last-below p s) ∙ last-row p i; some = omega (arith, position-named); within = omega (arith, position-named) })
+        let last : getD S (p .r - 1) 0 ≡ 1 = row-is (p .r - 1) (last-below p s) ∙ last-row p i in
+        named-test p S (record { last = last; some = omega (arith, position-named); within = omega (arith, position-named) })
 
   module _ (n : length c ≡ p .n) where
     position-within : T (columnSyndrome p S) → columnPosition p S - 1 < length c
@@ -161,4 +162,5 @@ module _ (p : Parameters) (s : Sized p) {c S : List ℕ} (w : Rows p c S) where
       where
         go : (b : Bool) → zeroSyndrome p S ≡ b → T (b || columnSyndrome p S) → restoredBy p S c ≡ restored p c
         go true e k = restored-as-is p S c e ∙ sym (restored-zero p s c n (code-zero p c (subst T (zero-test w) (holds _ e))))
-        go false e k = restored-at-position p S c e ∙ sym (restored-column p s c n (columnPosition p S - 1) (position-within k) (column-named k))
+        go false e k =
+            restored-at-position p S c e ∙ sym (restored-column p s c n (columnPosition p S - 1) (position-within k) (column-named k))

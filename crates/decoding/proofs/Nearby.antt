@@ -30,14 +30,14 @@ pub components-kept : (p : Parameters) (v : List ℕ) (b : Bool) (y : ℕ) → h
 unfolding hasComponents
 components-kept p v b y = rw (received-kept p v b y true, received-kept p v b y false) refl
 
--- what the tests of the algorithm say where a codeword is within one position of v: it arrived as sent, with a check symbol changed, or with
--- a symbol of the body changed
+-- what the tests of the algorithm say where a codeword is within one position of v: it arrived as sent, with a check symbol changed, or
+-- with a symbol of the body changed
 pub data Nearby (p : Parameters) (t : Sums) (v : List ℕ) : Type 0 where
   as-sent : t .weighs ≡ target p → T (nearSyndromes p (t .first) (t .second)) → ((b : Bool) → t .asked b ≡ t .arrived b) → Nearby p t v
   check-changed : (b : Bool) → t .weighs ≡ target p → T (nearSyndromes p (t .first) (t .second)) → t .asked (not b) ≡ t .arrived (not b)
       → Nearby p t v
-  body-changed : (b : Bool) (k : ℕ) → t .weighs ≢ target p → t .asked (not b) ≡ t .arrived (not b) → t .asked b ≢ t .arrived b → k < places p b
-      → T (fits p t b k (getD v (index b k) 0)) → Nearby p t v
+  body-changed : (b : Bool) (k : ℕ) → t .weighs ≢ target p → t .asked (not b) ≡ t .arrived (not b) → t .asked b ≢ t .arrived b
+      → k < places p b → T (fits p t b k (getD v (index b k) 0)) → Nearby p t v
 
 module _ (p : Parameters) (s : Sized p) {v : List ℕ} (w : T (isWord (p .q) (codewordLength p) v)) {t : Sums} (m : Summed p v t) where
   pub near-is : nearSyndromes p (t .first) (t .second) ≡ hasComponents p v
@@ -65,6 +65,6 @@ module _ (p : Parameters) (s : Sized p) {v : List ℕ} (w : T (isWord (p .q) (co
   none-nearby one none =
       reads-none p s one v w (λ h. none (sent-nearby h))
       (λ i y l a ne h.
-      none
-      (⊎-elim (λ j. body-nearby i y (in-parity p i j) a ne h)
-      (λ (c : (b : Bool) × (i ≡ checkIndex p b)). check-nearby (c .0) y (subst (λ (j : ℕ). T (codeword p (set v j y))) (c .1) h)) (index-cases p i l)))
+      let check : (b : Bool) × (i ≡ checkIndex p b) → Nearby p t v =
+      λ c. check-nearby (c .0) y (subst (λ (j : ℕ). T (codeword p (set v j y))) (c .1) h) in
+      none (⊎-elim (λ j. body-nearby i y (in-parity p i j) a ne h) check (index-cases p i l)))

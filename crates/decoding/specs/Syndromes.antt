@@ -70,7 +70,8 @@ columnOf true b k = suc k
 columnOf false true k = k
 columnOf false false k = suc k
 
--- how often that column comes in by e more of the symbol, mod q: in the first component less at the odd positions, in the second at the even ones
+-- how often that column comes in by e more of the symbol, mod q: in the first component less at the odd positions, in the second at the
+-- even ones
 abbrev pub times : Parameters → Bool → Bool → ℕ → ℕ
 times p true true e = p .q - e
 times p true false e = e

@@ -60,21 +60,25 @@ dot-gain f c i y e l h =
 dot-set-congruent : {q u : ℕ} (f : ℕ → ℕ) (c : List ℕ) (i y : ℕ) → i < length c → Congruent q (f i) u
     → Congruent q (dot f (set c i y) + u * getD c i 0) (dot f c + u * y)
 dot-set-congruent f c i y l h =
-    symm (add (same (dot f (set c i y))) (mul h (same (getD c i 0)))) then of-eq (dot-set f c i y l) then add (same (dot f c)) (mul h (same y))
+    symm (add (same (dot f (set c i y))) (mul h (same (getD c i 0)))) then of-eq (dot-set f c i y l)
+    then add (same (dot f c)) (mul h (same y))
 
 pub dot-set-one : {q : ℕ} (f : ℕ → ℕ) (c : List ℕ) (i y : ℕ) → i < length c → Congruent q (f i) 1
     → Congruent q (dot f (set c i y) + getD c i 0) (dot f c + y)
 dot-set-one f c i y l h = simp one-mul at (dot-set-congruent f c i y l h)
 
-pub dot-set-zero : {q : ℕ} (f : ℕ → ℕ) (c : List ℕ) (i y : ℕ) → i < length c → Congruent q (f i) 0 → Congruent q (dot f (set c i y)) (dot f c)
+pub dot-set-zero : {q : ℕ} (f : ℕ → ℕ) (c : List ℕ) (i y : ℕ) → i < length c → Congruent q (f i) 0
+    → Congruent q (dot f (set c i y)) (dot f c)
 dot-set-zero f c i y l h = simp (zero-mul, add-zero) at (dot-set-congruent f c i y l h)
 
 -- a multiple of what sums to 0 mod q adds nothing
-pub dot-add-vanishing : {q : ℕ} (f g : ℕ → ℕ) (k : ℕ) (c : List ℕ) → Congruent q (dot g c) 0 → Congruent q (dot (λ i. f i + k * g i) c) (dot f c)
+pub dot-add-vanishing : {q : ℕ} (f g : ℕ → ℕ) (k : ℕ) (c : List ℕ) → Congruent q (dot g c) 0
+    → Congruent q (dot (λ i. f i + k * g i) c) (dot f c)
 dot-add-vanishing f g k c h =
     of-eq (dot-add f (λ i. k * g i) c) then simp (mul-zero, add-zero) at (add (same (dot f c)) (of-eq (dot-scale k g c) then scale k h))
 
 pub dot-same : (f g : ℕ → ℕ) (c : List ℕ) → ((i : ℕ) → i < length c → f i ≡ g i) → dot f c ≡ dot g c
 dot-same f g [] e = refl
 dot-same f g (x ∷ xs) e =
-    ap₂ (λ (a b : ℕ). a * x + b) (e 0 (suc-le-suc zero-le)) (dot-same (λ i. f (suc i)) (λ i. g (suc i)) xs (λ i h. e (suc i) (suc-le-suc h)))
+    ap₂ (λ (a b : ℕ). a * x + b) (e 0 (suc-le-suc zero-le))
+    (dot-same (λ i. f (suc i)) (λ i. g (suc i)) xs (λ i h. e (suc i) (suc-le-suc h)))
