@@ -26,7 +26,7 @@ use Rattle.code.proofs.Pair.{length-component}
 use Rattle.symbols.specs.Syndromes.{fourRows}
 use Rattle.components.specs.Checks.{checkPosition, checked, Solves}
 use Rattle.components.proofs.Placing.{merge-check, merge-message}
-use Rattle.components.proofs.Solve.{bare, at-place, solved}
+use Rattle.components.proofs.Solve.{bare, at-pivot, solved}
 
 -- The symbols mod q.
 
@@ -95,7 +95,7 @@ module _ (p : Parameters) (s : Sized p) where
   checked-other : (e c : List ℕ) (k i : ℕ) → k ≤ p .r → checkAt p i ≡ false → getD (checked (p .q) e c k) i 0 ≡ getD c i 0
   checked-other e c zero i h f = refl
   checked-other e c (suc k) i h f =
-      rw (at-place p (checked (p .q) e c k) k (getD e k 0))
+      rw (at-pivot p (checked (p .q) e c k) k (getD e k 0))
       (getD-set-other (checked (p .q) e c k) (pivot p k) i (getD e k 0) 0 apart ∙ checked-other e c k i (le-of-suc-le h) f)
     where
       apart : i ≡ pivot p k → ⊥
