@@ -24,7 +24,7 @@ use Rattle.code.proofs.Moves.{Move, NearIn, move-weight, no-move}
 use Rattle.code.proofs.Told.{told}
 use Rattle.code.proofs.Distance.{equal-or-not, Differing, differing, TwoApart, two-apart, distance-zero, distance-sym, distance-append}
 use Rattle.code.proofs.Symbols.{symbol-below}
-use Rattle.code.proofs.Lawful.{Lawful, lawful, length-body, balanced-length, body-at}
+use Rattle.code.proofs.Lawful.{Lawful, lawful, body-length, balanced-length, body-at}
 
 -- two changed symbols that keep the weight are a move
 move : (q : ℕ) → 1 ≤ q → (w : List ℕ) (i j a b : ℕ) → i < length w → j < length w → j ≢ i → weight (set (set w i a) j b) ≡ weight w
@@ -132,10 +132,10 @@ apart-by-units p s u v hu hv f d = sym (go (equal-or-not (distance w w′) 0))
     w′ = body p u
 
     long : length w ≡ balancedLength p
-    long = length-body p v (lv .long)
+    long = body-length p v (lv .long)
 
     long′ : length w′ ≡ balancedLength p
-    long′ = length-body p u (lu .long)
+    long′ = body-length p u (lu .long)
 
     weights : weight w ≡ weight w′
     weights = lv .weighs ∙ sym (lu .weighs)

@@ -24,7 +24,7 @@ use Rattle.code.proofs.Syndrome.{Zero, ColumnOf, code-zero, lowered-col
 use Rattle.code.proofs.Columns.{q-positive}
 use Rattle.code.proofs.Moves.{Column, neither, first, second, NearIn}
 use Rattle.code.proofs.Symbols.{symbol-below, symbols-set, symbols-append}
-use Rattle.code.proofs.Lawful.{codeword-of, body-of}
+use Rattle.code.proofs.Lawful.{codeword-of, body-with-checks}
 use Rattle.code.proofs.Choice.{length-chosen, tried-index}
 use Rattle.code.proofs.Pair.{length-component, length-interleave, length-interleaved, balance-of-pair}
 use Rattle.code.proofs.Component.{component-holding}
@@ -188,7 +188,7 @@ module _ (p : Parameters) (s : Sized p) (a b : List ℕ) (ha : Holding p a (comp
           (ap (restored p) e ∙ made ha (length-component p a), ap (restored p) f ∙ raised-restored p s hb k l (length-component p b))
 
   here : body p (withChecks (p .q) w) ≡ w
-  here = body-of p w long
+  here = body-with-checks p w long
 
   encodes : Encodes p (withChecks (p .q) w) a b
   unfolding carried received

@@ -26,9 +26,9 @@ pub record Lawful (p : Parameters) (u : List ℕ) : Type 0 where
   pub checks : u ≡ withChecks (p .q) (body p u)
   pub near : Near p (received p true u) (received p false u)
 
-pub length-body : (p : Parameters) (u : List ℕ) → length u ≡ codewordLength p → length (body p u) ≡ balancedLength p
+pub body-length : (p : Parameters) (u : List ℕ) → length u ≡ codewordLength p → length (body p u) ≡ balancedLength p
 unfolding body
-length-body p u e = length-take-le (balancedLength p) u (omega arith)
+body-length p u e = length-take-le (balancedLength p) u (omega arith)
 
 -- a symbol of the body is one of the word
 pub body-at : (p : Parameters) (u : List ℕ) (i : ℕ) → i < balancedLength p → getD (body p u) i 0 ≡ getD u i 0
@@ -109,9 +109,9 @@ lawful p h u k = from (and-parts (isWord (p .q) (codewordLength p) u) (isBalance
         long = eqb→eq _ _ (and-left (eqb (length u) (codewordLength p)) (symbolsBelow (p .q) u) (t .0))
 
 -- the body of w with its check symbols is w
-pub body-of : (p : Parameters) (w : List ℕ) → length w ≡ balancedLength p → body p (withChecks (p .q) w) ≡ w
+pub body-with-checks : (p : Parameters) (w : List ℕ) → length w ≡ balancedLength p → body p (withChecks (p .q) w) ≡ w
 unfolding body withChecks
-body-of p w e = take-at w (alpha (p .q) w ∷ beta (p .q) w ∷ []) (balancedLength p) e
+body-with-checks p w e = take-at w (alpha (p .q) w ∷ beta (p .q) w ∷ []) (balancedLength p) e
 
 -- a word of m symbols that balances, with its check symbols, is a codeword where its components are near the code
 pub codeword-of : (p : Parameters) → 1 ≤ p .q → (w : List ℕ) → length w ≡ balancedLength p → T (symbolsBelow (p .q) (withChecks (p .q) w))
@@ -127,7 +127,7 @@ codeword-of p h w e b k z =
     u = w ++ (alpha (p .q) w ∷ beta (p .q) w ∷ [])
 
     here : body p u ≡ w
-    here = body-of p w e
+    here = body-with-checks p w e
 
     word : T (isWord (p .q) (codewordLength p) u)
     word =

@@ -66,7 +66,7 @@ SameWeights p b i j = (k : ℕ) → k < p .r → Congruent (p .q) (rowWeight p b
 
 -- what the indices i and j of one parity bring: their weights differ in each component, and the last rows tell i and j apart in
 -- neither component if their sum does not
-pub record Told (p : Parameters) (i j : ℕ) : Type 0 where
+pub record ToldApart (p : Parameters) (i j : ℕ) : Type 0 where
   pub differ : (b : Bool) → SameWeights p b i j → ⊥
   pub last : Congruent (p .q) (bothLast p j) (bothLast p i) → Congruent (p .q) (lastWeight p true j) (lastWeight p true i)
 
@@ -89,7 +89,7 @@ pub record Shift (p : Parameters) (x x′ : Bool → ℕ → ℕ) (e i j : ℕ) 
 
 -- the argument on syndromes alone
 module _ (p : Parameters) (s : Sized p) {x x′ : Bool → ℕ → ℕ} {e i j : ℕ} (m : Shift p x x′ e i j) (u : Invertible (p .q) e)
-    (t : Told p i j) where
+    (t : ToldApart p i j) where
   -- no syndrome is zero before and after
   not-both : (b : Bool) → ZeroRows p (x b) → ZeroRows p (x′ b) → ⊥
   not-both b z z′ = t .differ b (λ k h. same-weight u (m .rows b k h) (z k h then symm (z′ k h)))
@@ -154,7 +154,7 @@ near-rows p s c h = go h
     go (second a b) = second a (last false b)
 
 pub no-move : (p : Parameters) → Sized p → {w w′ : List ℕ} {e i j : ℕ} → Move (p .q) w w′ e i j → Invertible (p .q) e
-    → length w ≡ suc (double (p .n)) → length w′ ≡ suc (double (p .n)) → Told p i j
+    → length w ≡ suc (double (p .n)) → length w′ ≡ suc (double (p .n)) → ToldApart p i j
     → NearIn p w → NearIn p w′ → ⊥
 no-move p s {w} {w′} {e} {i} {j} m u l l′ t a a′ = no-shift p s shift u t (near-rows p s (parts w) a) (near-rows p s (parts w′) a′)
   where

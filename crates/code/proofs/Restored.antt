@@ -19,7 +19,7 @@ use Rattle.code.proofs.Weights.{length-differenced}
 use Rattle.code.proofs.Syndrome.{Zero, ColumnOf, code-zero, zero-code, lowered-column, column-lowered}
 use Rattle.code.proofs.Columns.{q-positive, last-row, last-below, one-not-zero, columns-differ}
 use Rattle.code.proofs.Moves.{Column, Near, neither, first, second}
-use Rattle.code.proofs.Lawful.{Lawful, lawful, length-body, balanced-length}
+use Rattle.code.proofs.Lawful.{Lawful, lawful, body-length, balanced-length}
 
 -- the test decides which
 restored-in : (p : Parameters) (c : List ℕ) → inCode p c ≡ true → restored p c ≡ c
@@ -88,7 +88,7 @@ one-pair p s u h = (carries (l .near), only)
     l = lawful p (q-positive p s) u h
 
     long : (b : Bool) → length (received p b u) ≡ p .n
-    long b = length-differenced p b (body p u) (length-body p u (l .long) ∙ balanced-length p)
+    long b = length-differenced p b (body p u) (body-length p u (l .long) ∙ balanced-length p)
 
     back : Bool → List ℕ
     back b = restored p (received p b u)

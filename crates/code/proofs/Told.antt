@@ -13,7 +13,7 @@ use Rattle.code.specs.Parameters.{Parameters, Sized}
 use Rattle.code.specs.Component.{checkRow}
 use Rattle.code.proofs.Weights.{double, double-is, parity, ones, spread-take, spread-skip, later, times-pred, weight-first-odd, weight-second-odd, weight-first-even, weight-second-even}
 use Rattle.code.proofs.Columns.{q-positive, one-not-zero, entry, entry-last, entry-out, entries-differ, laters-differ}
-use Rattle.code.proofs.Moves.{rowWeight, lastWeight, bothLast, SameWeights, Told}
+use Rattle.code.proofs.Moves.{rowWeight, lastWeight, bothLast, SameWeights, ToldApart}
 
 -- (q - 1) times a number cancels
 cancel-pred : (q a b : ℕ) → 1 ≤ q → Congruent q ((q - 1) * a) ((q - 1) * b) → Congruent q a b
@@ -26,7 +26,7 @@ cancel-pred q a b h k =
 
 module _ (p : Parameters) (s : Sized p) where
   -- two indices at even positions
-  told-even : (a c : ℕ) → a < p .n → c < p .n → a ≢ c → Told p (suc (double a)) (suc (double c))
+  told-even : (a c : ℕ) → a < p .n → c < p .n → a ≢ c → ToldApart p (suc (double a)) (suc (double c))
   told-even a c ha hc ne =
       record {
         differ = λ b e. ne (sym (differ b e));
@@ -78,7 +78,7 @@ module _ (p : Parameters) (s : Sized p) where
       one-not-zero p s (of-eq (sym total-last) then symm e then of-eq a then multiple (p .q) 0 1)
 
   -- two indices at odd positions
-  told-odd : (a c : ℕ) → a ≤ p .n → c ≤ p .n → a ≢ c → Told p (double a) (double c)
+  told-odd : (a c : ℕ) → a ≤ p .n → c ≤ p .n → a ≢ c → ToldApart p (double a) (double c)
   unfolding total
   told-odd a c ha hc ne = record { differ = λ b e. ne (sym (differ b e)); last = λ e. go (eq-or-lt-of-le ha) (eq-or-lt-of-le hc) e }
     where
@@ -111,7 +111,7 @@ module _ (p : Parameters) (s : Sized p) where
 
   -- i and j of one parity, which the check sum over the odd positions shows
   pub told : (i j : ℕ) → i < suc (double (p .n)) → j < suc (double (p .n)) → i ≢ j
-      → Congruent (p .q) (ones true j) (ones true i) → Told p i j
+      → Congruent (p .q) (ones true j) (ones true i) → ToldApart p i j
   told i j hi hj ne e = go (parity i .0) (parity j .0) (parity i .1) (parity j .1)
     where
       odd-one : (t a : ℕ) → t ≡ double a → ones true t ≡ 1
@@ -120,7 +120,7 @@ module _ (p : Parameters) (s : Sized p) where
       even-zero : (t a : ℕ) → t ≡ suc (double a) → ones true t ≡ 0
       even-zero t a x = ap (ones true) x ∙ spread-skip (λ x. 1) a
 
-      go : (a c : ℕ) → (i ≡ double a) ⊎ (i ≡ suc (double a)) → (j ≡ double c) ⊎ (j ≡ suc (double c)) → Told p i j
+      go : (a c : ℕ) → (i ≡ double a) ⊎ (i ≡ suc (double a)) → (j ≡ double c) ⊎ (j ≡ suc (double c)) → ToldApart p i j
       go a c (inl x) (inl y) =
           let ha : a ≤ p .n = omega (arith, double-is a, double-is (p .n)) in
           let hc : c ≤ p .n = omega (arith, double-is c, double-is (p .n)) in

@@ -19,11 +19,11 @@ use Rattle.code.specs.Parameters.{Parameters, Sized, balancedLength, codewordLe
 use Rattle.code.specs.Codeword.{body, received, hasComponents}
 use Rattle.code.proofs.Weights.{double, double-is, parity, times-pred}
 use Rattle.code.proofs.Columns.{q-positive}
-use Rattle.code.proofs.Lawful.{length-body, balanced-length, body-at}
+use Rattle.code.proofs.Lawful.{body-length, balanced-length, body-at}
 use Rattle.decoding.specs.Syndromes.{index}
 use Rattle.decoding.specs.Decoded.{checkSymbol, checkIndex, Sums, sums, update, movedSums, target, lack, nearAfter, places}
 use Rattle.decoding.proofs.Tests.{for-both}
-use Rattle.decoding.proofs.Near.{Rows, rows}
+use Rattle.decoding.proofs.Near.{Rows, syndromes-rows}
 use Rattle.decoding.proofs.Components.{components-test}
 use Rattle.decoding.proofs.Moved.{index-odd, index-even, Gain, moved-side}
 use Rattle.decoding.proofs.Checks.{check-gained, check-kept}
@@ -86,7 +86,7 @@ module _ (p : Parameters) (v : List ℕ) where
   pub weight-body-set : length v ≡ codewordLength p → (i y : ℕ) → i < balancedLength p
       → weight (body p (set v i y)) + getD v i 0 ≡ weight (body p v) + y
   weight-body-set n i y h =
-      let l : i < length (body p v) = rw (length-body p v n) h in
+      let l : i < length (body p v) = rw (body-length p v n) h in
       omega (arith, ap weight (body-set i y h), weight-set (body p v) i y l, body-at p v i h)
 
   pub checks-kept : (b : Bool) (i y : ℕ) → i < balancedLength p → getD (set v i y) (checkIndex p b) 0 ≡ getD v (checkIndex p b) 0
@@ -108,8 +108,8 @@ summed p v =
       weighs = refl;
       asked = λ b. refl;
       arrived = λ b. refl;
-      first = rows p (received p true v);
-      second = rows p (received p false v);
+      first = syndromes-rows p (received p true v);
+      second = syndromes-rows p (received p false v);
     }
 
 -- the lack is what takes x to the symbol that balances
@@ -142,7 +142,7 @@ module _ (p : Parameters) (s : Sized p) {v : List ℕ} (n : length v ≡ codewor
 
   raised : Gain p (body p v) b k y e
   raised =
-      let h : length (body p v) ≡ balancedLength p = length-body p v n in
+      let h : length (body p v) ≡ balancedLength p = body-length p v n in
       record { long = h ∙ balanced-length p; within = rw h within; small = small; gained = rw (body-at p v (index b k) within) gained }
 
   here : body p (set v (index b k) y) ≡ set (body p v) (index b k) y

@@ -13,14 +13,14 @@ use Rattle.code.specs.Component.{message}
 use Rattle.code.specs.Codeword.{body, received, nearComponents, hasComponents, carried}
 use Rattle.code.specs.Reading.{Finding, read, readAs}
 use Rattle.code.proofs.Weights.{length-differenced}
-use Rattle.code.proofs.Lawful.{length-body, balanced-length}
+use Rattle.code.proofs.Lawful.{body-length, balanced-length}
 use Rattle.decoding.specs.Syndromes.{zeroSyndrome, columnSyndrome, nearSyndrome, nearSyndromes, restoredBy}
 use Rattle.decoding.specs.Decoded.{readBy}
 use Rattle.decoding.proofs.Near.{Rows, zero-test, near-test, restored-by}
 
 pub length-received : (p : Parameters) (b : Bool) (u : List ℕ) → length u ≡ codewordLength p → length (received p b u) ≡ p .n
 unfolding received
-length-received p b u e = length-differenced p b (body p u) (length-body p u e ∙ balanced-length p)
+length-received p b u e = length-differenced p b (body p u) (body-length p u e ∙ balanced-length p)
 
 -- a zero syndrome is near
 near-zero : (p : Parameters) (S : List ℕ) → T (zeroSyndrome p S) → T (nearSyndrome p S)

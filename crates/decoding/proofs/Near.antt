@@ -32,8 +32,8 @@ pub record Rows (p : Parameters) (c S : List ℕ) : Type 0 where
   pub long : p .r ≤ length S
   pub at : (j : ℕ) → j < p .r → getD S j 0 ≡ syndrome p c j
 
-pub rows : (p : Parameters) (c : List ℕ) → Rows p c (syndromes p c)
-rows p c =
+pub syndromes-rows : (p : Parameters) (c : List ℕ) → Rows p c (syndromes p c)
+syndromes-rows p c =
     record {
       long = rw length-tabulate (le-refl (p .r));
       at = λ j h. tabulate-at (syndrome p c) (p .r) j h;
