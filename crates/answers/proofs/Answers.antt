@@ -9,7 +9,7 @@ use lib.ListN.{length, take}
 use Rattle.modular.specs.Search.{allBelow}
 use Rattle.code.specs.Parameters.{messageLength}
 use Rattle.code.specs.Profiles.{profiles, isProfile, profile}
-use Rattle.code.proofs.Profiles.{every-profile, no-profile}
+use Rattle.code.proofs.Profiles.{every-profile, profile-none}
 use Rattle.profiles.specs.declared.row.Row.{Row}
 use Rattle.profiles.specs.Row.{RowOf}
 use Rattle.profiles.proofs.Table.{message-is}
@@ -56,7 +56,7 @@ unfolding short
 message-row {i} of = (message-is of, rw (message-is of) (leb→le (messageLength (profile i)) 45 (every-profile short all-short i (of .known))))
 
 pub message-none : (i : ℕ) → isProfile i ≡ false → (0 ≡ messageLength (profile i)) × (0 ≤ 45)
-message-none i e = (ap messageLength (sym (no-profile i e)), zero-le)
+message-none i e = (ap messageLength (sym (profile-none i e)), zero-le)
 
 pub line-read : {l word : List ℕ} {i : ℕ} → GoodLine l i word → answerLine i (readAnswer i (take (length l - 2) word)) ≡ lineAnswer l
 line-read {l} g = rw (g .profile, g .text) (sym (line-good l (g .tested)))

@@ -11,8 +11,9 @@ use lib.ListN.{length, getD, set}
 use Rattle.modular.specs.Residue.{minus}
 use Rattle.modular.proofs.Search.{and-left, and-right, and-intro}
 use Rattle.modular.proofs.Residue.{of-eq, _then_, reduce, small, cancel, minus-add, minus-below}
+use Rattle.code.specs.Parameters.{Parameters}
 use Rattle.code.specs.Component.{symbolsBelow}
-use Rattle.code.specs.Balance.{interleave, integrate, difference}
+use Rattle.code.specs.Balance.{interleave, integrate, differences}
 use Rattle.code.specs.Codeword.{alternate}
 use Rattle.code.proofs.Weights.{double}
 
@@ -33,11 +34,14 @@ minus-sum q a x h l =
     let e : a + x ≡ x + a = omega arith in
     small (minus-below q ((a + x) % q) a h) l (cancel a (minus-add q ((a + x) % q) a h then reduce q (a + x) then of-eq e))
 
-pub difference-integrate : (q : ℕ) → 1 ≤ q → (a : ℕ) (x : List ℕ) → T (symbolsBelow q x) → difference q a (integrate q a x) ≡ x
-difference-integrate q h a [] b = refl
-difference-integrate q h a (x ∷ xs) b =
+-- a is the sum before x
+pub differences-integrate : (p : Parameters) → 1 ≤ p .q → (a : ℕ) (x : List ℕ) → T (symbolsBelow (p .q) x)
+    → differences p (a ∷ integrate (p .q) a x) ≡ x
+differences-integrate p h a [] b = refl
+differences-integrate p h a (x ∷ xs) b =
+    let q : ℕ = p .q in
     ap₂ (λ (y : ℕ) (t : List ℕ). y ∷ t) (minus-sum q a x h (ltb→lt x q (and-left (ltb x q) (symbolsBelow q xs) b)))
-    (difference-integrate q h ((a + x) % q) xs (and-right (ltb x q) (symbolsBelow q xs) b))
+    (differences-integrate p h ((a + x) % q) xs (and-right (ltb x q) (symbolsBelow q xs) b))
 
 pub integrate-below : (q : ℕ) → 1 ≤ q → (a : ℕ) (x : List ℕ) → T (symbolsBelow q (integrate q a x))
 integrate-below q h a [] = tt

@@ -2,28 +2,29 @@
 -- Assumes nothing.
 use mathlib.Core.Path.{_≡_, sym, ap, ap₂, subst, subst₂, _∙_}
 use mathlib.Core.Logic.{_⊎_, inl, inr, _≢_}
-use mathlib.Core.Bool.{true, false}
+use mathlib.Core.Bool.{true}
 use mathlib.Core.List.{List, [], _∷_, head-eq-of-cons-eq}
 use Prim.Native.Nat.{ℕ, suc, _+_, _*_, _%_, _≤_, _<_}
-use native.Mathlib.Nat.{suc-inj, zero-add, pos-of-ne-zero}
+use native.Mathlib.Nat.{suc-inj, zero-add, add-comm, pos-of-ne-zero}
 use native.Mathlib.Omega.{arith}
 use lib.Dec.{T}
 use lib.ListN.{length, getD, set}
-use lib.Seq.{getD-set-other, lt-length-set}
+use lib.Seq.{getD-set-same, getD-set-other, lt-length-set, set-set, set-getD}
 use Rattle.modular.specs.Sum.{weight, dot}
 use Rattle.modular.specs.Residue.{Congruent, Invertible, minus}
-use Rattle.modular.proofs.Residue.{of-eq, same, symm, _then_, add, scale, small, cancel, minus-add, minus-below, prime-inverse}
-use Rattle.modular.proofs.Sum.{dot-set, dot-one, weight-set}
+use Rattle.modular.proofs.Residue.{of-eq, same, symm, _then_, add, small, cancel, minus-add, minus-below, prime-inverse}
+use Rattle.modular.proofs.Sum.{dot-gain, weight-set}
 use Rattle.code.specs.Parameters.{Parameters, Sized, balancedLength, delta}
 use Rattle.code.specs.Codeword.{alternate, alpha, beta, withChecks, body, received, codeword}
 use Rattle.code.specs.Reading.{distance}
 use Rattle.code.specs.Claims.{ApartByUnits, DifferencesInvertible, Apart}
-use Rattle.code.proofs.Weights.{double, spread, part, dot-alternate}
+use Rattle.code.proofs.Weights.{double, ones, dot-ones}
 use Rattle.code.proofs.Columns.{q-positive}
-use Rattle.code.proofs.Moves.{Move, Near, kept, told, no-move}
+use Rattle.code.proofs.Moves.{Move, NearIn, move-weight, no-move}
+use Rattle.code.proofs.Told.{told}
 use Rattle.code.proofs.Distance.{equal-or-not, Differing, differing, TwoApart, two-apart, distance-zero, distance-sym, distance-append}
 use Rattle.code.proofs.Symbols.{symbol-below}
-use Rattle.code.proofs.Lawful.{Lawful, lawful, length-body, balanced-length, body-at}
+use Rattle.code.proofs.Lawful.{Lawful, lawful, body-length, balanced-length, body-at}
 
 -- two changed symbols that keep the weight are a move
 move : (q : ℕ) → 1 ≤ q → (w : List ℕ) (i j a b : ℕ) → i < length w → j < length w → j ≢ i → weight (set (set w i a) j b) ≡ weight w
@@ -62,25 +63,24 @@ move q h w i j a b hi hj ne k = record { sums = sums }
         let l : b + e + x ≡ b + (e + x) = omega arith in
         cancel x (of-eq l then add (same b) gained then of-eq (sym exchange))
 
+    -- w₁ is w′ with what was taken at j put back
+    back : set w′ j y ≡ w₁
+    back = set-set w₁ j b y ∙ ap (set w₁ j) (sym other) ∙ set-getD w₁ j 0
+
     sums : (f : ℕ → ℕ) → Congruent q (dot f w′ + f j * e) (dot f w + f i * e)
     sums f =
-        let d : dot f w′ + f j * y ≡ dot f w₁ + f j * b = subst (λ (z : ℕ). dot f w′ + f j * z ≡ dot f w₁ + f j * b) other (dot-set f w₁ j b hj′) in
-        let l : dot f w′ + f j * e + (f j * b + f i * x) ≡ dot f w′ + f i * x + f j * (b + e) = omega arith in
-        let m : dot f w′ + f i * x + f j * y ≡ dot f w + f j * b + f i * a = omega (arith, dot-set f w i a hi) in
-        let r : dot f w + f j * b + f i * (e + x) ≡ dot f w + f i * e + (f j * b + f i * x) = omega arith in
-        cancel (f j * b + f i * x)
-        (of-eq l then add (same (dot f w′ + f i * x)) (scale (f j) lost) then of-eq m
-        then add (same (dot f w + f j * b)) (scale (f i) (symm gained)) then of-eq r)
+        let here : getD w′ j 0 ≡ b = getD-set-same w₁ j b 0 hj′ in
+        let raised : Congruent q (dot f (set w′ j y)) (dot f w′ + f j * e) =
+        dot-gain f w′ j y e (lt-length-set w₁ j b hj′) (rw here lost) in
+        symm raised then of-eq (ap (dot f) back) then dot-gain f w i a e hi (of-eq (add-comm x e) then gained)
 
 -- the check sum over the odd positions is kept where the check symbol is
-odd-sum : (q : ℕ) (w w′ : List ℕ) → length w ≡ length w′ → alpha q w ≡ alpha q w′ → Congruent q (dot (spread true (λ x. 1)) w) (dot (spread true (λ x. 1)) w′)
+odd-sum : (q : ℕ) (w w′ : List ℕ) → length w ≡ length w′ → alpha q w ≡ alpha q w′ → Congruent q (dot (ones true) w) (dot (ones true) w′)
 unfolding alpha
 odd-sum q w w′ e h =
-    of-eq (sum w) then cancel (delta q (length w)) (record { same = h ∙ ap (λ (k : ℕ). (weight (alternate true w′) + delta q k) % q) (sym e) })
-    then of-eq (sym (sum w′))
-  where
-    sum : (x : List ℕ) → dot (spread true (λ i. 1)) x ≡ weight (alternate true x)
-    sum x = sym (dot-alternate true (λ i. 1) x) ∙ dot-one (alternate true x)
+    let asked : alpha q w′ ≡ (weight (alternate true w′) + delta q (length w)) % q =
+    ap (λ (k : ℕ). (weight (alternate true w′) + delta q k) % q) (sym e) in
+    of-eq (dot-ones true w) then cancel (delta q (length w)) (record { same = h ∙ asked }) then of-eq (sym (dot-ones true w′))
 
 -- balanced words do not differ in one position alone
 not-one : (w w′ : List ℕ) → length w ≡ length w′ → weight w ≡ weight w′ → distance w w′ ≢ 1
@@ -90,10 +90,13 @@ not-one w w′ l k e =
     let z : set w i (getD w′ i 0) ≡ w′ = distance-zero _ _ (suc-inj (sym (d .falls) ∙ e)) in
     d .unequal (omega (arith, weight-set w i (getD w′ i 0) (d .within), ap weight z))
 
+-- wherever w and w′ differ, the difference has an inverse mod q
+abbrev ByUnits : ℕ → List ℕ → List ℕ → Type 0
+ByUnits q w w′ = (i : ℕ) → i < length w → getD w i 0 ≢ getD w′ i 0 → Invertible q (minus q (getD w′ i 0) (getD w i 0))
+
 -- nor in two, where they have components near the code and the same check symbol α, and the difference has an inverse
-not-two : (p : Parameters) → Sized p → (w w′ : List ℕ) → length w ≡ suc (double (p .n)) → length w′ ≡ suc (double (p .n)) → weight w ≡ weight w′
-    → Near p (part (p .q) true w) (part (p .q) false w) → Near p (part (p .q) true w′) (part (p .q) false w′) → alpha (p .q) w ≡ alpha (p .q) w′
-    → ((i : ℕ) → i < length w → getD w i 0 ≢ getD w′ i 0 → Invertible (p .q) (minus (p .q) (getD w′ i 0) (getD w i 0))) → TwoApart w w′ → ⊥
+not-two : (p : Parameters) → Sized p → (w w′ : List ℕ) → length w ≡ suc (double (p .n)) → length w′ ≡ suc (double (p .n))
+    → weight w ≡ weight w′ → NearIn p w → NearIn p w′ → alpha (p .q) w ≡ alpha (p .q) w′ → ByUnits (p .q) w w′ → TwoApart w w′ → ⊥
 not-two p s w w′ l l′ k a a′ c f t =
     moved (t .i) (t .j) (t .i-within) (t .j-within) (t .distinct) (f (t .i) (t .i-within) (t .unequal)) (t .changed)
   where
@@ -104,7 +107,7 @@ not-two p s w w′ l l′ k a a′ c f t =
     moved i j hi hj ne u z =
         no-move p s m u l l′
         (told p s i j (subst (λ (x : ℕ). i < x) l hi) (subst (λ (x : ℕ). j < x) l hj) (λ x. ne (sym x))
-        (kept m u (spread true (λ x. 1)) (odd-sum (p .q) w w′ (l ∙ sym l′) c)))
+        (move-weight m u (ones true) (odd-sum (p .q) w w′ (l ∙ sym l′) c)))
         a a′
       where
         m : Move (p .q) w w′ (e i) i j
@@ -129,10 +132,10 @@ apart-by-units p s u v hu hv f d = sym (go (equal-or-not (distance w w′) 0))
     w′ = body p u
 
     long : length w ≡ balancedLength p
-    long = length-body p v (lv .long)
+    long = body-length p v (lv .long)
 
     long′ : length w′ ≡ balancedLength p
-    long′ = length-body p u (lu .long)
+    long′ = body-length p u (lu .long)
 
     weights : weight w ≡ weight w′
     weights = lv .weighs ∙ sym (lu .weighs)
@@ -146,8 +149,8 @@ apart-by-units p s u v hu hv f d = sym (go (equal-or-not (distance w w′) 0))
     apart : distance w w′ + distance (checks w) (checks w′) ≤ 2
     apart = subst (λ (x : ℕ). x ≤ 2) total d
 
-    invertible : distance u v ≡ 2 → (i : ℕ) → i < length w → getD w i 0 ≢ getD w′ i 0 → Invertible (p .q) (minus (p .q) (getD w′ i 0) (getD w i 0))
-    invertible two i h n =
+    by-units : distance u v ≡ 2 → ByUnits (p .q) w w′
+    by-units two i h n =
         let k : i < balancedLength p = subst (λ (x : ℕ). i < x) long h in
         subst₂ (λ (x y : ℕ). Invertible (p .q) (minus (p .q) x y)) (sym (body-at p u i k)) (sym (body-at p v i k))
         (f two i (λ x. n (body-at p v i k ∙ sym x ∙ sym (body-at p u i k))))
@@ -158,9 +161,10 @@ apart-by-units p s u v hu hv f d = sym (go (equal-or-not (distance w w′) 0))
         let one : distance w w′ ≢ 1 = not-one w w′ (long ∙ sym long′) weights in
         let two : distance w w′ ≡ 2 = omega (arith, apart) in
         let none : distance (checks w) (checks w′) ≡ 0 = omega (arith, apart) in
+        let alphas : alpha (p .q) w ≡ alpha (p .q) w′ = head-eq-of-cons-eq (distance-zero (checks w) (checks w′) none) in
         absurd
-        (not-two p s w w′ (long ∙ balanced-length p) (long′ ∙ balanced-length p) weights (lv .near) (lu .near)
-        (head-eq-of-cons-eq (distance-zero (checks w) (checks w′) none)) (invertible (omega (arith, total))) (two-apart w w′ (long ∙ sym long′) two))
+        (not-two p s w w′ (long ∙ balanced-length p) (long′ ∙ balanced-length p) weights (lv .near) (lu .near) alphas
+        (by-units (omega (arith, total))) (two-apart w w′ (long ∙ sym long′) two))
 
 pub differences-invertible : DifferencesInvertible
 differences-invertible q h a b ha hb n = prime-inverse h (minus q a b) (pos-of-ne-zero (λ e. n (equal e))) (minus-below q a b positive)

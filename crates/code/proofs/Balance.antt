@@ -1,5 +1,5 @@
--- The walk: of any word, raised by s and by 1 more from an index on, the weight falls by at most 1 a step as the index rises and s falls, it comes back
--- to where it was, and its mean is half of the highest: so some step has that weight.
+-- The walk: of any word, raised by s and by 1 more from an index on, the weight falls by at most 1 a step as the index rises and s falls,
+-- it comes back to where it was, and its mean is half of the highest: so some step has that weight.
 -- Assumes nothing.
 use mathlib.Core.Path.{_≡_, refl, sym, ap, ap₂, _∙_}
 use mathlib.Core.Logic.{_≢_, ⊎-elim}

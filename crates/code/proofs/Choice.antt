@@ -58,7 +58,8 @@ integrate-shifted-from {q} {n} m s (x ∷ xs) zero l h =
 integrate-shifted-from {q} m s (x ∷ xs) (suc i) l h =
     ap₂ _∷_ (offset m s h .same) (integrate-shifted-from (m % q + x) s xs i (le-of-suc-le-suc l) (offset-next m s x h))
 
-pub chosen-shifted : (p : Parameters) (x : List ℕ) (s i : ℕ) → i < length x → chosen p x s (choice p i) ≡ shiftedFrom (p .q) s i (integrated p x)
+pub chosen-shifted : (p : Parameters) (x : List ℕ) (s i : ℕ) → i < length x
+    → chosen p x s (choice p i) ≡ shiftedFrom (p .q) s i (integrated p x)
 unfolding chosen
 chosen-shifted p [] s i l = absurd (not-suc-le-zero l)
 chosen-shifted p (x ∷ xs) s zero l =

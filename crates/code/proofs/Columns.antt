@@ -1,4 +1,5 @@
--- Columns of the check matrix differ: their digits do, since n is below q^(r-1), and each ends in 1, as the zero column outside the matrix does not.
+-- Columns of the check matrix differ: their digits do, since n is below q^(r-1), and each ends in 1, as the zero column outside the matrix
+-- does not.
 -- Assumes nothing.
 use mathlib.Core.Path.{_≡_, refl, sym, ap, subst, _∙_}
 use mathlib.Core.Logic.{_⊎_, inl, inr}
@@ -59,8 +60,9 @@ module _ (p : Parameters) (s : Sized p) where
   pub columns-differ : (a c : ℕ) → a < p .n → c < p .n
       → ((j : ℕ) → j < p .r → Congruent (p .q) (checkRow p j a) (checkRow p j c)) → a ≡ c
   columns-differ a c ha hc e =
+      let inside : (i : ℕ) → i < p .n → suc i < p .q ^ (p .r - 1) = λ i h. le-trans (suc-le-suc h) (s .columns) in
       suc-inj
-      (digits-injective (p .q) (p .r - 1) (suc a) (suc c) q-positive (le-trans (suc-le-suc ha) (s .columns)) (le-trans (suc-le-suc hc) (s .columns))
+      (digits-injective (p .q) (p .r - 1) (suc a) (suc c) q-positive (inside a ha) (inside c hc)
       (λ d l.
       let k : d < p .r = omega arith in
       small (digits-below (p .q) (p .r - 1) (suc a) d q-positive) (digits-below (p .q) (p .r - 1) (suc c) d q-positive)
@@ -81,14 +83,17 @@ module _ (p : Parameters) (s : Sized p) where
 
       go : (a ≡ p .n) ⊎ (a < p .n) → (c ≡ p .n) ⊎ (c < p .n) → a ≡ c
       go (inl x) (inl y) = x ∙ sym y
-      go (inl x) (inr y) = absurd (one-not-zero (of-eq (sym (entry-last p c y)) then symm last then of-eq (entry-out p (p .r - 1) a (omega arith))))
-      go (inr x) (inl y) = absurd (one-not-zero (of-eq (sym (entry-last p a x)) then last then of-eq (entry-out p (p .r - 1) c (omega arith))))
+      go (inl x) (inr y) =
+          absurd (one-not-zero (of-eq (sym (entry-last p c y)) then symm last then of-eq (entry-out p (p .r - 1) a (omega arith))))
+      go (inr x) (inl y) =
+          absurd (one-not-zero (of-eq (sym (entry-last p a x)) then last then of-eq (entry-out p (p .r - 1) c (omega arith))))
       go (inr x) (inr y) =
           columns-differ a c x y
           (λ j l. of-eq (sym (entry-in p j a x)) then e j l then of-eq (entry-in p j c y))
 
   -- the zero column before them and the columns 1 to n differ
-  pub laters-differ : (a c : ℕ) → a ≤ p .n → c ≤ p .n → ((j : ℕ) → j < p .r → Congruent (p .q) (later (entry p j) a) (later (entry p j) c)) → a ≡ c
+  pub laters-differ : (a c : ℕ) → a ≤ p .n → c ≤ p .n
+      → ((j : ℕ) → j < p .r → Congruent (p .q) (later (entry p j) a) (later (entry p j) c)) → a ≡ c
   laters-differ zero zero ha hc e = refl
   laters-differ zero (suc c) ha hc e =
       absurd (one-not-zero (of-eq (sym (entry-last p c hc)) then symm (e (p .r - 1) last-below)))

@@ -5,7 +5,7 @@ use mathlib.Core.Path.{_≡_, sym, ap, ap₂, _∙_}
 use mathlib.Core.Logic.{_≢_, _⊎_, inl, inr}
 use mathlib.Core.Bool.{Bool}
 use mathlib.Core.List.{List, []}
-use Prim.Native.Nat.{ℕ, zero, suc, _*_, _^_, _≤_, _<_}
+use Prim.Native.Nat.{ℕ, zero, suc, _+_, _*_, _^_, _≤_, _<_}
 use native.Mathlib.Nat.{not-suc-le-zero, le-of-suc-le-suc, le-refl, le-of-suc-le, zero-add, add-comm, zero-mul}
 use native.Mathlib.Omega.{arith}
 use native.Mathlib.Decide.{ℕ-discrete}
@@ -28,13 +28,13 @@ use Rattle.code.proofs.Symbols.{symbol-below, symbols-below, symbols-se
 use Rattle.code.proofs.Syndrome.{code-zero, zero-code}
 use Rattle.code.proofs.Columns.{q-positive}
 use Rattle.code.proofs.Merge.{opposite, word-length, word-below, word-of, below-keep, below-merge, count, count-not, length-keep, length-merge, merge-keep, keep-merge, keep-at, keep-set}
-use Rattle.code.proofs.Reduced.{place, reduced, Vanish, place-below, check-place, place-check, reduced-same, reduced-other, check-count, reduced-rows, rows-reduced}
+use Rattle.code.proofs.Reduced.{pivot, reducedRow, Vanish, pivot-below, check-pivot, pivot-check, reduced-same, reduced-other, check-count, reduced-rows, rows-reduced}
 
 module _ (p : Parameters) (s : Sized p) where
   -- words whose reduced sums vanish and that agree off the check positions agree mod q there too
   determined : (c d : List ℕ) → length c ≡ p .n → length d ≡ p .n → ((i : ℕ) → (T (checkAt p i) → ⊥) → getD c i 0 ≡ getD d i 0)
       → Vanish p (p .r) c → Vanish p (p .r) d → (k : ℕ) → k < p .r
-      → Congruent (p .q) (getD c (place p k) 0) (getD d (place p k) 0)
+      → Congruent (p .q) (getD c (pivot p k) 0) (getD d (pivot p k) 0)
   determined c d l m e u v k h =
       let a : Congruent (p .q) (dot f c) (dot f x) = dot-agree f c x (l ∙ sym (length-set d i (getD c i 0) ∙ m)) term in
       of-eq (sym (zero-add (getD c i 0)))
@@ -44,21 +44,21 @@ module _ (p : Parameters) (s : Sized p) where
       then of-eq (zero-add (getD d i 0))
     where
       f : ℕ → ℕ
-      f = reduced p k
+      f = reducedRow p k
 
       i : ℕ
-      i = place p k
+      i = pivot p k
 
       x : List ℕ
       x = set d i (getD c i 0)
 
       inside : i < length d
-      inside = rw m (place-below p s k h)
+      inside = rw m (pivot-below p s k h)
 
       off : (j : ℕ) → j ≢ i → T (checkAt p j) ⊎ (T (checkAt p j) → ⊥) → Congruent (p .q) (f j * getD c j 0) (f j * getD d j 0)
       off j n (inl t) =
-          let (l, b, y) = check-place p s j t in
-          let z : Congruent (p .q) (f j) 0 = of-eq (ap f y) then reduced-other p s k l h b (λ g. n (y ∙ ap (place p) (sym g))) in
+          let (l, b, y) = check-pivot p s j t in
+          let z : Congruent (p .q) (f j) 0 = of-eq (ap f y) then reduced-other p s k l h b (λ g. n (y ∙ ap (pivot p) (sym g))) in
           mul z (same (getD c j 0)) then of-eq (zero-mul (getD c j 0) ∙ sym (zero-mul (getD d j 0))) then symm (mul z (same (getD d j 0)))
       off j n (inr t) = of-eq (ap (λ (y : ℕ). f j * y) (e j t))
 
@@ -88,89 +88,79 @@ module _ (p : Parameters) (s : Sized p) where
 
       at : (i : ℕ) → T (checkAt p i) ⊎ (T (checkAt p i) → ⊥) → getD c i 0 ≡ getD d i 0
       at i (inl t) =
-          let (k, l, e) = check-place p s i t in
+          let (k, l, e) = check-pivot p s i t in
           small (below c h i) (below d g i) (rw e (determined c d (size c h) (size d g) off (sums c h) (sums d g) k l))
       at i (inr t) = off i t
 
--- a word of n symbols below q with message a whose first k reduced sums vanish
-record Solution (p : Parameters) (a : List ℕ) (k : ℕ) : Type 0 where
-  solution : List ℕ
-  size : length solution ≡ p .n
-  below : T (symbolsBelow (p .q) solution)
-  holds : message p solution ≡ a
-  sums : Vanish p k solution
+-- c is a word of n symbols below q with message a, and its first k reduced sums vanish
+pub record Solution (p : Parameters) (a c : List ℕ) (k : ℕ) : Type 0 where
+  pub size : length c ≡ p .n
+  pub below : T (symbolsBelow (p .q) c)
+  pub holds : message p c ≡ a
+  pub sums : Vanish p k c
+
+module _ (p : Parameters) (s : Sized p) {a c : List ℕ} {k : ℕ} (b : Solution p a c k) (h : k < p .r) where
+  pub pivot-inside : pivot p k < length c
+  pivot-inside = rw (b .size) (pivot-below p s k h)
+
+  -- check symbol k set to what makes its reduced sum vanish
+  pub step : (y : ℕ) → y < p .q → Congruent (p .q) (dot (reducedRow p k) c + y) (getD c (pivot p k) 0)
+      → Solution p a (set c (pivot p k) y) (suc k)
+  unfolding message
+  step y small makes =
+      record {
+        size = length-set c i y ∙ b .size;
+        below = symbols-set (p .q) c i y small (b .below);
+        holds = keep-set (opposite (checkAt p)) c i y (λ n. T-not (checkAt p i) n (pivot-check p s k h)) ∙ b .holds;
+        sums = λ l m. sum l m (ℕ-discrete l k);
+      }
+    where
+      i : ℕ
+      i = pivot p k
+
+      sum : (l : ℕ) → l < suc k → Dec (l ≡ k) → Congruent (p .q) (dot (reducedRow p l) (set c i y)) 0
+      sum l m (yes e) =
+          of-eq (ap (λ (o : ℕ). dot (reducedRow p o) (set c i y)) e)
+          then cancel (getD c i 0)
+          (dot-set-one (reducedRow p k) c i y pivot-inside (reduced-same p s k h) then makes then of-eq (sym (zero-add (getD c i 0))))
+      sum l m (no d) =
+          let n : l < k = lt-of-le-ne (le-of-suc-le-suc m) d in
+          dot-set-zero (reducedRow p l) c i y pivot-inside (reduced-other p s l k (omega arith) h d) then b .sums l n
 
 module _ (p : Parameters) (s : Sized p) (a : List ℕ) (w : T (isWord (p .q) (messageLength p) a)) where
   -- as many symbols as there are positions without a check symbol
-  pub message-fits : length a ≡ count (opposite (checkAt p)) (p .n)
+  message-fits : length a ≡ count (opposite (checkAt p)) (p .n)
   message-fits = omega (arith, word-length (p .q) (messageLength p) a w, check-count p s, count-not (checkAt p) (p .n))
 
   message-below : Below (p .q) a
   message-below = word-below (p .q) (messageLength p) a (q-positive p s) w
 
   -- a word put together of a and check symbols below q
-  merged : (e : List ℕ) → Below (p .q) e → Solution p a 0
+  pub merged : (e : List ℕ) → Below (p .q) e → Solution p a (merge (checkAt p) (p .n) e a) 0
   unfolding message
   merged e h =
       record {
-        solution = merge (checkAt p) (p .n) e a;
         size = length-merge (checkAt p) (p .n) e a;
         below = symbols-below (p .q) (merge (checkAt p) (p .n) e a) (λ i l. below-merge (p .q) (checkAt p) (p .n) e a h message-below i);
         holds = keep-merge (checkAt p) (p .n) e a message-fits;
         sums = λ k l. absurd (not-suc-le-zero l);
       }
 
-  -- check symbol k set so that its reduced sum vanishes
-  step : (k : ℕ) → k < p .r → Solution p a k → Solution p a (suc k)
-  unfolding message
-  step k h b =
-      record {
-        solution = x;
-        size = length-set c i y ∙ b .size;
-        below = symbols-set (p .q) c i y (minus-below (p .q) (getD c i 0) (dot (reduced p k) c) (q-positive p s)) (b .below);
-        holds = keep-set (opposite (checkAt p)) c i y (λ n. T-not (checkAt p i) n (place-check p s k h)) ∙ b .holds;
-        sums = λ l m. sum l m (ℕ-discrete l k);
-      }
-    where
-      c : List ℕ
-      c = b .solution
-
-      i : ℕ
-      i = place p k
-
-      y : ℕ
-      y = minus (p .q) (getD c i 0) (dot (reduced p k) c)
-
-      x : List ℕ
-      x = set c i y
-
-      inside : i < length c
-      inside = rw (b .size) (place-below p s k h)
-
-      sum : (l : ℕ) → l < suc k → Dec (l ≡ k) → Congruent (p .q) (dot (reduced p l) x) 0
-      sum l m (yes e) =
-          let f : ℕ → ℕ = reduced p k in
-          of-eq (ap (λ (o : ℕ). dot (reduced p o) x) e)
-          then cancel (getD c i 0)
-          (dot-set-one f c i y inside (reduced-same p s k h)
-          then of-eq (add-comm (dot f c) y)
-          then minus-add (p .q) (getD c i 0) (dot f c) (q-positive p s)
-          then of-eq (sym (zero-add (getD c i 0))))
-      sum l m (no d) =
-          let n : l < k = lt-of-le-ne (le-of-suc-le-suc m) d in
-          dot-set-zero (reduced p l) c i y inside (reduced-other p s l k (omega arith) h d) then b .sums l n
-
   -- all of them in turn
-  solve : (k : ℕ) → k ≤ p .r → Solution p a k
-  solve zero h = merged [] (λ i. q-positive p s)
-  solve (suc k) h = step k h (solve k (le-of-suc-le h))
+  solve : (k : ℕ) → k ≤ p .r → (c : List ℕ) × Solution p a c k
+  solve zero h = (_, merged [] (λ i. q-positive p s))
+  solve (suc k) h =
+      let (c, b) = solve k (le-of-suc-le h) in
+      let x : ℕ = getD c (pivot p k) 0 in
+      let d : ℕ = dot (reducedRow p k) c in
+      let y : ℕ = minus (p .q) x d in
+      (_, step p s b h y (minus-below (p .q) x d (q-positive p s)) (of-eq (add-comm d y) then minus-add (p .q) x d (q-positive p s)))
 
   -- the check symbols of that word are the digits of an e that the search comes to
   found : (e : ℕ) × (e < p .q ^ p .r) × T (inCode p (candidate p a e))
   unfolding message candidate
   found =
-      let b : Solution p a (p .r) = solve (p .r) (le-refl (p .r)) in
-      let c : List ℕ = b .solution in
+      let (c, b) = solve (p .r) (le-refl (p .r)) in
       let l : List ℕ = keep (checkAt p) c in
       let n : length l ≡ p .r = length-keep (checkAt p) c ∙ ap (count (checkAt p)) (b .size) ∙ check-count p s in
       let (e, m, d) = digits-onto (p .q) l (λ i o. below-keep (p .q) (checkAt p) c (symbol-below (p .q) (q-positive p s) c (b .below)) i) in
@@ -187,7 +177,7 @@ module _ (p : Parameters) (s : Sized p) (a : List ℕ) (w : T (isWord (p .q) (me
       let t : ℕ → Bool = λ e. inCode p (candidate p a e) in
       let (e, l, h) = found in
       let d : List ℕ = digits (p .q) (p .r) (least t (p .q ^ p .r)) in
-      let b : Solution p a 0 = merged d (λ i. digits-below (p .q) (p .r) (least t (p .q ^ p .r)) i (q-positive p s)) in
+      let b : Solution p a (component p a) 0 = merged d (λ i. digits-below (p .q) (p .r) (least t (p .q ^ p .r)) i (q-positive p s)) in
       record {
         word = word-of (p .q) (p .n) (component p a) (b .size) (b .below);
         code = least-hit t (p .q ^ p .r) (least-some t (p .q ^ p .r) e l h);

@@ -8,7 +8,7 @@ use native.Mathlib.Nat.{suc-ne-zero, suc-inj, not-suc-le-zero, zero-add}
 use native.Mathlib.Decide.{ℕ-discrete}
 use native.Mathlib.Omega.{arith}
 use lib.ListN.{length, getD, set, length-set}
-use lib.Seq.{getD-set-same}
+use lib.Seq.{getD-set-same, set-set, set-getD}
 use borrow.Author.Tests.{eq-eqb, ne-eqb}
 use Rattle.code.specs.Reading.{distance}
 
@@ -71,16 +71,26 @@ differing (x ∷ xs) (y ∷ ys) e h = go (equal-or-not x y) (differing xs ys (su
     go (inr n) f =
         record { index = 0; within = suc-le-suc zero-le; unequal = n; falls = disagree x y xs ys n ∙ ap suc (sym (agree y y xs ys refl)) }
 
+-- words that differ in one position: v with that symbol as u has it is u
+pub record OneApart (u v : List ℕ) : Type 0 where
+  pub i : ℕ
+  pub within : i < length u
+  pub unequal : getD u i 0 ≢ getD v i 0
+  pub back : set v i (getD u i 0) ≡ u
+
 -- words at most one position apart
-pub one-apart : (u v : List ℕ) → length u ≡ length v → distance u v ≤ 1
-    → (u ≡ v) ⊎ ((i : ℕ) × (i < length u) × (getD u i 0 ≢ getD v i 0) × (set u i (getD v i 0) ≡ v))
-one-apart u v e h = ⊎-elim (λ (z : distance u v ≡ 0). inl (distance-zero u v z)) (λ (n : distance u v ≢ 0). inr (step n)) (equal-or-not (distance u v) 0)
+pub one-apart : (u v : List ℕ) → length u ≡ length v → distance u v ≤ 1 → (u ≡ v) ⊎ OneApart u v
+one-apart u v e h =
+    ⊎-elim (λ (z : distance u v ≡ 0). inl (distance-zero u v z)) (λ (n : distance u v ≢ 0). inr (step n)) (equal-or-not (distance u v) 0)
   where
-    step : distance u v ≢ 0 → (i : ℕ) × (i < length u) × (getD u i 0 ≢ getD v i 0) × (set u i (getD v i 0) ≡ v)
+    step : distance u v ≢ 0 → OneApart u v
     step n =
         let d : Differing u v = differing u v e (omega arith) in
-        let z : distance (set u (d .index) (getD v (d .index) 0)) v ≡ 0 = omega (arith, d .falls) in
-        (d .index, d .within, d .unequal, distance-zero _ _ z)
+        let i : ℕ = d .index in
+        let x : ℕ = getD u i 0 in
+        let z : set u i (getD v i 0) ≡ v = distance-zero _ _ (omega (arith, d .falls)) in
+        let back : set v i x ≡ u = ap (λ (t : List ℕ). set t i x) (sym z) ∙ set-set u i (getD v i 0) x ∙ set-getD u i 0 in
+        record { i = i; within = d .within; unequal = d .unequal; back = back }
 
 -- words exactly two positions apart
 pub record TwoApart (u v : List ℕ) : Type 0 where
@@ -119,8 +129,8 @@ two-apart u v e h = from (differing u v e (omega arith))
 pub distance-set : (u : List ℕ) (i y : ℕ) → distance u (set u i y) ≤ 1
 distance-set [] i y = zero-le
 distance-set (x ∷ xs) zero y =
-    ⊎-elim (λ (e : x ≡ y). omega (arith, agree x y xs xs e, distance-self xs)) (λ (n : x ≢ y). omega (arith, disagree x y xs xs n, distance-self xs))
-    (equal-or-not x y)
+    ⊎-elim (λ (e : x ≡ y). omega (arith, agree x y xs xs e, distance-self xs))
+    (λ (n : x ≢ y). omega (arith, disagree x y xs xs n, distance-self xs)) (equal-or-not x y)
 distance-set (x ∷ xs) (suc i) y = omega (arith, agree x x xs (set xs i y) refl, distance-set xs i y)
 
 pub distance-append : (u v s t : List ℕ) → length u ≡ length v → distance (u ++ s) (v ++ t) ≡ distance u v + distance s t

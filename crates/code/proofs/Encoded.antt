@@ -6,31 +6,31 @@ use mathlib.Core.Logic.{_⊎_, inl, inr}
 use mathlib.Core.Bool.{Bool, true, false, _&&_}
 use mathlib.Core.List.{List, [], _∷_}
 use Prim.Native.Nat.{ℕ, zero, suc, _+_, _%_, _≤_, _<_}
-use native.Mathlib.Nat.{add-comm, mod-lt, not-suc-le-zero, le-of-suc-le-suc}
+use native.Mathlib.Nat.{add-comm, mod-lt}
 use native.Mathlib.Omega.{arith}
 use lib.Dec.{T, eqb, ltb, lt→ltb}
-use lib.ListN.{length, getD, set, drop, length-set}
+use lib.ListN.{length, getD, set, length-set}
 use lib.Seq.{lt-length-set, getD-set-same, set-set, set-getD}
 use Rattle.modular.specs.Sum.{weight}
 use Rattle.modular.specs.Residue.{minus}
 use Rattle.modular.proofs.Search.{and-left, and-right, and-intro}
 use Rattle.code.specs.Parameters.{Parameters, Sized, balancedLength, balancingValue}
 use Rattle.code.specs.Component.{symbolsBelow, inCode, message, component}
-use Rattle.code.specs.Balance.{interleave, addAt, difference, withZero, zeroIndex, addOne, differences, chosen, earliestS, earliestV, balanced}
-use Rattle.code.specs.Codeword.{alternate, alpha, beta, withChecks, interleaved, encoded, body, received, lowered, restored, carried}
+use Rattle.code.specs.Balance.{interleave, addAt, withZero, zeroIndex, addOne, differences, choice, chosen, earliestS, earliestV, balanced}
+use Rattle.code.specs.Codeword.{alternate, alpha, beta, withChecks, interleaved, encoded, body, differenced, received, lowered, restored, carried}
 use Rattle.code.specs.Claims.{Tried, Holding, Encodes, ChoiceCarries, EncodedCarries}
-use Rattle.code.proofs.Weights.{double, double-is, part}
+use Rattle.code.proofs.Weights.{double, double-is, parity}
 use Rattle.code.proofs.Syndrome.{Zero, ColumnOf, code-zero, lowered-column}
 use Rattle.code.proofs.Columns.{q-positive}
-use Rattle.code.proofs.Moves.{Column, Near, neither, first, second, parity}
+use Rattle.code.proofs.Moves.{Column, neither, first, second, NearIn}
 use Rattle.code.proofs.Symbols.{symbol-below, symbols-set, symbols-append}
-use Rattle.code.proofs.Lawful.{codeword-of, body-of}
-use Rattle.code.proofs.Choice.{length-chosen}
+use Rattle.code.proofs.Lawful.{codeword-of, body-with-checks}
+use Rattle.code.proofs.Choice.{length-chosen, tried-index}
 use Rattle.code.proofs.Pair.{length-component, length-interleave, length-interleaved, balance-of-pair}
 use Rattle.code.proofs.Component.{component-holding}
 use Rattle.code.proofs.Restored.{restored-zero, restored-column}
 use Rattle.code.proofs.Delta.{checks-balanced}
-use Rattle.code.proofs.Alternate.{alternate-first, alternate-second, minus-sum, difference-integrate, integrate-below, first-set, first-kept, second-set, second-kept, first-at, second-at}
+use Rattle.code.proofs.Alternate.{alternate-first, alternate-second, minus-sum, differences-integrate, integrate-below, first-set, first-kept, second-set, second-kept, first-at, second-at}
 
 -- what 1 added to the symbol at k makes of a component is undone there
 lowered-raised : (q : ℕ) → 1 ≤ q → (c : List ℕ) (k : ℕ) → T (symbolsBelow q c) → k < length c → lowered q (addAt q c k 1) k ≡ c
@@ -52,10 +52,6 @@ symbols-interleave q (c ∷ x) (d ∷ y) a b =
 symbols-raised : (q : ℕ) → 1 ≤ q → (c : List ℕ) (i e : ℕ) → T (symbolsBelow q c) → T (symbolsBelow q (addAt q c i e))
 symbols-raised q h c i e b = symbols-set q c i ((getD c i 0 + e) % q) (mod-lt (getD c i 0 + e) h) b
 
-symbols-one : (p : Parameters) → 1 ≤ p .q → (c : List ℕ) (v : ℕ) → T (symbolsBelow (p .q) c) → T (symbolsBelow (p .q) (addOne p c v))
-symbols-one p h c zero b = b
-symbols-one p h c (suc i) b = symbols-raised (p .q) h c i 1 b
-
 -- a word's components are c and d, or those with 1 added to a symbol of one of them
 data Sent (q : ℕ) (c d : List ℕ) (z : List ℕ) : Type 0 where
   as-made : alternate true z ≡ c → alternate false z ≡ d → Sent q c d z
@@ -69,32 +65,48 @@ raise-sent q c d t e l = go (parity t .0) (parity t .1)
     z : List ℕ
     z = interleave c d
 
+    -- the symbol at index i with 1 added
+    raised : ℕ → ℕ
+    raised i = (getD z i 0 + 1) % q
+
     one : alternate true z ≡ c
     one = alternate-first c d e
 
     two : alternate false z ≡ d
     two = alternate-second c d e
 
+    -- that symbol is the one at index k of the component x
+    set-is : {y x : List ℕ} (i k : ℕ) → y ≡ x → getD z i 0 ≡ getD y k 0 → set y k (raised i) ≡ addAt q x k 1
+    set-is i k f g = ap₂ (λ (a : List ℕ) (s : ℕ). set a k ((s + 1) % q)) f (g ∙ ap (λ (a : List ℕ). getD a k 0) f)
+
     go : (k : ℕ) → (t ≡ double k) ⊎ (t ≡ suc (double k)) → Sent q c d (addAt q z t 1)
     go k (inl x) =
         let m : k < length c = omega (arith, length-interleave c d e, double-is k) in
+        let i : ℕ = double k in
         subst (λ (j : ℕ). Sent q c d (addAt q z j 1)) (sym x)
-        (first-raised k m
-        (first-set z k ((getD z (double k) 0 + 1) % q) ∙ ap₂ (λ (a : List ℕ) (y : ℕ). set a k ((y + 1) % q)) one (first-at z k ∙ ap (λ (a : List ℕ). getD a k 0) one))
-        (second-kept z k ((getD z (double k) 0 + 1) % q) ∙ two))
+        (first-raised k m (first-set z k (raised i) ∙ set-is i k one (first-at z k)) (second-kept z k (raised i) ∙ two))
     go k (inr x) =
         let m : k < length d = omega (arith, length-interleave c d e, double-is k) in
+        let i : ℕ = suc (double k) in
         subst (λ (j : ℕ). Sent q c d (addAt q z j 1)) (sym x)
-        (second-raised k m (first-kept z k ((getD z (suc (double k)) 0 + 1) % q) ∙ one)
-        (second-set z k ((getD z (suc (double k)) 0 + 1) % q)
-        ∙ ap₂ (λ (a : List ℕ) (y : ℕ). set a k ((y + 1) % q)) two (second-at z k ∙ ap (λ (a : List ℕ). getD a k 0) two)))
+        (second-raised k m (first-kept z k (raised i) ∙ one) (second-set z k (raised i) ∙ set-is i k two (second-at z k)))
 
--- so for a choice: 1 added to the symbol in front of the components changes none of them
-choice-sent : (p : Parameters) (c d : List ℕ) (s v : ℕ) → length c ≡ length d → Tried p (length (withZero p (interleave c d))) v
-    → Sent (p .q) c d (drop 1 (addOne p (addAt (p .q) (withZero p (interleave c d)) 0 s) v))
-choice-sent p c d s zero e h = absurd (not-suc-le-zero (h .0))
-choice-sent p c d s (suc zero) e h = as-made (alternate-first c d e) (alternate-second c d e)
-choice-sent p c d s (suc (suc t)) e h = raise-sent (p .q) c d t e (le-of-suc-le-suc (h .1))
+-- or to none of them
+choice-sent : (p : Parameters) (c d : List ℕ) (i : ℕ) → length c ≡ length d → i ≤ length (interleave c d)
+    → Sent (p .q) c d (addOne p (interleave c d) i)
+choice-sent p c d zero e l = as-made (alternate-first c d e) (alternate-second c d e)
+choice-sent p c d (suc t) e l = raise-sent (p .q) c d t e l
+
+-- differencing the word of a choice gives back what was interleaved, with that 1 added: where s was added is dropped
+undone : (p : Parameters) → 1 ≤ p .q → (z : List ℕ) (s i : ℕ) → T (symbolsBelow (p .q) z)
+    → differences p (chosen p (withZero p z) s (choice p i)) ≡ addOne p z i
+unfolding chosen
+undone p h z s zero b = differences-integrate p h _ z b
+undone p h z s (suc i) b = differences-integrate p h _ (addAt (p .q) z i 1) (symbols-raised (p .q) h z i 1 b)
+
+chosen-below : (p : Parameters) → 1 ≤ p .q → (x : List ℕ) (s v : ℕ) → T (symbolsBelow (p .q) (chosen p x s v))
+unfolding chosen
+chosen-below p h x s v = integrate-below (p .q) h 0 (addOne p (addAt (p .q) x (zeroIndex p x) s) v)
 
 word-below : {p : Parameters} {a c : List ℕ} → Holding p a c → T (symbolsBelow (p .q) c)
 word-below {p} {a} {c} h = and-right (eqb (length c) (p .n)) (symbolsBelow (p .q) c) (h .word)
@@ -114,69 +126,61 @@ module _ (p : Parameters) (s : Sized p) {a c : List ℕ} (h : Holding p a c) (k 
       restored-column p s (addAt (p .q) c k 1) (length-set c k ((getD c k 0 + 1) % p .q) ∙ n) k raised-long raised-column
       ∙ lowered-raised (p .q) (q-positive p s) c k (word-below h) l
 
--- the word that is integrated
-abbrev precoded : Parameters → List ℕ → List ℕ → ℕ → ℕ → List ℕ
-precoded p a b t v = let x = interleaved p a b in addOne p (addAt (p .q) x (zeroIndex p x) t) v
-
 module _ (p : Parameters) (s : Sized p) (a b : List ℕ) (ha : Holding p a (component p a)) (hb : Holding p b (component p b)) (t v : ℕ)
-    (tried : Tried p (balancedLength p) v) (weighs : weight (chosen p (interleaved p a b) t v) ≡ balancingValue (p .q) (balancedLength p)) where
-  precoded-below : T (symbolsBelow (p .q) (precoded p a b t v))
-  unfolding interleaved
-  precoded-below =
-      symbols-one p (q-positive p s) (addAt (p .q) (interleaved p a b) 0 t) v
-      (symbols-raised (p .q) (q-positive p s) (interleaved p a b) 0 t
-      (and-intro (ltb 0 (p .q)) (symbolsBelow (p .q) (interleave (component p a) (component p b))) (lt→ltb 0 (p .q) (q-positive p s))
-      (symbols-interleave (p .q) (component p a) (component p b) (word-below ha) (word-below hb))))
-
-  -- w, which differencing takes back to what was integrated
+    (tried : Tried p (balancedLength p) v)
+    (weighs : weight (chosen p (interleaved p a b) t v) ≡ balancingValue (p .q) (balancedLength p)) where
   abbrev w : List ℕ
   w = chosen p (interleaved p a b) t v
-
-  differenced : difference (p .q) 0 w ≡ precoded p a b t v
-  unfolding chosen
-  differenced = difference-integrate (p .q) (q-positive p s) 0 (precoded p a b t v) precoded-below
 
   long : length w ≡ balancedLength p
   long = length-chosen p (interleaved p a b) t v ∙ length-interleaved p a b
 
   below : T (symbolsBelow (p .q) (withChecks (p .q) w))
-  unfolding withChecks alpha beta chosen
+  unfolding withChecks alpha beta
   below =
-      symbols-append (p .q) w (alpha (p .q) w ∷ beta (p .q) w ∷ []) (integrate-below (p .q) (q-positive p s) 0 (precoded p a b t v))
-      (and-intro (ltb (alpha (p .q) w) (p .q)) (ltb (beta (p .q) w) (p .q) && true) (lt→ltb (alpha (p .q) w) (p .q) (mod-lt _ (q-positive p s)))
-      (and-intro (ltb (beta (p .q) w) (p .q)) true (lt→ltb (beta (p .q) w) (p .q) (mod-lt _ (q-positive p s))) tt))
+      let q : ℕ = p .q in
+      let first : T (ltb (alpha q w) q) = lt→ltb (alpha q w) q (mod-lt _ (q-positive p s)) in
+      let second : T (ltb (beta q w) q) = lt→ltb (beta q w) q (mod-lt _ (q-positive p s)) in
+      symbols-append q w (alpha q w ∷ beta q w ∷ []) (chosen-below p (q-positive p s) (interleaved p a b) t v)
+      (and-intro (ltb (alpha q w) q) (ltb (beta q w) q && true) first (and-intro (ltb (beta q w) q) true second tt))
 
   sent : Sent (p .q) (component p a) (component p b) (differences p w)
   unfolding interleaved
   sent =
-      subst (λ (z : List ℕ). Sent (p .q) (component p a) (component p b) (drop 1 z)) (sym differenced)
-      (choice-sent p (component p a) (component p b) t v
-      (length-component p a ∙ sym (length-component p b)) (rw (length-interleaved p a b) tried))
+      let c : List ℕ = component p a in
+      let d : List ℕ = component p b in
+      let z : List ℕ = interleave c d in
+      let (i, l, e) = tried-index p (balancedLength p) v tried in
+      let k : i ≤ length z = omega (arith, length-interleaved p a b) in
+      let back : differences p w ≡ addOne p z i =
+      ap (λ (v : ℕ). differences p (chosen p (withZero p z) t v)) e
+      ∙ undone p (q-positive p s) z t i (symbols-interleave (p .q) c d (word-below ha) (word-below hb)) in
+      subst (Sent (p .q) c d) (sym back) (choice-sent p c d i (length-component p a ∙ sym (length-component p b)) k)
 
-  near : Near p (part (p .q) true w) (part (p .q) false w)
+  near : NearIn p w
   near = go sent
     where
-      zero : {e c : List ℕ} (b : Bool) → Holding p e c → part (p .q) b w ≡ c → Zero p (part (p .q) b w)
+      zero : {e c : List ℕ} (b : Bool) → Holding p e c → differenced p b w ≡ c → Zero p (differenced p b w)
       zero {c = c} b h x = subst (Zero p) (sym x) (code-zero p c (h .code))
 
-      column : {e c : List ℕ} (b : Bool) → Holding p e c → (k : ℕ) → k < length c → part (p .q) b w ≡ addAt (p .q) c k 1 → Column p (part (p .q) b w)
+      column : {e c : List ℕ} (b : Bool) → Holding p e c → (k : ℕ) → k < length c → differenced p b w ≡ addAt (p .q) c k 1
+          → Column p (differenced p b w)
       column b h k l x = subst (Column p) (sym x) (k, raised-long p s h k l, raised-column p s h k l)
 
-      go : Sent (p .q) (component p a) (component p b) (differences p w)
-          → Near p (part (p .q) true w) (part (p .q) false w)
+      go : Sent (p .q) (component p a) (component p b) (differences p w) → NearIn p w
       go (as-made e f) = neither (zero true ha e) (zero false hb f)
       go (first-raised k l e f) = first (column true ha k l e) (zero false hb f)
       go (second-raised k l e f) = second (zero true ha e) (column false hb k l f)
 
   -- each component is restored to the one that was made
-  restored-made : (restored p (part (p .q) true w) ≡ component p a) × (restored p (part (p .q) false w) ≡ component p b)
+  restored-made : (restored p (differenced p true w) ≡ component p a) × (restored p (differenced p false w) ≡ component p b)
   restored-made = go sent
     where
       made : {e c : List ℕ} → Holding p e c → length c ≡ p .n → restored p c ≡ c
       made {c = c} h n = restored-zero p s c n (code-zero p c (h .code))
 
       go : Sent (p .q) (component p a) (component p b) (differences p w)
-          → (restored p (part (p .q) true w) ≡ component p a) × (restored p (part (p .q) false w) ≡ component p b)
+          → (restored p (differenced p true w) ≡ component p a) × (restored p (differenced p false w) ≡ component p b)
       go (as-made e f) = (ap (restored p) e ∙ made ha (length-component p a), ap (restored p) f ∙ made hb (length-component p b))
       go (first-raised k l e f) =
           (ap (restored p) e ∙ raised-restored p s ha k l (length-component p a), ap (restored p) f ∙ made hb (length-component p b))
@@ -184,7 +188,7 @@ module _ (p : Parameters) (s : Sized p) (a b : List ℕ) (ha : Holding p a (comp
           (ap (restored p) e ∙ made ha (length-component p a), ap (restored p) f ∙ raised-restored p s hb k l (length-component p b))
 
   here : body p (withChecks (p .q) w) ≡ w
-  here = body-of p w long
+  here = body-with-checks p w long
 
   encodes : Encodes p (withChecks (p .q) w) a b
   unfolding carried received
@@ -192,11 +196,11 @@ module _ (p : Parameters) (s : Sized p) (a b : List ℕ) (ha : Holding p a (comp
       record {
         lawful = codeword-of p (q-positive p s) w long below weighs near;
         first =
-            ap (λ (x : List ℕ). message p (restored p (part (p .q) true x))) here
+            ap (λ (x : List ℕ). message p (restored p (differenced p true x))) here
             ∙ ap (message p) (restored-made .0)
             ∙ ha .holds;
         second =
-            ap (λ (x : List ℕ). message p (restored p (part (p .q) false x))) here
+            ap (λ (x : List ℕ). message p (restored p (differenced p false x))) here
             ∙ ap (message p) (restored-made .1)
             ∙ hb .holds;
         checks =

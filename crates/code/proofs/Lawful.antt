@@ -14,11 +14,10 @@ use Rattle.modular.specs.Sum.{weight}
 use Rattle.modular.proofs.Search.{eq-test, and-left, and-right, and-intro, and-four, and-parts, or-cases, or-left, or-right}
 use Rattle.code.specs.Parameters.{Parameters, balancedLength, codewordLength, balancingValue}
 use Rattle.code.specs.Component.{symbolsBelow, isWord, inCode}
-use Rattle.code.specs.Balance.{differences}
-use Rattle.code.specs.Codeword.{alternate, alpha, beta, withChecks, body, received, nearCode, isBalanced, hasChecks, hasComponents, codeword}
+use Rattle.code.specs.Codeword.{alpha, beta, withChecks, body, received, nearCode, isBalanced, hasChecks, nearComponents, hasComponents, codeword}
 use Rattle.code.proofs.Weights.{double, double-is}
 use Rattle.code.proofs.Syndrome.{code-zero, zero-code, near-cases, zero-near, column-near}
-use Rattle.code.proofs.Moves.{Near, neither, first, second}
+use Rattle.code.proofs.Moves.{Near, neither, first, second, NearIn}
 
 pub record Lawful (p : Parameters) (u : List ℕ) : Type 0 where
   pub long : length u ≡ codewordLength p
@@ -27,9 +26,9 @@ pub record Lawful (p : Parameters) (u : List ℕ) : Type 0 where
   pub checks : u ≡ withChecks (p .q) (body p u)
   pub near : Near p (received p true u) (received p false u)
 
-pub length-body : (p : Parameters) (u : List ℕ) → length u ≡ codewordLength p → length (body p u) ≡ balancedLength p
+pub body-length : (p : Parameters) (u : List ℕ) → length u ≡ codewordLength p → length (body p u) ≡ balancedLength p
 unfolding body
-length-body p u e = length-take-le (balancedLength p) u (omega arith)
+body-length p u e = length-take-le (balancedLength p) u (omega arith)
 
 -- a symbol of the body is one of the word
 pub body-at : (p : Parameters) (u : List ℕ) (i : ℕ) → i < balancedLength p → getD (body p u) i 0 ≡ getD u i 0
@@ -40,45 +39,34 @@ body-at p u i h = getD-take (balancedLength p) u i 0 h
 pub balanced-length : (p : Parameters) → balancedLength p ≡ suc (double (p .n))
 balanced-length p = omega (arith, double-is (p .n))
 
-components-near : (p : Parameters) → 1 ≤ p .q → (u : List ℕ) → T (hasComponents p u) → Near p (received p true u) (received p false u)
-unfolding hasComponents
-components-near p h u k = ⊎-elim left right (or-cases (inCode p a && nearCode p b) (nearCode p a && inCode p b) k)
-  where
-    a : List ℕ
-    a = received p true u
+module _ (p : Parameters) (h : 1 ≤ p .q) (c d : List ℕ) where
+  components-near : T (nearComponents p c d) → Near p c d
+  unfolding nearComponents
+  components-near k = ⊎-elim left right (or-cases (inCode p c && nearCode p d) (nearCode p c && inCode p d) k)
+    where
+      left : T (inCode p c && nearCode p d) → Near p c d
+      left l =
+          let z = code-zero p c (and-left (inCode p c) (nearCode p d) l) in
+          ⊎-elim (λ y. neither z y) (λ a. second z a) (near-cases p h d (and-right (inCode p c) (nearCode p d) l))
 
-    b : List ℕ
-    b = received p false u
+      right : T (nearCode p c && inCode p d) → Near p c d
+      right l =
+          let z = code-zero p d (and-right (nearCode p c) (inCode p d) l) in
+          ⊎-elim (λ y. neither y z) (λ a. first a z) (near-cases p h c (and-left (nearCode p c) (inCode p d) l))
 
-    left : T (inCode p a && nearCode p b) → Near p a b
-    left l =
-        let z = code-zero p a (and-left (inCode p a) (nearCode p b) l) in
-        ⊎-elim (λ y. neither z y) (λ c. second z c) (near-cases p h b (and-right (inCode p a) (nearCode p b) l))
+  near-components : Near p c d → T (nearComponents p c d)
+  unfolding nearComponents
+  near-components k = go k
+    where
+      left : T (inCode p c) → T (nearCode p d) → T (nearComponents p c d)
+      left x y = or-left (inCode p c && nearCode p d) _ (and-intro (inCode p c) (nearCode p d) x y)
 
-    right : T (nearCode p a && inCode p b) → Near p a b
-    right l =
-        let z = code-zero p b (and-right (nearCode p a) (inCode p b) l) in
-        ⊎-elim (λ y. neither y z) (λ c. first c z) (near-cases p h a (and-left (nearCode p a) (inCode p b) l))
-
-near-components : (p : Parameters) → 1 ≤ p .q → (u : List ℕ) → Near p (received p true u) (received p false u) → T (hasComponents p u)
-unfolding hasComponents
-near-components p h u k = go k
-  where
-    a : List ℕ
-    a = received p true u
-
-    b : List ℕ
-    b = received p false u
-
-    left : T (inCode p a) → T (nearCode p b) → T (hasComponents p u)
-    left x y = or-left (inCode p a && nearCode p b) _ (and-intro (inCode p a) (nearCode p b) x y)
-
-    go : Near p a b → T (hasComponents p u)
-    go (neither x y) = left (zero-code p a x) (zero-near p b y)
-    go (second x c) = left (zero-code p a x) (column-near p h b (c .0) (c .1) (c .2))
-    go (first c y) =
-        or-right (inCode p a && nearCode p b) _
-        (and-intro (nearCode p a) (inCode p b) (column-near p h a (c .0) (c .1) (c .2)) (zero-code p b y))
+      go : Near p c d → T (nearComponents p c d)
+      go (neither x y) = left (zero-code p c x) (zero-near p d y)
+      go (second x a) = left (zero-code p c x) (column-near p h d (a .0) (a .1) (a .2))
+      go (first a y) =
+          or-right (inCode p c && nearCode p d) _
+          (and-intro (nearCode p c) (inCode p d) (column-near p h c (a .0) (a .1) (a .2)) (zero-code p d y))
 
 -- the last two symbols of a word of N
 two-last : (m : ℕ) (u : List ℕ) → length u ≡ m + 2 → u ≡ take m u ++ (getD u m 0 ∷ getD u (m + 1) 0 ∷ [])
@@ -86,15 +74,21 @@ two-last m u e =
     let i : m < length u = omega arith in
     let j : suc m < length u = omega arith in
     let k : length u ≡ suc (suc m) = omega arith in
+    let none : drop (suc (suc m)) u ≡ [] = ap (λ (x : ℕ). drop x u) (sym k) ∙ drop-length u in
+    let last : getD u (suc m) 0 ≡ getD u (m + 1) 0 = ap (λ (x : ℕ). getD u x 0) (sym (add-one m)) in
+    let tail : drop (suc m) u ≡ getD u (m + 1) 0 ∷ [] = drop-cons u (suc m) 0 j ∙ ap₂ (λ (x : ℕ) (t : List ℕ). x ∷ t) last none in
     sym (take-append-drop m u)
-    ∙ ap (λ (t : List ℕ). take m u ++ t)
-    (drop-cons u m 0 i
-    ∙ ap (λ (t : List ℕ). getD u m 0 ∷ t)
-    (drop-cons u (suc m) 0 j
-    ∙ ap₂ (λ (x : ℕ) (t : List ℕ). x ∷ t) (ap (λ (x : ℕ). getD u x 0) (sym (add-one m))) (ap (λ (x : ℕ). drop x u) (sym k) ∙ drop-length u)))
+    ∙ ap (λ (t : List ℕ). take m u ++ t) (drop-cons u m 0 i ∙ ap (λ (t : List ℕ). getD u m 0 ∷ t) tail)
+
+-- the two check symbols, each by its test
+abbrev alphaRight : Parameters → List ℕ → Bool
+alphaRight p u = eqb (getD u (balancedLength p) 0) (alpha (p .q) (body p u))
+
+abbrev betaRight : Parameters → List ℕ → Bool
+betaRight p u = eqb (getD u (balancedLength p + 1) 0) (beta (p .q) (body p u))
 
 pub lawful : (p : Parameters) → 1 ≤ p .q → (u : List ℕ) → T (codeword p u) → Lawful p u
-unfolding codeword isBalanced hasChecks withChecks body
+unfolding codeword isBalanced hasChecks hasComponents withChecks body
 lawful p h u k = from (and-parts (isWord (p .q) (codewordLength p) u) (isBalanced p u) (hasChecks p u) (hasComponents p u) k)
   where
     from : T (isWord (p .q) (codewordLength p) u) × T (isBalanced p u) × T (hasChecks p u) × T (hasComponents p u) → Lawful p u
@@ -105,40 +99,35 @@ lawful p h u k = from (and-parts (isWord (p .q) (codewordLength p) u) (isBalance
           weighs = eqb→eq _ _ (t .1);
           checks =
               two-last (balancedLength p) u long
-              ∙ ap₂ (λ (x y : ℕ). take (balancedLength p) u ++ (x ∷ y ∷ [])) (eqb→eq _ _ (and-left A B (t .2))) (eqb→eq _ _ (and-right A B (t .2)));
-          near = components-near p h u (t .3);
+              ∙ ap₂ (λ (x y : ℕ). take (balancedLength p) u ++ (x ∷ y ∷ []))
+              (eqb→eq _ _ (and-left (alphaRight p u) (betaRight p u) (t .2)))
+              (eqb→eq _ _ (and-right (alphaRight p u) (betaRight p u) (t .2)));
+          near = components-near p h (received p true u) (received p false u) (t .3);
         }
       where
         long : length u ≡ codewordLength p
         long = eqb→eq _ _ (and-left (eqb (length u) (codewordLength p)) (symbolsBelow (p .q) u) (t .0))
 
-        A : Bool
-        A = eqb (getD u (balancedLength p) 0) (alpha (p .q) (body p u))
-
-        B : Bool
-        B = eqb (getD u (balancedLength p + 1) 0) (beta (p .q) (body p u))
-
 -- the body of w with its check symbols is w
-pub body-of : (p : Parameters) (w : List ℕ) → length w ≡ balancedLength p → body p (withChecks (p .q) w) ≡ w
+pub body-with-checks : (p : Parameters) (w : List ℕ) → length w ≡ balancedLength p → body p (withChecks (p .q) w) ≡ w
 unfolding body withChecks
-body-of p w e = take-at w (alpha (p .q) w ∷ beta (p .q) w ∷ []) (balancedLength p) e
+body-with-checks p w e = take-at w (alpha (p .q) w ∷ beta (p .q) w ∷ []) (balancedLength p) e
 
 -- a word of m symbols that balances, with its check symbols, is a codeword where its components are near the code
 pub codeword-of : (p : Parameters) → 1 ≤ p .q → (w : List ℕ) → length w ≡ balancedLength p → T (symbolsBelow (p .q) (withChecks (p .q) w))
-    → weight w ≡ balancingValue (p .q) (balancedLength p)
-    → Near p (alternate true (differences p w)) (alternate false (differences p w)) → T (codeword p (withChecks (p .q) w))
-unfolding codeword isBalanced hasChecks withChecks received
+    → weight w ≡ balancingValue (p .q) (balancedLength p) → NearIn p w → T (codeword p (withChecks (p .q) w))
+unfolding codeword isBalanced hasChecks hasComponents withChecks received
 codeword-of p h w e b k z =
     and-four (isWord (p .q) (codewordLength p) u) (isBalanced p u) (hasChecks p u) (hasComponents p u) word (eq-test (ap weight here ∙ k))
-    (and-intro (eqb (getD u (balancedLength p) 0) (alpha (p .q) (body p u))) (eqb (getD u (balancedLength p + 1) 0) (beta (p .q) (body p u)))
-    (eq-test (first-check ∙ ap (alpha (p .q)) (sym here))) (eq-test (second-check ∙ ap (beta (p .q)) (sym here))))
-    (near-components p h u (subst (λ (x : List ℕ). Near p (alternate true (differences p x)) (alternate false (differences p x))) (sym here) z))
+    (and-intro (alphaRight p u) (betaRight p u) (eq-test (first-check ∙ ap (alpha (p .q)) (sym here)))
+    (eq-test (second-check ∙ ap (beta (p .q)) (sym here))))
+    (near-components p h (received p true u) (received p false u) (subst (NearIn p) (sym here) z))
   where
     u : List ℕ
     u = w ++ (alpha (p .q) w ∷ beta (p .q) w ∷ [])
 
     here : body p u ≡ w
-    here = body-of p w e
+    here = body-with-checks p w e
 
     word : T (isWord (p .q) (codewordLength p) u)
     word =

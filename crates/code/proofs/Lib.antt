@@ -17,6 +17,7 @@ pub mod Reduced
 pub mod Component
 -- Why one bad symbol is never taken for another pair
 pub mod Moves
+pub mod Told
 pub mod Lawful
 pub mod Parity
 pub mod Apart

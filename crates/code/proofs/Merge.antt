@@ -70,16 +70,19 @@ count-not t (suc n) =
 
 pub count-pass : (t : ℕ → Bool) (i : ℕ) → t i ≡ true → count t (suc i) ≡ suc (count t i)
 count-pass t zero h = rw (h, count)
-count-pass t (suc i) h = cases (t 0) (λ b. rw (b, count) (ap suc (count-pass (shift t) i h))) (λ b. rw (b, count) (count-pass (shift t) i h))
+count-pass t (suc i) h =
+    cases (t 0) (λ b. rw (b, count) (ap suc (count-pass (shift t) i h))) (λ b. rw (b, count) (count-pass (shift t) i h))
 
 pub count-fail : (t : ℕ → Bool) (i : ℕ) → t i ≡ false → count t (suc i) ≡ count t i
 count-fail t zero h = rw (h, count)
-count-fail t (suc i) h = cases (t 0) (λ b. rw (b, count) (ap suc (count-fail (shift t) i h))) (λ b. rw (b, count) (count-fail (shift t) i h))
+count-fail t (suc i) h =
+    cases (t 0) (λ b. rw (b, count) (ap suc (count-fail (shift t) i h))) (λ b. rw (b, count) (count-fail (shift t) i h))
 
 count-none : (t : ℕ → Bool) (n : ℕ) → ((i : ℕ) → i < n → T (t i) → ⊥) → count t n ≡ 0
 count-none t zero h = refl
 count-none t (suc n) h =
-    cases (t 0) (λ e. absurd (h 0 (suc-le-suc zero-le) (rw e tt))) (λ e. rw (e, count) (count-none (shift t) n (λ i l. h (suc i) (suc-le-suc l))))
+    cases (t 0) (λ e. absurd (h 0 (suc-le-suc zero-le) (rw e tt)))
+    (λ e. rw (e, count) (count-none (shift t) n (λ i l. h (suc i) (suc-le-suc l))))
 
 -- of tests that differ at one index only, one counts one more
 count-step : (t u : ℕ → Bool) (n p : ℕ) → p < n → T (t p) → T (not (u p)) → ((i : ℕ) → i ≢ p → t i ≡ u i) → count t n ≡ suc (count u n)
@@ -102,7 +105,9 @@ count-image f (suc r) n t b j o h =
     (not-T (u (f r)) (λ p. apart (f r) p refl)) (λ i d. same-test (t i) (u i) (λ p. rest i p d) (λ p. and-left (t i) (not (eqb i (f r))) p))
     ∙ ap suc (count-image f r n u (λ k l. b k (le-step l)) (λ k l x y. j k l (le-step x) (le-step y))
     (λ k l. rest (f k) (o k (le-step l)) (λ e. ne-of-lt l (j k r (le-step l) (le-refl (suc r)) e)))
-    (λ i p. let (k, l, e) = h i (and-left (t i) (not (eqb i (f r))) p) in (k, lt-of-le-ne (le-of-suc-le-suc l) (λ g. apart i p (e ∙ ap f g)), e)))
+    (λ i p.
+    let (k, l, e) = h i (and-left (t i) (not (eqb i (f r))) p) in
+    (k, lt-of-le-ne (le-of-suc-le-suc l) (λ g. apart i p (e ∙ ap f g)), e)))
   where
     u : ℕ → Bool
     u i = t i && not (eqb i (f r))
@@ -124,7 +129,8 @@ length-keep t (x ∷ xs) =
 pub length-merge : (t : ℕ → Bool) (n : ℕ) (e a : List ℕ) → length (merge t n e a) ≡ n
 length-merge t zero e a = refl
 length-merge t (suc n) e a =
-    cases (t 0) (λ h. rw (h, merge) (ap suc (length-merge (shift t) n (drop 1 e) a))) (λ h. rw (h, merge) (ap suc (length-merge (shift t) n e (drop 1 a))))
+    cases (t 0) (λ h. rw (h, merge) (ap suc (length-merge (shift t) n (drop 1 e) a)))
+    (λ h. rw (h, merge) (ap suc (length-merge (shift t) n e (drop 1 a))))
 
 pub merge-keep : (t : ℕ → Bool) (c : List ℕ) → merge t (length c) (keep t c) (keep (opposite t) c) ≡ c
 merge-keep t [] = refl
@@ -136,7 +142,8 @@ pub keep-merge : (t : ℕ → Bool) (n : ℕ) (e a : List ℕ) → length a ≡ 
 keep-merge t zero e [] h = refl
 keep-merge t zero e (x ∷ a) h = absurd (omega arith)
 keep-merge t (suc n) e [] h =
-    cases (t 0) (λ b. rw (b, merge, b, keep) (keep-merge (shift t) n (drop 1 e) [] (rw (b, count) at h))) (λ b. absurd (omega (arith, rw (b, count) at h)))
+    cases (t 0) (λ b. rw (b, merge, b, keep) (keep-merge (shift t) n (drop 1 e) [] (rw (b, count) at h)))
+    (λ b. absurd (omega (arith, rw (b, count) at h)))
 keep-merge t (suc n) e (x ∷ a) h =
     cases (t 0) (λ b. rw (b, merge, b, keep) (keep-merge (shift t) n (drop 1 e) (x ∷ a) (rw (b, count) at h)))
     (λ b. rw (b, merge, b, keep) (ap (λ (l : List ℕ). x ∷ l) (keep-merge (shift t) n e a (suc-inj (rw (b, count) at h)))))

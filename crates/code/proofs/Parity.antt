@@ -1,8 +1,8 @@
--- What the symbols of a codeword at odd and at even positions add up to: since w has an odd number of symbols, α stands at an even position and β at
--- an odd one, so each stands among the symbols that it does not sum.
+-- What the symbols of a codeword at odd and at even positions add up to: since w has an odd number of symbols, α stands at an even position
+-- and β at an odd one, so each stands among the symbols that it does not sum.
 -- Assumes nothing.
 use mathlib.Core.Path.{_≡_, sym, ap, _∙_}
-use mathlib.Core.Bool.{Bool, true, false}
+use mathlib.Core.Bool.{true, false}
 use mathlib.Core.List.{List, [], _∷_, _++_}
 use Prim.Native.Nat.{ℕ, zero, suc, _+_}
 use native.Mathlib.Nat.{suc-ne-zero, suc-inj}
@@ -18,7 +18,7 @@ use Rattle.code.specs.Claims.{ParitySums}
 use Rattle.code.proofs.Weights.{double}
 use Rattle.code.proofs.Columns.{q-positive}
 use Rattle.code.proofs.Delta.{alternate-weight}
-use Rattle.code.proofs.Lawful.{Lawful, lawful, length-body, balanced-length}
+use Rattle.code.proofs.Lawful.{Lawful, lawful, body-length, balanced-length}
 
 -- two symbols after a word of odd length: the first stands at an even position
 after-odd : (n : ℕ) (w : List ℕ) (a b : ℕ) → length w ≡ suc (double n)
@@ -44,7 +44,7 @@ module _ (p : Parameters) (s : Sized p) (u : List ℕ) (h : T (codeword p u)) wh
   even = weight (alternate false w)
 
   long : length w ≡ balancedLength p
-  long = length-body p u (known .long)
+  long = body-length p u (known .long)
 
   abbrev target : ℕ
   target = balancingValue (p .q) (balancedLength p)

@@ -57,10 +57,11 @@ every-profile t h (suc j) k =
     (leb→le (suc j) (length profiles) (and-right (leb 1 (suc j)) (leb (suc j) (length profiles)) k))
 
 -- a number that is no profile's has zeros for parameters
-pub no-profile : (i : ℕ) → isProfile i ≡ false → profile i ≡ row 0 0 0
+pub profile-none : (i : ℕ) → isProfile i ≡ false → profile i ≡ row 0 0 0
 unfolding profile
-no-profile zero e = refl
-no-profile (suc i) e = ⊎-elim (λ (h : length profiles ≤ i). List·getD-eq-default profiles (row 0 0 0) h) (λ h. absurd (past h)) (le-or-lt (length profiles) i)
+profile-none zero e = refl
+profile-none (suc i) e =
+    ⊎-elim (λ (h : length profiles ≤ i). List·getD-eq-default profiles (row 0 0 0) h) (λ h. absurd (past h)) (le-or-lt (length profiles) i)
   where
     past : i < length profiles → ⊥
     past h =

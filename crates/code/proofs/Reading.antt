@@ -1,30 +1,29 @@
 -- At most one codeword is near a word, since two such would differ in at most two positions; so the search finds that one, at the position
 -- in which it differs, and demand 3 follows.
 -- Assumes nothing.
-use mathlib.Core.Path.{_≡_, refl, sym, ap, subst, _∙_}
+use mathlib.Core.Path.{_≡_, sym, ap, subst, _∙_}
 use mathlib.Core.Logic.{⊎-elim, _≢_, _↔_}
 use mathlib.Core.Bool.{true, false}
 use mathlib.Core.List.{List}
-use Prim.Native.Nat.{ℕ, _+_, _≤_, _<_}
+use Prim.Native.Nat.{ℕ, _≤_, _<_}
 use native.Mathlib.Nat.{ne-of-lt, not-le-of-lt, le-of-suc-le-suc}
 use native.Mathlib.Omega.{arith}
 use lib.Dec.{T, ltb}
 use lib.ListN.{length, getD, set, length-set}
-use lib.Seq.{getD-set-same, getD-set-other, set-set, set-getD}
+use lib.Seq.{getD-set-same, getD-set-other, lt-length-set}
 use borrow.Author.Tests.{lt-ltb, le-ltb}
 use Rattle.modular.specs.Search.{anyBelow}
-use Rattle.modular.specs.Residue.{Prime}
 use Rattle.modular.proofs.Search.{passes, fails, le-of-not-lt, least-hit, least-is, any-of, any-at}
 use Rattle.code.specs.Parameters.{Parameters, Sized, codewordLength}
 use Rattle.code.specs.Component.{isWord}
 use Rattle.code.specs.Codeword.{codeword}
-use Rattle.code.specs.Reading.{distance, Finding, correctionAt, read, unreadable, clean, corrected, findingOf, readAs, changedAt, sentAt, nearReading, reading}
-use Rattle.code.specs.Claims.{NearCodeword, OneNear, NearIsOne, Reads, ReadingIs, ReadingCorrects}
+use Rattle.code.specs.Reading.{distance, Finding, correctionAt, read, unreadable, clean, corrected, findingOf, readAs, mends, changedAt, sentAt, nearReading, reading}
+use Rattle.code.specs.Claims.{NearCodeword, OneNear, NearIsOne, Reads, ReadingIs, Corrects, ReadingCorrects}
 use Rattle.code.proofs.Columns.{q-positive}
 use Rattle.code.proofs.Symbols.{symbol-below, symbols-set}
-use Rattle.code.proofs.Distance.{distance-self, distance-sym, distance-set, triangle, one-apart}
+use Rattle.code.proofs.Distance.{distance-self, distance-sym, distance-set, triangle, OneApart, one-apart}
 use Rattle.code.proofs.Merge.{word-length, word-of}
-use Rattle.code.proofs.Found.{found-clean, found-at, found-sent}
+use Rattle.code.proofs.Found.{found-clean, found-differing, found-sent}
 use Rattle.code.proofs.Lawful.{lawful}
 use Rattle.code.proofs.Apart.{apart}
 
@@ -71,16 +70,23 @@ module _ (p : Parameters) (s : Sized p) (one : OneNear p) (v : List ℕ) (word :
   pub near-self : T (codeword p v) → NearCodeword p v v
   near-self h = record { lawful = h; close = omega (arith, distance-self v) }
 
-  pub near-set : (i y : ℕ) → T (codeword p (set v i y)) → NearCodeword p v (set v i y)
-  near-set i y h = record { lawful = h; close = omega (arith, distance-sym v (set v i y), distance-set v i y) }
+  -- a level mends v exactly where it makes a codeword near it
+  pub near-mends : (i y : ℕ) → T (mends p v i y) → NearCodeword p v (set v i y)
+  unfolding mends
+  near-mends i y h = record { lawful = h; close = omega (arith, distance-sym v (set v i y), distance-set v i y) }
+
+  pub mends-near : (i y : ℕ) → NearCodeword p v (set v i y) → T (mends p v i y)
+  unfolding mends
+  mends-near i y n = n .lawful
 
   -- u, the codeword near v, is v with the symbol at index i as it was sent
-  module _ (u : List ℕ) (near : NearCodeword p v u) (i : ℕ) (l : i < length v) (ne : getD u i 0 ≢ getD v i 0) (back : set v i (getD u i 0) ≡ u) where
-    is-sent : (j x : ℕ) → T (codeword p (set v j x)) → u ≡ set v j x
-    is-sent j x k = one v word u (set v j x) near (near-set j x k)
+  module _ (u : List ℕ) (near : NearCodeword p v u) (i : ℕ) (l : i < length v) (ne : getD u i 0 ≢ getD v i 0)
+      (back : set v i (getD u i 0) ≡ u) where
+    is-sent : (j x : ℕ) → T (mends p v j x) → u ≡ set v j x
+    is-sent j x k = one v word u (set v j x) near (near-mends j x k)
 
-    undoes : T (codeword p (set v i (getD u i 0)))
-    undoes = subst (λ (x : List ℕ). T (codeword p x)) (sym back) (near .lawful)
+    undoes : T (mends p v i (getD u i 0))
+    undoes = mends-near i (getD u i 0) (subst (NearCodeword p v) (sym back) near)
 
     not-codeword : T (codeword p v) → ⊥
     not-codeword k = ne (ap (λ (x : List ℕ). getD x i 0) (one v word u v near (near-self k)))
@@ -89,23 +95,22 @@ module _ (p : Parameters) (s : Sized p) (one : OneNear p) (v : List ℕ) (word :
     below = symbol-below (p .q) (q-positive p s) u (lawful p (q-positive p s) u (near .lawful) .below) i
 
     -- no index before i will do, and no symbol before the one sent
-    not-before : (j : ℕ) → j < i → T (anyBelow (λ x. codeword p (set v j x)) (p .q)) → ⊥
+    not-before : (j : ℕ) → j < i → T (anyBelow (mends p v j) (p .q)) → ⊥
     not-before j b k =
-        let (x, _, c) = any-at (λ x. codeword p (set v j x)) (p .q) k in
+        let (x, _, c) = any-at (mends p v j) (p .q) k in
         ne (ap (λ (z : List ℕ). getD z i 0) (is-sent j x c) ∙ getD-set-other v j i x 0 (λ (e : i ≡ j). ne-of-lt b (sym e)))
 
-    not-below : (x : ℕ) → x < getD u i 0 → T (codeword p (set v i x)) → ⊥
+    not-below : (x : ℕ) → x < getD u i 0 → T (mends p v i x) → ⊥
     not-below x b k = ne-of-lt b (sym (ap (λ (z : List ℕ). getD z i 0) (is-sent i x k) ∙ getD-set-same v i x 0 l))
 
     position : changedAt p v ≡ i
     unfolding changedAt
     position =
-        least-is (λ j. anyBelow (λ x. codeword p (set v j x)) (p .q)) (length v) i l
-        (any-of (λ x. codeword p (set v i x)) (p .q) (getD u i 0) below undoes) not-before
+        least-is (λ j. anyBelow (mends p v j) (p .q)) (length v) i l (any-of (mends p v i) (p .q) (getD u i 0) below undoes) not-before
 
     symbol : sentAt p v i ≡ getD u i 0
     unfolding sentAt
-    symbol = least-is (λ x. codeword p (set v i x)) (p .q) (getD u i 0) below undoes not-below
+    symbol = least-is (mends p v i) (p .q) (getD u i 0) below undoes not-below
 
     changed : reading p v ≡ readAs p (findingOf v u) u
     changed =
@@ -117,12 +122,10 @@ module _ (p : Parameters) (s : Sized p) (one : OneNear p) (v : List ℕ) (word :
   sent : (u : List ℕ) → NearCodeword p v u → reading p v ≡ readAs p (findingOf v u) u
   sent u near =
       ⊎-elim
-      (λ (e : u ≡ v). rw e (reads-clean p v (passes (subst (λ (x : List ℕ). T (codeword p x)) e (near .lawful))) ∙ ap (λ (f : Finding). readAs p f v) (sym (found-clean v))))
-      (λ (c : (i : ℕ) × (i < length u) × (getD u i 0 ≢ getD v i 0) × (set u i (getD v i 0) ≡ v)).
-      let i : ℕ = c .0 in
-      let back : set v i (getD u i 0) ≡ u =
-      ap (λ (x : List ℕ). set x i (getD u i 0)) (sym (c .3)) ∙ set-set u i (getD v i 0) (getD u i 0) ∙ set-getD u i 0 in
-      changed u near i (subst (λ (x : ℕ). i < x) (same ∙ sym long) (c .1)) (c .2) back)
+      (λ (e : u ≡ v).
+      let h : codeword p v ≡ true = passes (subst (λ (x : List ℕ). T (codeword p x)) e (near .lawful)) in
+      rw e (reads-clean p v h ∙ ap (λ (f : Finding). readAs p f v) (sym (found-clean v))))
+      (λ (c : OneApart u v). changed u near (c .i) (subst (λ (x : ℕ). c .i < x) (same ∙ sym long) (c .within)) (c .unequal) (c .back))
       (one-apart u v (same ∙ sym long) (near .close))
     where
       same : length u ≡ codewordLength p
@@ -135,8 +138,8 @@ module _ (p : Parameters) (s : Sized p) (one : OneNear p) (v : List ℕ) (word :
       unmended : changedAt p v < length v → ⊥
       unmended l =
           let m : ℕ = changedAt p v in
-          let (y, _, k) = any-at (λ y. codeword p (set v m y)) (p .q) (least-hit (λ i. anyBelow (λ y. codeword p (set v i y)) (p .q)) (length v) l) in
-          f (set v m y) (near-set m y k)
+          let (y, _, k) = any-at (mends p v m) (p .q) (least-hit (λ i. anyBelow (mends p v i) (p .q)) (length v) l) in
+          f (set v m y) (near-mends m y k)
 
 pub reading-is : ReadingIs
 reading-is p s one v word = record { sent = sent p s one v word; none = none p s one v word }
@@ -152,10 +155,7 @@ module _ (p : Parameters) (s : Sized p) (u : List ℕ) (h : T (codeword p u)) wh
       word-of (p .q) (codewordLength p) (set u i y) (length-set u i y ∙ l .long) (symbols-set (p .q) u i y b (l .below))
 
 -- Demand 3, where the near codeword is within one position.
-module _ (p : Parameters) (s : Sized p) (prime : Prime (p .q)) where
-  one : OneNear p
-  one = near-is-one p s prime
-
+module _ (p : Parameters) (s : Sized p) (one : OneNear p) where
   reads : (v : List ℕ) → T (isWord (p .q) (codewordLength p) v) → Reads p v
   reads = reading-is p s one
 
@@ -168,7 +168,7 @@ module _ (p : Parameters) (s : Sized p) (prime : Prime (p .q)) where
       let within : i < length u = subst (λ (x : ℕ). i < x) (sym (lawful p (q-positive p s) u h .long)) l in
       let here : getD (set u i y) i 0 ≡ y = getD-set-same u i y 0 within in
       let found : findingOf (set u i y) u ≡ corrected (correctionAt i y (getD u i 0)) =
-      found-at (set u i y) u i (subst (λ (x : ℕ). i < x) (sym (length-set u i y)) within) (λ e. ne (sym here ∙ e)) (λ j d. getD-set-other u i j y 0 d)
+      found-differing (set u i y) u i (lt-length-set u i y within) (λ e. ne (sym here ∙ e)) (λ j d. getD-set-other u i j y 0 d)
       ∙ ap (λ (x : ℕ). corrected (correctionAt i x (getD u i 0))) here in
       reads (set u i y) (changed-word p s u h i y b) .sent u (near-changed u h i y) ∙ ap (λ (f : Finding). readAs p f u) found
 
@@ -179,20 +179,24 @@ module _ (p : Parameters) (s : Sized p) (prime : Prime (p .q)) where
       ne (one (set u i y) (changed-word p s u hu i y b) v u (record { lawful = hv; close = le-of-suc-le-suc d }) (near-changed u hu i y)))
 
   -- a word is refused exactly when no codeword is near it
-  refused : (v : List ℕ) → T (isWord (p .q) (codewordLength p) v) → (reading p v ≡ unreadable) ↔ ((u : List ℕ) → T (codeword p u) → 2 ≤ distance u v)
+  refused : (v : List ℕ) → T (isWord (p .q) (codewordLength p) v)
+      → (reading p v ≡ unreadable) ↔ ((u : List ℕ) → T (codeword p u) → 2 ≤ distance u v)
   refused v word = (
     λ e u h. le-of-not-lt (λ d. never (sym (reads v word .sent u (record { lawful = h; close = le-of-suc-le-suc d })) ∙ e)),
     λ f. reads v word .none (λ u near. not-le-of-lt (f u (near .lawful)) (near .close)),
   )
 
+  corrects : Corrects p
+  corrects =
+      record {
+        unchanged =
+            λ u h.
+            let w = codeword-word p s u h in
+            reads u w .sent u (near-self p s one u w h) ∙ ap (λ (f : Finding). readAs p f u) (found-clean u);
+        changed = changed-sent;
+        others = λ u v hu hv ne i y l b. others u v hu hv ne i y b;
+        refused = refused;
+      }
+
 pub reading-corrects : ReadingCorrects
-reading-corrects p s prime =
-    record {
-      unchanged =
-          λ u h.
-          reads p s prime u (codeword-word p s u h) .sent u (near-self p s (one p s prime) u (codeword-word p s u h) h)
-          ∙ ap (λ (f : Finding). readAs p f u) (found-clean u);
-      changed = changed-sent p s prime;
-      others = λ u v hu hv ne i y l b. others p s prime u v hu hv ne i y b;
-      refused = refused p s prime;
-    }
+reading-corrects p s prime = corrects p s (near-is-one p s prime)

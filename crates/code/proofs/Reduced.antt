@@ -1,5 +1,5 @@
--- The check positions and the columns there: combinations of the check rows, the reduced rows, have at the check positions a single 1 mod q,
--- since the digit sum less 1 is 1 for 2 and 0 for a power of q.
+-- The check positions and the columns there: combinations of the check rows, the reduced rows, have at the check positions a single 1
+-- mod q, since the digit sum less 1 is 1 for 2 and 0 for a power of q.
 -- Assumes nothing.
 use mathlib.Core.Path.{_≡_, refl, sym, ap, _∙_}
 use mathlib.Core.Logic.{_≢_, ⊎-elim}
@@ -19,7 +19,7 @@ use Rattle.modular.specs.Digits.{digits}
 use Rattle.modular.proofs.Search.{le-or-lt, or-right, or-cases, any-at, any-of}
 use Rattle.modular.proofs.Sum.{weight-zeros, dot-add, dot-scale, dot-same, dot-add-vanishing}
 use Rattle.modular.proofs.Residue.{of-eq, same, symm, _then_, add, scale, multiple}
-use Rattle.modular.proofs.Digits.{digits-below, digits-small, digits-power, digit-sum-power, dot-digit-sum}
+use Rattle.modular.proofs.Digits.{digits-below, digits-single, digits-power, digit-sum-power, dot-digit-sum}
 use Rattle.code.specs.Parameters.{Parameters, Sized}
 use Rattle.code.specs.Component.{checkRow, isCheck, checkAt}
 use Rattle.code.proofs.Weights.{times-pred}
@@ -28,9 +28,9 @@ use Rattle.code.proofs.Columns.{last-row, digit-row, q-positive, r-larg
 use Rattle.code.proofs.Merge.{count, count-image}
 
 -- the index of check position k: of 2, then of 1, q, q², ..
-abbrev pub place : Parameters → ℕ → ℕ
-place p zero = 1
-place p (suc j) = p .q ^ j - 1
+abbrev pub pivot : Parameters → ℕ → ℕ
+pivot p zero = 1
+pivot p (suc j) = p .q ^ j - 1
 
 -- the digit sum of that symbol's column
 abbrev digitSum : Parameters → ℕ → ℕ
@@ -41,13 +41,13 @@ abbrev pub reducedTwo : Parameters → ℕ → ℕ
 reducedTwo p i = digitSum p i + (p .q - 1) * checkRow p (p .r - 1) i
 
 -- the reduced row of check position k: for a power of q its row, with what position 2 has there taken away
-abbrev pub reduced : Parameters → ℕ → ℕ → ℕ
-reduced p zero i = reducedTwo p i
-reduced p (suc j) i = checkRow p j i + (p .q - checkRow p j 1) * reducedTwo p i
+abbrev pub reducedRow : Parameters → ℕ → ℕ → ℕ
+reducedRow p zero i = reducedTwo p i
+reducedRow p (suc j) i = checkRow p j i + (p .q - checkRow p j 1) * reducedTwo p i
 
 -- the first m reduced sums of c are 0 mod q
 abbrev pub Vanish : Parameters → ℕ → List ℕ → Type 0
-Vanish p m c = (k : ℕ) → k < m → Congruent (p .q) (dot (reduced p k) c) 0
+Vanish p m c = (k : ℕ) → k < m → Congruent (p .q) (dot (reducedRow p k) c) 0
 
 module _ (p : Parameters) (s : Sized p) where
   -- The check positions.
@@ -55,15 +55,15 @@ module _ (p : Parameters) (s : Sized p) where
   pub power-position : (j : ℕ) → suc (p .q ^ j - 1) ≡ p .q ^ j
   power-position j = omega (arith, one-le-pow j (p .q) (q-positive p s))
 
-  pub place-below : (k : ℕ) → k < p .r → place p k < p .n
-  place-below zero h = s .second
-  place-below (suc j) h =
+  pub pivot-below : (k : ℕ) → k < p .r → pivot p k < p .n
+  pivot-below zero h = s .second
+  pivot-below (suc j) h =
       let l : j ≤ p .r - 2 = omega arith in
       omega (arith, power-position j, pow-le-pow-right (q-positive p s) l)
 
-  pub check-place : (i : ℕ) → T (checkAt p i) → (k : ℕ) × (k < p .r) × (i ≡ place p k)
+  pub check-pivot : (i : ℕ) → T (checkAt p i) → (k : ℕ) × (k < p .r) × (i ≡ pivot p k)
   unfolding isCheck
-  check-place i h =
+  check-pivot i h =
       ⊎-elim (λ (e : T (eqb (suc i) 2)). (0, omega (arith, r-large p s), omega (arith, eqb→eq (suc i) 2 e)))
       (λ (a : T (anyBelow power (p .r - 1))).
       let (j, l, e) = any-at power (p .r - 1) a in (suc j, omega arith, omega (arith, eqb→eq (suc i) (p .q ^ j) e)))
@@ -72,10 +72,10 @@ module _ (p : Parameters) (s : Sized p) where
       power : ℕ → Bool
       power j = eqb (suc i) (p .q ^ j)
 
-  pub place-check : (k : ℕ) → k < p .r → T (checkAt p (place p k))
+  pub pivot-check : (k : ℕ) → k < p .r → T (checkAt p (pivot p k))
   unfolding isCheck
-  place-check zero h = tt
-  place-check (suc j) h =
+  pivot-check zero h = tt
+  pivot-check (suc j) h =
       let power : ℕ → Bool = λ l. eqb (suc (p .q ^ j - 1)) (p .q ^ l) in
       let l : j < p .r - 1 = omega arith in
       or-right (eqb (suc (p .q ^ j - 1)) 2) (anyBelow power (p .r - 1))
@@ -110,7 +110,7 @@ module _ (p : Parameters) (s : Sized p) where
   digits-two : digits (p .q) (p .r - 1) 2 ≡ 2 ∷ replicate (p .r - 2) 0
   digits-two =
       let e : p .r - 1 ≡ suc (p .r - 2) = omega (arith, r-large p s) in
-      rw e (digits-small (p .q) (p .r - 2) 2 (s .levels))
+      rw e (digits-single (p .q) (p .r - 2) 2 (s .levels))
 
   -- column 2 has 2 in row 0
   pub row-two-first : checkRow p 0 1 ≡ 2
@@ -138,15 +138,15 @@ module _ (p : Parameters) (s : Sized p) where
       let k : l < p .r - 1 = omega arith in
       reduced-two-at (p .q ^ l - 1) 0 (rw power-position (digit-sum-power (p .q) (p .r - 1) l two k))
 
-  reduced-at-power : (j l : ℕ) → suc l < p .r → Congruent (p .q) (reduced p (suc j) (p .q ^ l - 1)) (checkRow p j (p .q ^ l - 1))
+  reduced-at-power : (j l : ℕ) → suc l < p .r → Congruent (p .q) (reducedRow p (suc j) (p .q ^ l - 1)) (checkRow p j (p .q ^ l - 1))
   reduced-at-power j l h =
       simp (mul-zero, add-zero) at (add (same (checkRow p j (p .q ^ l - 1))) (scale (p .q - checkRow p j 1) (two-at-power l h)))
 
-  pub reduced-same : (k : ℕ) → k < p .r → Congruent (p .q) (reduced p k (place p k)) 1
+  pub reduced-same : (k : ℕ) → k < p .r → Congruent (p .q) (reducedRow p k (pivot p k)) 1
   reduced-same zero h = two-at-two
   reduced-same (suc j) h = reduced-at-power j j h then of-eq (row-power-same j h)
 
-  pub reduced-other : (k l : ℕ) → k < p .r → l < p .r → k ≢ l → Congruent (p .q) (reduced p k (place p l)) 0
+  pub reduced-other : (k l : ℕ) → k < p .r → l < p .r → k ≢ l → Congruent (p .q) (reducedRow p k (pivot p l)) 0
   reduced-other zero zero h g d = absurd (d refl)
   reduced-other zero (suc l) h g d = two-at-power l g
   reduced-other (suc j) zero h g d =
@@ -156,16 +156,16 @@ module _ (p : Parameters) (s : Sized p) where
   reduced-other (suc j) (suc l) h g d = reduced-at-power j l g then of-eq (row-power-other j l h (λ e. d (ap suc e)))
 
   -- so the check positions differ
-  pub place-injective : (k l : ℕ) → k < p .r → l < p .r → place p k ≡ place p l → k ≡ l
-  place-injective k l h g e =
+  pub pivot-injective : (k l : ℕ) → k < p .r → l < p .r → pivot p k ≡ pivot p l → k ≡ l
+  pivot-injective k l h g e =
       elim (ℕ-discrete k l) [
         | yes x ↦ x
         | no d ↦
-            absurd (one-not-zero p s (symm (reduced-same k h) then of-eq (ap (reduced p k) e) then reduced-other k l h g d))
+            absurd (one-not-zero p s (symm (reduced-same k h) then of-eq (ap (reducedRow p k) e) then reduced-other k l h g d))
       ]
 
   pub check-count : count (checkAt p) (p .n) ≡ p .r
-  check-count = count-image (place p) (p .r) (p .n) (checkAt p) place-below place-injective place-check check-place
+  check-count = count-image (pivot p) (p .r) (p .n) (checkAt p) pivot-below pivot-injective pivot-check check-pivot
 
   -- The check rows and the reduced rows vanish together.
 
@@ -203,8 +203,9 @@ module _ (p : Parameters) (s : Sized p) where
       last : Congruent (p .q) (dot (checkRow p (p .r - 1)) c) 0
       last =
           let d : ℕ = dot (digitSum p) c in
-          let x : ℕ = dot (checkRow p (p .r - 1)) c in
+          let g : ℕ → ℕ = checkRow p (p .r - 1) in
+          let x : ℕ = dot g c in
           let e : dot (reducedTwo p) c ≡ d + (p .q - 1) * x =
-          dot-add (digitSum p) (λ i. (p .q - 1) * checkRow p (p .r - 1) i) c ∙ ap (λ (y : ℕ). d + y) (dot-scale (p .q - 1) (checkRow p (p .r - 1)) c) in
+          dot-add (digitSum p) (λ i. (p .q - 1) * g i) c ∙ ap (λ (y : ℕ). d + y) (dot-scale (p .q - 1) g c) in
           let f : x + dot (reducedTwo p) c ≡ d + x * p .q = omega (arith, times-pred (p .q) x (q-positive p s)) in
           of-eq (sym (add-zero x)) then add (same x) (symm two) then of-eq f then multiple (p .q) d x then digit-sum-vanishes c digit

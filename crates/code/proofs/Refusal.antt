@@ -49,7 +49,8 @@ step-most true h l = l
 step-most false h l = h
 
 -- where a number is none of the first tests', these pass, and it is the number of the later ones
-pub passed : (first later : List Test) {k : ℕ} → T (absent k first) → firstRefusal (first ++ later) ≡ k → AllPass first × (firstRefusal later ≡ k)
+pub passed : (first later : List Test) {k : ℕ} → T (absent k first) → firstRefusal (first ++ later) ≡ k
+    → AllPass first × (firstRefusal later ≡ k)
 passed [] later a e = (tt, e)
 passed (t ∷ ts) later {k} a e =
     let (here, rest) = step-passed (t .passes) (other (and-left (not (eqb (t .number) k)) (absent k ts) a)) e in
@@ -80,7 +81,8 @@ pub past-none : (first later : List Test) → T (absent 0 first) → firstRefusa
 past-none first later a e = past first later (passed-every first a e)
 
 -- and where the next one fails, it is that one's
-pub stops : (first : List Test) (t : Test) (later : List Test) → AllPass first → t .passes ≡ false → firstRefusal (first ++ (t ∷ later)) ≡ t .number
+pub stops : (first : List Test) (t : Test) (later : List Test) → AllPass first → t .passes ≡ false
+    → firstRefusal (first ++ (t ∷ later)) ≡ t .number
 stops first t later h f = past first (t ∷ later) h ∙ rw f
 
 -- a number of the first tests stands, whatever the later ones say

@@ -15,11 +15,11 @@ use Rattle.code.specs.Parameters.{Parameters, Sized}
 use Rattle.code.specs.Component.{inCode, message}
 use Rattle.code.specs.Codeword.{body, received, lowered, restored, carried}
 use Rattle.code.specs.Claims.{Restores, Carries, OnePair}
-use Rattle.code.proofs.Weights.{length-part}
+use Rattle.code.proofs.Weights.{length-differenced}
 use Rattle.code.proofs.Syndrome.{Zero, ColumnOf, code-zero, zero-code, lowered-column, column-lowered}
 use Rattle.code.proofs.Columns.{q-positive, last-row, last-below, one-not-zero, columns-differ}
 use Rattle.code.proofs.Moves.{Column, Near, neither, first, second}
-use Rattle.code.proofs.Lawful.{Lawful, lawful, length-body, balanced-length}
+use Rattle.code.proofs.Lawful.{Lawful, lawful, body-length, balanced-length}
 
 -- the test decides which
 restored-in : (p : Parameters) (c : List ℕ) → inCode p c ≡ true → restored p c ≡ c
@@ -37,7 +37,9 @@ module _ (p : Parameters) (s : Sized p) (c : List ℕ) (n : length c ≡ p .n) w
 
   -- a column is not zero, and no other symbol has it
   pub restored-column : (i : ℕ) → i < length c → ColumnOf p c i → restored p c ≡ lowered (p .q) c i
-  restored-column i l k = restored-out p c i (fails not-zero) (least-is (λ j. inCode p (lowered (p .q) c j)) (length c) i l (column-lowered p (q-positive p s) c i l k) no-other)
+  restored-column i l k =
+      restored-out p c i (fails not-zero)
+      (least-is (λ j. inCode p (lowered (p .q) c j)) (length c) i l (column-lowered p (q-positive p s) c i l k) no-other)
     where
       not-zero : T (inCode p c) → ⊥
       not-zero h =
@@ -60,12 +62,15 @@ module _ (p : Parameters) (s : Sized p) (c : List ℕ) (n : length c ≡ p .n) w
       ⊎-elim
       (λ (e : d ≡ c). e ∙ sym (restored-zero (code-zero p c (subst (λ (x : List ℕ). T (inCode p x)) e (r .code)))))
       (λ (h : (i : ℕ) × (i < length c) × (d ≡ lowered (p .q) c i)).
-      h .2
-      ∙ sym (restored-column (h .0) (h .1) (lowered-column p (q-positive p s) c (h .0) (h .1) (subst (λ (x : List ℕ). T (inCode p x)) (h .2) (r .code)))))
+      let (i, l, e) = h in
+      let code : T (inCode p (lowered (p .q) c i)) = subst (λ (x : List ℕ). T (inCode p x)) e (r .code) in
+      e ∙ sym (restored-column i l (lowered-column p (q-positive p s) c i l code)))
       (r .change)
 
   zero-restores : Zero p c → Restores p c (restored p c)
-  zero-restores z = record { code = subst (λ (x : List ℕ). T (inCode p x)) (sym (restored-zero z)) (zero-code p c z); change = inl (restored-zero z) }
+  zero-restores z =
+      let e : restored p c ≡ c = restored-zero z in
+      record { code = subst (λ (x : List ℕ). T (inCode p x)) (sym e) (zero-code p c z); change = inl e }
 
   column-restores : Column p c → Restores p c (restored p c)
   column-restores k =
@@ -83,28 +88,30 @@ one-pair p s u h = (carries (l .near), only)
     l = lawful p (q-positive p s) u h
 
     long : (b : Bool) → length (received p b u) ≡ p .n
-    long b = length-part (p .q) (p .n) b (body p u) (length-body p u (l .long) ∙ balanced-length p)
+    long b = length-differenced p b (body p u) (body-length p u (l .long) ∙ balanced-length p)
 
-    pair : Restores p (received p true u) (restored p (received p true u)) → Restores p (received p false u) (restored p (received p false u))
-        → (restored p (received p true u) ≡ received p true u) ⊎ (restored p (received p false u) ≡ received p false u)
-        → Carries p u (carried p true u) (carried p false u)
+    back : Bool → List ℕ
+    back b = restored p (received p b u)
+
+    pair : Restores p (received p true u) (back true) → Restores p (received p false u) (back false)
+        → (back true ≡ received p true u) ⊎ (back false ≡ received p false u) → Carries p u (carried p true u) (carried p false u)
     pair a b i =
         record {
-          first = restored p (received p true u);
-          second = restored p (received p false u);
+          first = back true;
+          second = back false;
           restores-first = a;
           restores-second = b;
           intact = i;
           messages = (refl, refl);
         }
 
-    zero : (b : Bool) → Zero p (received p b u) → restored p (received p b u) ≡ received p b u
+    zero : (b : Bool) → Zero p (received p b u) → back b ≡ received p b u
     zero b z = restored-zero p s (received p b u) (long b) z
 
-    zeros : (b : Bool) → Zero p (received p b u) → Restores p (received p b u) (restored p (received p b u))
+    zeros : (b : Bool) → Zero p (received p b u) → Restores p (received p b u) (back b)
     zeros b z = zero-restores p s (received p b u) (long b) z
 
-    columns : (b : Bool) → Column p (received p b u) → Restores p (received p b u) (restored p (received p b u))
+    columns : (b : Bool) → Column p (received p b u) → Restores p (received p b u) (back b)
     columns b k = column-restores p s (received p b u) (long b) k
 
     carries : Near p (received p true u) (received p false u) → Carries p u (carried p true u) (carried p false u)

@@ -1,4 +1,5 @@
--- What the syndrome of a component says: it is zero where the component is in code, and the column of a symbol where 1 taken from that symbol makes it so.
+-- What the syndrome of a component says: it is zero where the component is in code, and the column of a symbol where 1 taken from that
+-- symbol makes it so.
 -- Assumes nothing.
 use mathlib.Core.Path.{_≡_, sym, subst, _∙_}
 use mathlib.Core.Logic.{_⊎_, inl, inr, ⊎-elim}

@@ -1,20 +1,24 @@
--- A check of a component is a weighted sum over the word that was differenced: taking every other symbol and differencing both move into the weights.
+-- A check of a component is a weighted sum over the word that was differenced: taking every other symbol and differencing both move into
+-- the weights.
 -- Assumes nothing.
 use mathlib.Core.Path.{_≡_, refl, sym, ap, subst, _∙_}
+use mathlib.Core.Logic.{_⊎_, inl, inr, ⊎-elim}
 use mathlib.Core.Bool.{Bool, true, false}
 use mathlib.Core.List.{List, [], _∷_}
-use Prim.Native.Nat.{ℕ, zero, suc, _+_, _-_, _*_, _≤_, _<_}
-use native.Mathlib.Nat.{not-suc-le-zero, suc-ne-zero, suc-inj, le-refl, add-zero}
+use Prim.Native.Nat.{ℕ, zero, suc, _+_, _-_, _*_, _≤_, _<_, zero-le, suc-le-suc}
+use native.Mathlib.Nat.{not-suc-le-zero, suc-ne-zero, suc-inj, le-refl}
 use native.Mathlib.Omega.{arith}
 use lib.Dec.{ltb}
-use lib.ListN.{length, drop, length-drop}
+use lib.ListN.{length}
 use borrow.Author.Tests.{lt-ltb, le-ltb}
-use Rattle.modular.specs.Sum.{dot}
-use Rattle.modular.specs.Residue.{Congruent, minus}
-use Rattle.modular.proofs.Residue.{of-eq, same, symm, _then_, add, scale, multiple, minus-add}
-use Rattle.modular.proofs.Sum.{dot-same}
-use Rattle.code.specs.Balance.{difference}
-use Rattle.code.specs.Codeword.{alternate}
+use Rattle.modular.specs.Sum.{weight, dot}
+use Rattle.modular.specs.Residue.{Congruent}
+use Rattle.modular.proofs.Residue.{of-eq, same, symm, _then_, add, scale, multiple, minus-add, minus-below}
+use Rattle.modular.proofs.Sum.{dot-one, dot-same}
+use Rattle.code.specs.Parameters.{Parameters}
+use Rattle.code.specs.Component.{Below}
+use Rattle.code.specs.Balance.{neighbourDifference, differences}
+use Rattle.code.specs.Codeword.{alternate, differenced}
 
 -- the weights f at every other index, from the first on or from the second, and 0 between
 abbrev pub spread : Bool → (ℕ → ℕ) → ℕ → ℕ
@@ -28,14 +32,17 @@ dot-alternate b f [] = refl
 dot-alternate true f (x ∷ xs) = ap (λ (s : ℕ). f 0 * x + s) (dot-alternate false (λ i. f (suc i)) xs)
 dot-alternate false f (x ∷ xs) = omega (arith, dot-alternate true f xs)
 
+-- 1 at every other index, and 0 between
+abbrev pub ones : Bool → ℕ → ℕ
+ones b = spread b (λ i. 1)
+
+pub dot-ones : (b : Bool) (z : List ℕ) → dot (ones b) z ≡ weight (alternate b z)
+dot-ones b z = sym (dot-alternate b (λ i. 1) z) ∙ dot-one (alternate b z)
+
 -- the weights g, one index later
 abbrev pub later : (ℕ → ℕ) → ℕ → ℕ
 later g zero = 0
 later g (suc t) = g t
-
-dot-later : (g : ℕ → ℕ) (y : List ℕ) → dot g (drop 1 y) ≡ dot (later g) y
-dot-later g [] = refl
-dot-later g (x ∷ xs) = omega arith
 
 -- g at t less g at the next
 abbrev pub slope : ℕ → (ℕ → ℕ) → ℕ → ℕ
@@ -49,18 +56,18 @@ pub times-pred : (q a : ℕ) → 1 ≤ q → (q - 1) * a + a ≡ a * q
 times-pred zero a h = absurd (not-suc-le-zero h)
 times-pred (suc s) a h = rw (suc-sub-one s) (omega arith)
 
-pub dot-difference : (q : ℕ) → 1 ≤ q → (g : ℕ → ℕ) (a : ℕ) (w : List ℕ) → g (length w) ≡ 0
-    → Congruent q (dot g (difference q a w) + g 0 * a) (dot (slope q g) w)
-dot-difference q h g a [] e = let k : 0 + g 0 * a ≡ 0 = omega (arith, ap (λ (x : ℕ). x * a) e) in of-eq k
-dot-difference q h g a (x ∷ xs) e =
-    let ih : Congruent q (dot (λ t. g (suc t)) (difference q x xs) + g 1 * x) (dot (slope q (λ t. g (suc t))) xs) =
-    dot-difference q h (λ t. g (suc t)) x xs e in
-    let d : ℕ = dot (λ t. g (suc t)) (difference q x xs) in
-    let y : ℕ = minus q x a in
+-- a is the symbol before w
+dot-differences : (p : Parameters) → 1 ≤ p .q → (g : ℕ → ℕ) (a : ℕ) (w : List ℕ) → g (length w) ≡ 0
+    → Congruent (p .q) (dot g (differences p (a ∷ w)) + g 0 * a) (dot (slope (p .q) g) w)
+dot-differences p h g a [] e = let k : 0 + g 0 * a ≡ 0 = omega (arith, ap (λ (x : ℕ). x * a) e) in of-eq k
+dot-differences p h g a (x ∷ xs) e =
+    let q : ℕ = p .q in
+    let d : ℕ = dot (λ t. g (suc t)) (differences p (x ∷ xs)) in
+    let y : ℕ = neighbourDifference p a x in
     let l : g 0 * y + d + g 0 * a ≡ g 0 * (y + a) + d = omega arith in
     let k : g 0 * x + d + g 1 * x * q ≡ (g 0 + (q - 1) * g 1) * x + (d + g 1 * x) = omega (arith, times-pred q (g 1 * x) h) in
     of-eq l then add (scale (g 0) (minus-add q x a h)) (same d) then symm (multiple q (g 0 * x + d) (g 1 * x)) then of-eq k
-    then add (same ((g 0 + (q - 1) * g 1) * x)) ih
+    then add (same ((g 0 + (q - 1) * g 1) * x)) (dot-differences p h (λ t. g (suc t)) x xs e)
 
 -- f below n, and 0 from there on
 abbrev pub cut : ℕ → (ℕ → ℕ) → ℕ → ℕ
@@ -81,6 +88,13 @@ pub double-is : (a : ℕ) → double a ≡ 2 * a
 double-is zero = refl
 double-is (suc a) = omega (arith, double-is a)
 
+-- an index is twice a number, or one more
+pub parity : (t : ℕ) → (a : ℕ) × ((t ≡ double a) ⊎ (t ≡ suc (double a)))
+parity zero = (0, inl refl)
+parity (suc t) =
+    let (a, c) = parity t in
+    ⊎-elim (λ (x : t ≡ double a). (a, inr (ap suc x))) (λ (x : t ≡ suc (double a)). (suc a, inl (ap suc x))) c
+
 pub spread-skip : (f : ℕ → ℕ) (a : ℕ) → spread false f (double a) ≡ 0
 spread-skip f zero = refl
 spread-skip f (suc a) = spread-skip (λ i. f (suc i)) a
@@ -97,27 +111,34 @@ later-take : (f : ℕ → ℕ) (a : ℕ) → later (spread false f) (double a) �
 later-take f zero = refl
 later-take f (suc a) = spread-take f a
 
--- the weight at index t of a word that the check f of its first or second component, of n symbols, gives it
-abbrev pub checkWeight : ℕ → ℕ → Bool → (ℕ → ℕ) → ℕ → ℕ
-checkWeight q n b f = slope q (later (spread b (cut n f)))
+-- the weight at index t of a word that the check f of its first or second component gives it
+abbrev pub checkWeight : Parameters → Bool → (ℕ → ℕ) → ℕ → ℕ
+checkWeight p b f = slope (p .q) (later (spread b (cut (p .n) f)))
 
 -- at an odd position it is less the column after it in the first component, and the column before it in the second
-pub weight-first-odd : (q n : ℕ) (f : ℕ → ℕ) (a : ℕ) → checkWeight q n true f (double a) ≡ (q - 1) * cut n f a
-weight-first-odd q n f a = rw (later-skip (cut n f) a, spread-take (cut n f) a) (omega arith)
+pub weight-first-odd : (p : Parameters) (f : ℕ → ℕ) (a : ℕ) → checkWeight p true f (double a) ≡ (p .q - 1) * cut (p .n) f a
+weight-first-odd p f a = rw (later-skip (cut (p .n) f) a, spread-take (cut (p .n) f) a) (omega arith)
 
-pub weight-second-odd : (q n : ℕ) (f : ℕ → ℕ) (a : ℕ) → checkWeight q n false f (double a) ≡ later (cut n f) a
-weight-second-odd q n f a = rw (later-take (cut n f) a, spread-skip (cut n f) a) (omega arith)
+pub weight-second-odd : (p : Parameters) (f : ℕ → ℕ) (a : ℕ) → checkWeight p false f (double a) ≡ later (cut (p .n) f) a
+weight-second-odd p f a = rw (later-take (cut (p .n) f) a, spread-skip (cut (p .n) f) a) (omega arith)
 
 -- at an even position it is the column of its index in the first, and less that column in the second
-pub weight-first-even : (q n : ℕ) (f : ℕ → ℕ) (a : ℕ) → checkWeight q n true f (suc (double a)) ≡ cut n f a
-weight-first-even q n f a = rw (spread-take (cut n f) a, spread-skip (λ i. cut n f (suc i)) a) (omega arith)
+pub weight-first-even : (p : Parameters) (f : ℕ → ℕ) (a : ℕ) → checkWeight p true f (suc (double a)) ≡ cut (p .n) f a
+weight-first-even p f a = rw (spread-take (cut (p .n) f) a, spread-skip (λ i. cut (p .n) f (suc i)) a) (omega arith)
 
-pub weight-second-even : (q n : ℕ) (f : ℕ → ℕ) (a : ℕ) → checkWeight q n false f (suc (double a)) ≡ (q - 1) * cut n f a
-weight-second-even q n f a = rw (spread-skip (cut n f) a, spread-take (cut n f) a) (omega arith)
+pub weight-second-even : (p : Parameters) (f : ℕ → ℕ) (a : ℕ) → checkWeight p false f (suc (double a)) ≡ (p .q - 1) * cut (p .n) f a
+weight-second-even p f a = rw (spread-skip (cut (p .n) f) a, spread-take (cut (p .n) f) a) (omega arith)
 
-pub length-difference : (q a : ℕ) (w : List ℕ) → length (difference q a w) ≡ length w
-length-difference q a [] = refl
-length-difference q a (x ∷ xs) = ap suc (length-difference q x xs)
+pub length-differences : (p : Parameters) (w : List ℕ) → 1 ≤ length w → suc (length (differences p w)) ≡ length w
+length-differences p [] h = absurd (not-suc-le-zero h)
+length-differences p (x ∷ []) h = refl
+length-differences p (x ∷ y ∷ w) h = ap suc (length-differences p (y ∷ w) (suc-le-suc zero-le))
+
+pub differences-below : (p : Parameters) → 1 ≤ p .q → (w : List ℕ) → Below (p .q) (differences p w)
+differences-below p h [] i = h
+differences-below p h (x ∷ []) i = h
+differences-below p h (x ∷ y ∷ w) zero = minus-below (p .q) y x h
+differences-below p h (x ∷ y ∷ w) (suc i) = differences-below p h (y ∷ w) i
 
 pub length-alternate : (n : ℕ) (b : Bool) (z : List ℕ) → length z ≡ double n → length (alternate b z) ≡ n
 length-alternate zero b [] e = refl
@@ -127,26 +148,27 @@ length-alternate (suc n) b (x ∷ []) e = absurd (suc-ne-zero (double n) (sym (s
 length-alternate (suc n) true (x ∷ y ∷ z) e = ap suc (length-alternate n true z (suc-inj (suc-inj e)))
 length-alternate (suc n) false (x ∷ y ∷ z) e = ap suc (length-alternate n false z (suc-inj (suc-inj e)))
 
--- the first or second component that a word of 2 n + 1 symbols gives
-abbrev pub part : ℕ → Bool → List ℕ → List ℕ
-part q b w = alternate b (drop 1 (difference q 0 w))
+-- The components of a word of 2 n + 1 symbols.
 
-pub length-part : (q n : ℕ) (b : Bool) (w : List ℕ) → length w ≡ suc (double n) → length (part q b w) ≡ n
-length-part q n b w e =
-    length-alternate n b (drop 1 (difference q 0 w)) (length-drop 1 (difference q 0 w) ∙ ap (λ (k : ℕ). k - 1) (length-difference q 0 w ∙ e) ∙ suc-sub-one (double n))
+pub length-differenced : (p : Parameters) (b : Bool) (w : List ℕ) → length w ≡ suc (double (p .n)) → length (differenced p b w) ≡ p .n
+length-differenced p b w e =
+    let some : 1 ≤ length w = rw e (suc-le-suc zero-le) in
+    length-alternate (p .n) b (differences p w) (suc-inj (length-differences p w some ∙ e))
 
 last-weight : (n : ℕ) (b : Bool) (f : ℕ → ℕ) → spread b (cut n f) (double n) ≡ 0
 last-weight n true f = spread-take (cut n f) n ∙ cut-past n f n (le-refl n)
 last-weight n false f = spread-skip (cut n f) n
 
-pub dot-part : (q n : ℕ) → 1 ≤ q → (b : Bool) (f : ℕ → ℕ) (w : List ℕ) → length w ≡ suc (double n)
-    → Congruent q (dot f (part q b w)) (dot (checkWeight q n b f) w)
-dot-part q n h b f w e =
-    let c : List ℕ = part q b w in
-    let y : List ℕ = difference q 0 w in
-    let g : ℕ → ℕ = later (spread b (cut n f)) in
-    let k : dot f c ≡ dot (cut n f) c = dot-same f (cut n f) c (λ i l. sym (cut-below n f i (subst (λ (x : ℕ). i < x) (length-part q n b w e) l))) in
-    let d : dot f c ≡ dot g y + g 0 * 0 =
-    k ∙ dot-alternate b (cut n f) (drop 1 y) ∙ dot-later (spread b (cut n f)) y ∙ sym (add-zero (dot g y)) in
-    let z : g (length w) ≡ 0 = ap g e ∙ last-weight n b f in
-    of-eq d then dot-difference q h g 0 w z
+pub dot-differenced : (p : Parameters) → 1 ≤ p .q → (b : Bool) (f : ℕ → ℕ) (w : List ℕ) → length w ≡ suc (double (p .n))
+    → Congruent (p .q) (dot f (differenced p b w)) (dot (checkWeight p b f) w)
+dot-differenced p h b f [] e = absurd (suc-ne-zero (double (p .n)) (sym e))
+dot-differenced p h b f (x ∷ w) e =
+    let c : List ℕ = differenced p b (x ∷ w) in
+    let g : ℕ → ℕ = spread b (cut (p .n) f) in
+    let d : ℕ = dot g (differences p (x ∷ w)) in
+    let within : (i : ℕ) → i < length c → i < p .n = λ i l. subst (λ (k : ℕ). i < k) (length-differenced p b (x ∷ w) e) l in
+    let k : dot f c ≡ d =
+    dot-same f (cut (p .n) f) c (λ i l. sym (cut-below (p .n) f i (within i l))) ∙ dot-alternate b (cut (p .n) f) (differences p (x ∷ w)) in
+    let l : d + g 0 * x * p .q ≡ (0 + (p .q - 1) * g 0) * x + (d + g 0 * x) = omega (arith, times-pred (p .q) (g 0 * x) h) in
+    let z : g (length w) ≡ 0 = ap g (suc-inj e) ∙ last-weight (p .n) b f in
+    of-eq k then symm (multiple (p .q) d (g 0 * x)) then of-eq l then add (same ((0 + (p .q - 1) * g 0) * x)) (dot-differences p h g x w z)

@@ -4,7 +4,7 @@ use mathlib.Core.Bool.{Bool}
 use mathlib.Core.List.{List, [], _∷_}
 use Prim.Native.Nat.{ℕ, zero, suc, _+_, _%_}
 use lib.Dec.{eqb}
-use lib.ListN.{length, getD, drop, set}
+use lib.ListN.{length, getD, set}
 use Rattle.modular.specs.Search.{least, anyBelow}
 use Rattle.modular.specs.Sum.{weight}
 use Rattle.modular.specs.Residue.{minus}
@@ -36,11 +36,6 @@ shiftedFrom q s zero d = shifted q (suc s) d
 shiftedFrom q s (suc i) [] = []
 shiftedFrom q s (suc i) (a ∷ d) = (a + s) % q ∷ shiftedFrom q s i d
 
--- 01: differencing; a is the symbol before
-abbrev pub difference : ℕ → ℕ → List ℕ → List ℕ
-difference q a [] = []
-difference q a (x ∷ xs) = minus q x a ∷ difference q x xs
-
 -- 01: x of the interleaved halves: the zero that is added to them stands first
 abbrev pub withZero : Parameters → List ℕ → List ℕ
 withZero p x = 0 ∷ x
@@ -58,9 +53,15 @@ addOne p x (suc i) = addAt (p .q) x i 1
 abbrev pub integrated : Parameters → List ℕ → List ℕ
 integrated p x = integrate (p .q) 0 x
 
--- what differencing w gives, without the symbol where the zero was added
+-- what differencing gives for two neighbours x and y of w
+abbrev pub neighbourDifference : Parameters → ℕ → ℕ → ℕ
+neighbourDifference p x y = minus (p .q) y x
+
+-- 01: differencing w mod q (dropping the first, where the zero was added): a symbol for each two neighbours
 abbrev pub differences : Parameters → List ℕ → List ℕ
-differences p w = drop 1 (difference (p .q) 0 w)
+differences p [] = []
+differences p (x ∷ []) = []
+differences p (x ∷ y ∷ w) = neighbourDifference p x y ∷ differences p (y ∷ w)
 
 -- the v that is tried after i others: they rise from 1
 abbrev pub choice : Parameters → ℕ → ℕ

@@ -103,8 +103,8 @@ OnePair =
 
 -- Why one bad symbol is never taken for another pair.
 
--- the symbols of a codeword at odd positions, β among them, add up to the balancing value mod q, and those at even positions, α among them, to
--- δ more: so two codewords that differ in two positions differ in two of one parity
+-- the symbols of a codeword at odd positions, β among them, add up to the balancing value mod q, and those at even positions, α among
+-- them, to δ more: so two codewords that differ in two positions differ in two of one parity
 abbrev pub ParitySums : Type 0
 ParitySums =
     (p : Parameters) → Sized p → (u : List ℕ) → T (codeword p u)

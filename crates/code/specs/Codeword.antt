@@ -42,9 +42,13 @@ encoded p a b = withChecks (p .q) (balanced p (interleaved p a b))
 unfoldable pub body : Parameters → List ℕ → List ℕ
 body p u = take (balancedLength p) u
 
--- 01: the halves obtained by differencing w (dropping the first): the first half (true) and the second (false)
+-- 01: the halves obtained by differencing w: the first half (true) and the second (false)
+abbrev pub differenced : Parameters → Bool → List ℕ → List ℕ
+differenced p b w = alternate b (differences p w)
+
+-- those of a received word
 unfoldable pub received : Parameters → Bool → List ℕ → List ℕ
-received p b u = alternate b (differences p (body p u))
+received p b u = differenced p b (body p u)
 
 -- 1 taken mod q from the symbol at index i
 abbrev pub lowered : ℕ → List ℕ → ℕ → List ℕ
@@ -70,11 +74,12 @@ hasChecks p u =
     eqb (getD u (balancedLength p) 0) (alpha (p .q) (body p u))
     && eqb (getD u (balancedLength p + 1) 0) (beta (p .q) (body p u))
 
--- at least one half is in code, and the other is too or becomes so
+-- at least one of two halves is in code, and the other is too or becomes so
+unfoldable pub nearComponents : Parameters → List ℕ → List ℕ → Bool
+nearComponents p c d = inCode p c && nearCode p d || nearCode p c && inCode p d
+
 unfoldable pub hasComponents : Parameters → List ℕ → Bool
-hasComponents p u =
-    inCode p (received p true u) && nearCode p (received p false u)
-    || nearCode p (received p true u) && inCode p (received p false u)
+hasComponents p u = nearComponents p (received p true u) (received p false u)
 
 -- 01: lawful word
 unfoldable pub codeword : Parameters → List ℕ → Bool

@@ -1,4 +1,5 @@
--- What encoding and decoding answer (01: Operations and their numbers, Write and Read): the refusals in their order, then the word or the reading.
+-- What encoding and decoding answer (01: Operations and their numbers, Write and Read): the refusals in their order, then the word or the
+-- reading.
 -- Assumes nothing.
 use mathlib.Core.Bool.{Bool, true, false, _&&_}
 use mathlib.Core.List.{List, [], _∷_}
@@ -6,7 +7,7 @@ use Prim.Native.Nat.{ℕ, zero, suc}
 use lib.Dec.{eqb}
 use lib.ListN.{length}
 use Rattle.code.specs.Refusal.{Test, asks, firstRefusal, onSuccess}
-use Rattle.code.specs.Parameters.{messageLength, codewordLength}
+use Rattle.code.specs.Parameters.{Parameters, messageLength, codewordLength}
 use Rattle.code.specs.Component.{symbolsBelow, isReceived}
 use Rattle.code.specs.Codeword.{encoded}
 use Rattle.code.specs.Reading.{Finding, Reading, read, unreadable, reading}
@@ -15,9 +16,10 @@ use Rattle.code.specs.Profiles.{isProfile, profile}
 -- 01: Write, what is tested, in this order: profile i, messages a and b, an output of l symbols
 abbrev pub encodeTests : ℕ → List ℕ → List ℕ → ℕ → List Test
 encodeTests i a b l =
+    let p : Parameters = profile i in
     asks (isProfile i) 1
-    ∷ asks (eqb (length a) (messageLength (profile i)) && eqb (length b) (messageLength (profile i)) && eqb l (codewordLength (profile i))) 2
-    ∷ asks (symbolsBelow (profile i .q) a && symbolsBelow (profile i .q) b) 3
+    ∷ asks (eqb (length a) (messageLength p) && eqb (length b) (messageLength p) && eqb l (codewordLength p)) 2
+    ∷ asks (symbolsBelow (p .q) a && symbolsBelow (p .q) b) 3
     ∷ []
 
 -- the number of the refusal, or 0
@@ -51,9 +53,10 @@ pub data Answer : Type 0 where
 -- what is tested, in this order: profile i, received word u, outputs of k and l symbols
 abbrev pub decodeTests : ℕ → List ℕ → ℕ → ℕ → List Test
 decodeTests i u k l =
+    let p : Parameters = profile i in
     asks (isProfile i) 1
-    ∷ asks (eqb (length u) (codewordLength (profile i)) && eqb k (messageLength (profile i)) && eqb l (messageLength (profile i))) 2
-    ∷ asks (isReceived (profile i) u) 3
+    ∷ asks (eqb (length u) (codewordLength p) && eqb k (messageLength p) && eqb l (messageLength p)) 2
+    ∷ asks (isReceived p u) 3
     ∷ []
 
 -- a reading, unless a number refuses

@@ -1,6 +1,6 @@
 -- Reading a received word (01: Reading), by the lawful words near it.
 -- Assumes nothing.
-use mathlib.Core.Bool.{true, false, not}
+use mathlib.Core.Bool.{Bool, true, false, not}
 use mathlib.Core.List.{List, [], _∷_}
 use Prim.Native.Nat.{ℕ, suc, _+_}
 use lib.Dec.{eqb, ltb}
@@ -55,13 +55,17 @@ pub data Reading : Type 0 where
 abbrev pub readAs : Parameters → Finding → List ℕ → Reading
 readAs p f u = read f (carried p true u) (carried p false u)
 
--- the first index at which another symbol makes u a codeword; u's length where there is none
-unfoldable pub changedAt : Parameters → List ℕ → ℕ
-changedAt p u = least (λ i. anyBelow (λ y. codeword p (set u i y)) (p .q)) (length u)
+-- y in place of the symbol at index i makes u a codeword
+unfoldable pub mends : Parameters → List ℕ → ℕ → ℕ → Bool
+mends p u i y = codeword p (set u i y)
 
--- that symbol
+-- the first index at which a level does; u's length where there is none
+unfoldable pub changedAt : Parameters → List ℕ → ℕ
+changedAt p u = least (λ i. anyBelow (mends p u i) (p .q)) (length u)
+
+-- that level
 unfoldable pub sentAt : Parameters → List ℕ → ℕ → ℕ
-sentAt p u i = least (λ y. codeword p (set u i y)) (p .q)
+sentAt p u i = least (mends p u i) (p .q)
 
 -- the answer to a word that is no codeword: by a codeword that differs from it in one place
 unfoldable pub nearReading : Parameters → List ℕ → Reading

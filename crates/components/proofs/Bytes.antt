@@ -4,7 +4,7 @@ use mathlib.Core.Path.{_≡_, _∙_}
 use Prim.Native.Nat.{ℕ, _+_, _-_, _%_, _≤_, _<_}
 use native.Mathlib.Omega.{arith}
 use Rattle.modular.specs.Residue.{minus}
-use Rattle.modular.proofs.Residue.{minus-is, kept, wrapped}
+use Rattle.modular.proofs.Residue.{minus-is, already-reduced, wrapped}
 
 -- r is a - x
 abbrev pub Difference : ℕ → ℕ → ℕ → ℕ → Type 0
@@ -14,7 +14,7 @@ pub sub-low : (q a x : ℕ) → a < x → x < q → Difference q a x (q - (x - a
 sub-low q a x h k =
     let e : q - (x - a) ≡ a + (q - x) = omega arith in
     let l : a + (q - x) < q = omega arith in
-    rw e (kept l .0 ∙ minus-is q a x (omega arith) (omega arith), l)
+    rw e (already-reduced l .0 ∙ minus-is q a x (omega arith) (omega arith), l)
 
 pub sub-high : (q a x : ℕ) → x ≤ a → a < q → Difference q a x (a - x)
 sub-high q a x h k =

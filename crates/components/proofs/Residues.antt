@@ -21,12 +21,12 @@ use Rattle.code.specs.Component.{symbolsBelow, isWord, checkRow, syndrome, inCo
 use Rattle.code.proofs.Symbols.{symbols-below}
 use Rattle.code.proofs.Columns.{q-positive}
 use Rattle.code.proofs.Merge.{cases, opposite, word-of, count, length-merge}
-use Rattle.code.proofs.Reduced.{place, place-check}
+use Rattle.code.proofs.Reduced.{pivot, pivot-check}
 use Rattle.code.proofs.Pair.{length-component}
 use Rattle.symbols.specs.Syndromes.{fourRows}
 use Rattle.components.specs.Checks.{checkPosition, checked, Solves}
 use Rattle.components.proofs.Placing.{merge-check, merge-message}
-use Rattle.components.proofs.Solve.{bare, at-place, solved}
+use Rattle.components.proofs.Solve.{bare, at-pivot, solved}
 
 -- The symbols mod q.
 
@@ -95,11 +95,11 @@ module _ (p : Parameters) (s : Sized p) where
   checked-other : (e c : List ℕ) (k i : ℕ) → k ≤ p .r → checkAt p i ≡ false → getD (checked (p .q) e c k) i 0 ≡ getD c i 0
   checked-other e c zero i h f = refl
   checked-other e c (suc k) i h f =
-      rw (at-place p (checked (p .q) e c k) k (getD e k 0))
-      (getD-set-other (checked (p .q) e c k) (place p k) i (getD e k 0) 0 apart ∙ checked-other e c k i (le-of-suc-le h) f)
+      rw (at-pivot p (checked (p .q) e c k) k (getD e k 0))
+      (getD-set-other (checked (p .q) e c k) (pivot p k) i (getD e k 0) 0 apart ∙ checked-other e c k i (le-of-suc-le h) f)
     where
-      apart : i ≡ place p k → ⊥
-      apart g = rw (← g, f) at (place-check p s k h)
+      apart : i ≡ pivot p k → ⊥
+      apart g = rw (← g, f) at (pivot-check p s k h)
 
   module _ (a : List ℕ) (size : length a ≡ messageLength p) where
     abbrev reduced : List ℕ

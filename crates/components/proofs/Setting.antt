@@ -9,7 +9,7 @@ use native.Mathlib.Omega.{arith}
 use lib.ListN.{getD}
 use Rattle.modular.specs.Residue.{Congruent}
 use Rattle.modular.proofs.Residue.{of-eq, same, add, _then_, minus-add}
-use Rattle.code.proofs.Reduced.{place-below, power-position}
+use Rattle.code.proofs.Reduced.{pivot-below, power-position}
 use Rattle.profiles.specs.declared.row.Row.{Row}
 use Rattle.profiles.specs.Row.{parameters, Valid}
 use Rattle.symbols.specs.Syndromes.{part}
@@ -39,7 +39,7 @@ module _ (t : Row) (valid : Valid t) where
   inside : (k : ℕ) → k < t .r → (1 ≤ checkPosition (t .q) k) × (checkPosition (t .q) k ≤ t .n)
   inside zero h = (omega arith, valid .sized .second)
   inside (suc j) h =
-      let b : t .q ^ j - 1 < t .n = place-below (parameters t) (valid .sized) (suc j) h in
+      let b : t .q ^ j - 1 < t .n = pivot-below (parameters t) (valid .sized) (suc j) h in
       let e : suc (t .q ^ j - 1) ≡ t .q ^ j = power-position (parameters t) (valid .sized) j in
       (omega arith, omega arith)
 

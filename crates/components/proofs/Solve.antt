@@ -4,29 +4,27 @@ use mathlib.Core.Path.{_≡_, refl, sym, ap, ap₂, _∙_}
 use mathlib.Core.Logic.{_≢_}
 use mathlib.Core.List.{List, [], _∷_, _++_}
 use Prim.Native.Nat.{ℕ, zero, suc, _+_, _-_, _*_, _/_, _%_, _^_, _≤_, _<_, zero-le, suc-le-suc}
-use native.Mathlib.Nat.{pow-zero, pow-suc, zero-add, suc-add, add-zero, add-comm, div-lt-iff-lt-mul, le-refl, le-of-suc-le-suc, not-suc-le-zero, le-trans, mul-zero}
+use native.Mathlib.Nat.{pow-zero, pow-suc, zero-add, suc-add, add-comm, div-lt-iff-lt-mul, le-refl, le-trans, mul-zero}
 use native.Mathlib.Omega.{arith}
-use native.Mathlib.Decide.{ℕ-discrete}
-use lib.Dec.{T, T-not}
-use lib.Arith.{lt-one, lt-of-le-ne}
-use lib.ListN.{length, getD, set, replicate, length-set, List·getD-append}
+use lib.Dec.{T}
+use lib.Arith.{lt-one}
+use lib.ListN.{length, getD, set, replicate, List·getD-append}
 use lib.Seq.{getD-set-other}
 use Rattle.modular.specs.Sum.{weight, dot}
 use Rattle.modular.specs.Digits.{digits}
 use Rattle.modular.specs.Residue.{Congruent}
 use Rattle.modular.proofs.Search.{passes}
-use Rattle.modular.proofs.Sum.{dot-set-one, dot-set-zero, dot-same, dot-add, dot-scale, weight-zeros}
+use Rattle.modular.proofs.Sum.{dot-set-zero, dot-same, dot-add, dot-scale, weight-zeros}
 use Rattle.modular.proofs.Digits.{length-digits, digits-zero}
 use Rattle.modular.proofs.Residue.{of-eq, same, symm, _then_, add, scale, reduce, multiple, cancel}
 use Rattle.code.specs.Parameters.{Parameters, Sized, messageLength}
-use Rattle.code.specs.Component.{symbolsBelow, isWord, checkRow, syndrome, checkAt, message, merge, component}
-use Rattle.code.proofs.Symbols.{symbols-below, symbols-set}
+use Rattle.code.specs.Component.{isWord, checkRow, syndrome, checkAt, merge, component}
 use Rattle.code.proofs.Syndrome.{zero-code}
 use Rattle.code.proofs.Columns.{last-row, digit-row, q-positive}
 use Rattle.code.proofs.Weights.{times-pred}
-use Rattle.code.proofs.Merge.{opposite, word-below, word-of, below-merge, length-merge, keep-merge, keep-set}
-use Rattle.code.proofs.Reduced.{place, reducedTwo, reduced, place-below, place-check, place-injective, row-two-first, row-two-other, reduced-same, reduced-other, rows-reduced}
-use Rattle.code.proofs.Component.{unique, component-holding, message-fits}
+use Rattle.code.proofs.Merge.{word-of, length-merge}
+use Rattle.code.proofs.Reduced.{pivot, reducedTwo, reducedRow, pivot-below, pivot-check, pivot-injective, row-two-first, row-two-other, reduced-other, rows-reduced}
+use Rattle.code.proofs.Component.{unique, Solution, pivot-inside, step, merged, component-holding}
 use Rattle.symbols.specs.Syndromes.{fourRows}
 use Rattle.components.specs.Checks.{checkPosition, checked, Solves}
 use Rattle.components.proofs.Placing.{merge-check}
@@ -82,7 +80,7 @@ module _ (p : Parameters) (s : Sized p) (four : p .r ≤ 4) where
         ∙ dot-add (λ i. f 0 i + f 1 i + f 2 i) (λ i. (p .q - 1) * f 3 i) c
         ∙ ap₂ (λ (x y : ℕ). x + y) (dot-add (λ i. f 0 i + f 1 i) (f 2) c ∙ ap (λ (x : ℕ). x + total 2) (dot-add (f 0) (f 1) c)) (dot-scale (p .q - 1) (f 3) c)
 
-    power-total : (j : ℕ) → j < p .r - 1 → dot (reduced p (suc j)) c ≡ total j + (p .q - checkRow p j 1) * dot (reducedTwo p) c
+    power-total : (j : ℕ) → j < p .r - 1 → dot (reducedRow p (suc j)) c ≡ total j + (p .q - checkRow p j 1) * dot (reducedTwo p) c
     power-total j h =
         dot-add (checkRow p j) (λ i. (p .q - checkRow p j 1) * reducedTwo p i) c
         ∙ ap₂ (λ (x y : ℕ). x + y) (row-total j h) (dot-scale (p .q - checkRow p j 1) (reducedTwo p) c)
@@ -116,14 +114,14 @@ module _ (p : Parameters) (s : Sized p) (four : p .r ≤ 4) where
 
       makes-power : (j u : ℕ) → suc j < p .r → checkRow p j 1 ≡ u → u ≤ p .q
           → Congruent (p .q) (getD e (suc j) 0 + (getD sums j 0 + u * getD e 0 0)) 0
-          → Congruent (p .q) (getD e (suc j) 0 + dot (reduced p (suc j)) c) 0
+          → Congruent (p .q) (getD e (suc j) 0 + dot (reducedRow p (suc j)) c) 0
       makes-power j u h r l k =
           let m : j < p .r - 1 = omega arith in
           of-eq (ap (λ (x : ℕ). getD e (suc j) 0 + x) (power-total j m ∙ ap (λ (x : ℕ). total j + (p .q - x) * dot (reducedTwo p) c) r))
           then add (same (getD e (suc j) 0)) (add (symm (sum-is j (omega arith))) (turned u l))
           then k
 
-      pub makes : (k : ℕ) → k < p .r → Congruent (p .q) (getD e k 0 + dot (reduced p k) c) 0
+      pub makes : (k : ℕ) → k < p .r → Congruent (p .q) (getD e k 0 + dot (reducedRow p k) c) 0
       makes zero h = makes-two
       makes (suc zero) h = makes-power 0 2 h (row-two-first p s) (omega (arith, s .levels)) (solves .one)
       makes (suc (suc j)) h =
@@ -132,88 +130,64 @@ module _ (p : Parameters) (s : Sized p) (four : p .r ≤ 4) where
 
 -- Setting them one after the other.
 
--- a word of n symbols below q with message a: its first k reduced sums vanish, and at the later check positions it is 0 as c is
+-- d is c with the check symbols before the k-th set, so that their reduced sums vanish; at the later check positions it is 0 as c is
 record Filling (p : Parameters) (a c d : List ℕ) (k : ℕ) : Type 0 where
-  size : length d ≡ p .n
-  below : T (symbolsBelow (p .q) d)
-  holds : message p d ≡ a
-  vanish : (l : ℕ) → l < k → Congruent (p .q) (dot (reduced p l) d) 0
-  kept : (l : ℕ) → k ≤ l → l < p .r → Congruent (p .q) (dot (reduced p l) d) (dot (reduced p l) c)
-  zeros : (l : ℕ) → k ≤ l → l < p .r → getD d (place p l) 0 ≡ 0
+  solves : Solution p a d k
+  kept : (l : ℕ) → k ≤ l → l < p .r → Congruent (p .q) (dot (reducedRow p l) d) (dot (reducedRow p l) c)
+  zeros : (l : ℕ) → k ≤ l → l < p .r → getD d (pivot p l) 0 ≡ 0
 
 -- the message with 0 at the check positions
 abbrev pub bare : Parameters → List ℕ → List ℕ
 bare p a = merge (checkAt p) (p .n) [] a
 
-pub at-place : (p : Parameters) (d : List ℕ) (k y : ℕ) → set d (checkPosition (p .q) k - 1) y ≡ set d (place p k) y
-at-place p d zero y = refl
-at-place p d (suc j) y = refl
+pub at-pivot : (p : Parameters) (d : List ℕ) (k y : ℕ) → set d (checkPosition (p .q) k - 1) y ≡ set d (pivot p k) y
+at-pivot p d zero y = refl
+at-pivot p d (suc j) y = refl
 
 module _ (p : Parameters) (s : Sized p) (a : List ℕ) (w : T (isWord (p .q) (messageLength p) a)) where
   filled-none : Filling p a (bare p a) (bare p a) 0
-  unfolding message
   filled-none =
       record {
-        size = length-merge (checkAt p) (p .n) [] a;
-        below =
-            symbols-below (p .q) (bare p a)
-            (λ i l. below-merge (p .q) (checkAt p) (p .n) [] a (λ j. q-positive p s) (word-below (p .q) (messageLength p) a (q-positive p s) w) i);
-        holds = keep-merge (checkAt p) (p .n) [] a (message-fits p s a w);
-        vanish = λ l h. absurd (not-suc-le-zero h);
-        kept = λ l h g. same (dot (reduced p l) (bare p a));
-        zeros = λ l h g. merge-check (checkAt p) (p .n) [] a (place p l) (place-below p s l g) (passes (place-check p s l g));
+        solves = merged p s a w [] (λ j. q-positive p s);
+        kept = λ l h g. same (dot (reducedRow p l) (bare p a));
+        zeros = λ l h g. merge-check (checkAt p) (p .n) [] a (pivot p l) (pivot-below p s l g) (passes (pivot-check p s l g));
       }
 
-  filled-more : {c d : List ℕ} {k : ℕ} → Filling p a c d k → k < p .r → (y : ℕ) → y < p .q → Congruent (p .q) (y + dot (reduced p k) c) 0
-      → Filling p a c (set d (place p k) y) (suc k)
-  unfolding message
+  filled-more : {c d : List ℕ} {k : ℕ} → Filling p a c d k → k < p .r → (y : ℕ) → y < p .q → Congruent (p .q) (y + dot (reducedRow p k) c) 0
+      → Filling p a c (set d (pivot p k) y) (suc k)
   filled-more {c} {d} {k} b h y small makes =
+      let i : ℕ = pivot p k in
       record {
-        size = length-set d i y ∙ b .size;
-        below = symbols-set (p .q) d i y small (b .below);
-        holds = keep-set (opposite (checkAt p)) d i y (λ n. T-not (checkAt p i) n (place-check p s k h)) ∙ b .holds;
-        vanish = λ l m. vanish l m (ℕ-discrete l k);
-        kept = λ l m n. dot-set-zero (reduced p l) d i y inside (reduced-other p s l k n h (omega arith)) then b .kept l (omega arith) n;
-        zeros = λ l m n. getD-set-other d i (place p l) y 0 (apart l m n) ∙ b .zeros l (omega arith) n;
+        solves =
+            step p s (b .solves) h y small
+            (add (b .kept k (le-refl k) h) (same y) then of-eq (add-comm (dot (reducedRow p k) c) y) then makes
+            then of-eq (sym (b .zeros k (le-refl k) h)));
+        kept = λ l m n.
+            dot-set-zero (reducedRow p l) d i y (pivot-inside p s (b .solves) h) (reduced-other p s l k n h (omega arith))
+            then b .kept l (omega arith) n;
+        zeros = λ l m n. getD-set-other d i (pivot p l) y 0 (apart l m n) ∙ b .zeros l (omega arith) n;
       }
     where
-      i : ℕ
-      i = place p k
+      apart : (l : ℕ) → suc k ≤ l → l < p .r → pivot p l ≢ pivot p k
+      apart l m n e = let g : l ≡ k = pivot-injective p s l k n h e in omega arith
 
-      inside : i < length d
-      inside = rw (b .size) (place-below p s k h)
-
-      apart : (l : ℕ) → suc k ≤ l → l < p .r → place p l ≢ i
-      apart l m n e = let g : l ≡ k = place-injective p s l k n h e in omega arith
-
-      vanish : (l : ℕ) → l < suc k → Dec (l ≡ k) → Congruent (p .q) (dot (reduced p l) (set d i y)) 0
-      vanish l m (yes e) =
-          let f : ℕ → ℕ = reduced p k in
-          let z : getD d i 0 ≡ 0 = b .zeros k (le-refl k) h in
-          of-eq (ap (λ (o : ℕ). dot (reduced p o) (set d i y)) e ∙ sym (add-zero (dot f (set d i y))) ∙ ap (λ (x : ℕ). dot f (set d i y) + x) (sym z))
-          then dot-set-one f d i y inside (reduced-same p s k h)
-          then add (b .kept k (le-refl k) h) (same y)
-          then of-eq (add-comm (dot f c) y)
-          then makes
-      vanish l m (no n) =
-          let g : l < k = lt-of-le-ne (le-of-suc-le-suc m) n in
-          dot-set-zero (reduced p l) d i y inside (reduced-other p s l k (omega arith) h n) then b .vanish l g
-
-  module _ (sums e : List ℕ) (four : p .r ≤ 4) (are : (j : ℕ) → j < 4 → getD sums j 0 ≡ syndrome (fourRows (p .q) (p .n)) (bare p a) j) (solves : Solves (p .q) sums e) where
+  module _ (sums e : List ℕ) (four : p .r ≤ 4) (are : (j : ℕ) → j < 4 → getD sums j 0 ≡ syndrome (fourRows (p .q) (p .n)) (bare p a) j)
+      (solves : Solves (p .q) sums e) where
     fill : (k : ℕ) → k ≤ p .r → Filling p a (bare p a) (checked (p .q) e (bare p a) k) k
     fill zero h = filled-none
     fill (suc k) h =
-        rw (at-place p (checked (p .q) e (bare p a) k) k (getD e k 0))
+        rw (at-pivot p (checked (p .q) e (bare p a) k) k (getD e k 0))
         (filled-more (fill k (omega arith)) h (getD e k 0) (solves .below k (omega arith))
         (makes p s four (bare p a) (length-merge (checkAt p) (p .n) [] a) sums e are solves k h))
 
     pub solved : checked (p .q) e (bare p a) (p .r) ≡ component p a
     solved =
-        let b : Filling p a (bare p a) (checked (p .q) e (bare p a) (p .r)) (p .r) = fill (p .r) (le-refl (p .r)) in
+        let x : List ℕ = checked (p .q) e (bare p a) (p .r) in
+        let b : Solution p a x (p .r) = fill (p .r) (le-refl (p .r)) .solves in
         unique p s {a = a}
         (record {
-          word = word-of (p .q) (p .n) (checked (p .q) e (bare p a) (p .r)) (b .size) (b .below);
-          code = zero-code p (checked (p .q) e (bare p a) (p .r)) (rows-reduced p s (checked (p .q) e (bare p a) (p .r)) (b .vanish));
+          word = word-of (p .q) (p .n) x (b .size) (b .below);
+          code = zero-code p x (rows-reduced p s x (b .sums));
           holds = b .holds;
         })
         (component-holding p s a w)

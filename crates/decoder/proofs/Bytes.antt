@@ -7,7 +7,7 @@ use native.Mathlib.Omega.{arith}
 use Rattle.modular.specs.Residue.{minus}
 use Rattle.symbols.specs.Remainder.{residue}
 use Rattle.symbols.proofs.Reduce.{residue-is}
-use Rattle.modular.proofs.Residue.{minus-is, kept, wrapped}
+use Rattle.modular.proofs.Residue.{minus-is, already-reduced, wrapped}
 
 -- a byte times a weight
 pub multiple-small : {a b : ℕ} → a ≤ 255 → b ≤ 2000 → (a - 1) * b ≤ 510000
@@ -20,7 +20,7 @@ module _ (q a x : ℕ) (k : x < q) where
       ap (λ (y : ℕ). y % q) e ∙ minus-is q a x (omega arith) (omega arith)
 
   pub minus-kept : a + q - x < q → (a + q - x ≡ minus q a x) × (a + q - x < q)
-  minus-kept h = (kept h .0 ∙ raised-is, h)
+  minus-kept h = (already-reduced h .0 ∙ raised-is, h)
 
   pub minus-wrapped : a < q → q ≤ a + q - x → (a + q - x - q ≡ minus q a x) × (a + q - x - q < q)
   minus-wrapped l h =

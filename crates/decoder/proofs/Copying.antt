@@ -6,12 +6,11 @@ use Prim.Native.Nat.{ℕ, zero, suc, _+_, _-_, _≤_, _<_, zero-le}
 use native.Mathlib.Nat.{not-suc-le-zero, le-of-suc-le-suc}
 use native.Mathlib.Omega.{arith}
 use native.Mathlib.Decide.{ℕ-discrete}
-use lib.ListN.{length, getD, take, set, length-set}
+use lib.ListN.{length, getD, take, drop, set, length-set}
 use lib.Seq.{getD-take, getD-set-same, getD-set-other, ext-getD, length-take-le, take-all}
-use Rattle.modular.specs.Residue.{minus}
-use Rattle.modular.proofs.Residue.{of-eq, _then_, small, minus-below, minus-add}
-use Rattle.code.specs.Balance.{difference}
-use Rattle.code.proofs.Weights.{length-difference}
+use Rattle.code.specs.Parameters.{Parameters}
+use Rattle.code.specs.Balance.{neighbourDifference, differences}
+use Rattle.code.proofs.Weights.{length-differences, differences-below}
 use Rattle.code.proofs.Columns.{q-positive}
 use Rattle.profiles.specs.declared.row.Row.{Row}
 use Rattle.profiles.specs.Row.{parameters}
@@ -45,23 +44,12 @@ copied-all {d} {array} {m} {k} c h n b =
 
 -- Differences.
 
-difference-at : (q a : ℕ) (w : List ℕ) (j : ℕ) → suc j < length w → getD (difference q a w) (suc j) 0 ≡ minus q (getD w (suc j) 0) (getD w j 0)
-difference-at q a [] j h = absurd (not-suc-le-zero h)
-difference-at q a (x ∷ []) j h = absurd (not-suc-le-zero (le-of-suc-le-suc h))
-difference-at q a (x ∷ y ∷ w) zero h = refl
-difference-at q a (x ∷ y ∷ w) (suc j) h = difference-at q x (y ∷ w) j (le-of-suc-le-suc h)
-
-difference-below : (q a : ℕ) → 1 ≤ q → (w : List ℕ) (j : ℕ) → getD (difference q a w) j 0 < q
-difference-below q a h [] j = h
-difference-below q a h (x ∷ w) zero = minus-below q x a h
-difference-below q a h (x ∷ w) (suc j) = difference-below q x h w j
-
-first-difference : (q : ℕ) (w : List ℕ) → getD w 0 0 < q → 1 ≤ length w → getD w 0 0 ≡ getD (difference q 0 w) 0 0
-first-difference q [] h l = absurd (not-suc-le-zero l)
-first-difference q (x ∷ w) h l =
-    let k : 1 ≤ q = omega arith in
-    let e : minus q x 0 ≡ minus q x 0 + 0 = omega arith in
-    small h (minus-below q x 0 k) (of-eq (sym (small (minus-below q x 0 k) h (of-eq e then minus-add q x 0 k))))
+difference-at : (p : Parameters) (w : List ℕ) (j : ℕ) → suc j < length w
+    → getD (differences p w) j 0 ≡ neighbourDifference p (getD w j 0) (getD w (suc j) 0)
+difference-at p [] j h = absurd (not-suc-le-zero h)
+difference-at p (x ∷ []) j h = absurd (not-suc-le-zero (le-of-suc-le-suc h))
+difference-at p (x ∷ y ∷ w) zero h = refl
+difference-at p (x ∷ y ∷ w) (suc j) h = difference-at p (y ∷ w) j (le-of-suc-le-suc h)
 
 module _ {t : Row} {w : List ℕ} (b : Body t w) where
   q₁ : 1 ≤ t .q
@@ -76,37 +64,36 @@ module _ {t : Row} {w : List ℕ} (b : Body t w) where
   whole : length (take (t .balanced) w) ≡ t .balanced
   whole = length-take-le (t .balanced) w (omega (arith, b .size, short))
 
-  -- the differences of the body
-  abbrev differencesOf : List ℕ
-  differencesOf = difference (t .q) 0 (take (t .balanced) w)
+  abbrev body : List ℕ
+  body = take (t .balanced) w
 
-  pub differenced-first : (x : List ℕ) → length x ≡ 97 → Copied differencesOf (set x 0 (getD w 0 0)) (t .balanced) 1
-  differenced-first x e =
-      let f : getD (take (t .balanced) w) 0 0 ≡ getD w 0 0 = getD-take (t .balanced) w 0 0 some in
-      let g : getD (take (t .balanced) w) 0 0 < t .q = rw f (b .below 0 some) in
-      let h : 1 ≤ length (take (t .balanced) w) = omega (arith, whole, some) in
-      copied-more (copied-none differencesOf x (t .balanced) e) some short (sym f ∙ first-difference (t .q) (take (t .balanced) w) g h)
+  -- the differences of the body, after a symbol that is not looked at
+  abbrev held : List ℕ
+  held = getD w 0 0 ∷ differences (parameters t) body
 
-  pub differenced-more : {x : List ℕ} {i : ℕ} → Copied differencesOf x (t .balanced) i → 1 ≤ i → i < t .balanced
-      → {y : ℕ} → y ≡ minus (t .q) (getD w i 0) (getD w (i - 1) 0) → Copied differencesOf (set x i y) (t .balanced) (i + 1)
+  pub differenced-first : (x : List ℕ) → length x ≡ 97 → Copied held (set x 0 (getD w 0 0)) (t .balanced) 1
+  differenced-first x e = copied-more (copied-none held x (t .balanced) e) some short refl
+
+  pub differenced-more : {x : List ℕ} {i : ℕ} → Copied held x (t .balanced) i → 1 ≤ i → i < t .balanced
+      → {y : ℕ} → y ≡ neighbourDifference (parameters t) (getD w (i - 1) 0) (getD w i 0) → Copied held (set x i y) (t .balanced) (i + 1)
   differenced-more {i = zero} c n l e = absurd (not-suc-le-zero n)
   differenced-more {i = suc j} c n l e =
       let f : suc j - 1 ≡ j = omega arith in
       let k : j < t .balanced = omega arith in
+      let before : getD w (suc j - 1) 0 ≡ getD body j 0 = ap (λ (a : ℕ). getD w a 0) f ∙ sym (getD-take (t .balanced) w j 0 k) in
+      let after : getD w (suc j) 0 ≡ getD body (suc j) 0 = sym (getD-take (t .balanced) w (suc j) 0 l) in
       copied-more c l short
-      (e
-      ∙ ap₂ (minus (t .q)) (sym (getD-take (t .balanced) w (suc j) 0 l)) (ap (λ (a : ℕ). getD w a 0) f ∙ sym (getD-take (t .balanced) w j 0 k))
-      ∙ sym (difference-at (t .q) 0 (take (t .balanced) w) j (omega (arith, whole))))
+      (e ∙ ap₂ (neighbourDifference (parameters t)) before after ∙ sym (difference-at (parameters t) body j (omega (arith, whole))))
 
-  pub differenced-all : {x : List ℕ} {i : ℕ} → Copied differencesOf x (t .balanced) i → t .balanced ≤ i
-      → Body t x × (take (t .balanced) x ≡ differencesOf)
+  pub differenced-all : {x : List ℕ} {i : ℕ} → Copied held x (t .balanced) i → t .balanced ≤ i
+      → Body t x × (drop 1 (take (t .balanced) x) ≡ differences (parameters t) body)
   differenced-all {x} {i} c h =
-      let n : length differencesOf ≡ t .balanced = length-difference (t .q) 0 (take (t .balanced) w) ∙ whole in
-      let m : t .balanced ≤ length differencesOf = omega arith in (
-        record {
-          valid = b .valid;
-          size = c .size;
-          below = λ j l. rw (c .at j (omega arith)) (difference-below (t .q) 0 q₁ (take (t .balanced) w) j);
-        },
-        copied-all c h m short ∙ take-all (t .balanced) differencesOf (omega arith),
+      let n : length held ≡ t .balanced = length-differences (parameters t) body (omega (arith, whole, some)) ∙ whole in
+      let m : t .balanced ≤ length held = omega arith in (
+        record { valid = b .valid; size = c .size; below = λ j l. rw (c .at j (omega arith)) (below j) },
+        ap (drop 1) (copied-all c h m short ∙ take-all (t .balanced) held (omega arith)),
       )
+    where
+      below : (j : ℕ) → getD held j 0 < t .q
+      below zero = b .below 0 some
+      below (suc j) = differences-below (parameters t) q₁ body j

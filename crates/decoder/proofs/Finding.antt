@@ -9,7 +9,7 @@ use lib.Dec.{T}
 use lib.ListN.{length, getD, take, drop, set, length-set}
 use lib.Seq.{getD-take, take-set-lt}
 use Rattle.code.specs.Component.{symbolsBelow}
-use Rattle.code.specs.Balance.{difference}
+use Rattle.code.specs.Balance.{differences}
 use Rattle.code.specs.Codeword.{alternate, body, received}
 use Rattle.code.specs.Reading.{correctionAt, corrected}
 use Rattle.code.proofs.Columns.{q-positive}
@@ -45,12 +45,12 @@ body-of {t} v u array s n e =
     }
 
 -- the differences hold the components
-pub parts-of : {t : Row} → Valid t → (u w x : List ℕ) → take (t .balanced) w ≡ take (t .balanced) u → take (t .balanced) x ≡ difference (t .q) 0 (take (t .balanced) w)
-    → (b : Bool) → part b (t .n) x ≡ received (parameters t) b u
+pub parts-of : {t : Row} → Valid t → (u w x : List ℕ) → take (t .balanced) w ≡ take (t .balanced) u
+    → drop 1 (take (t .balanced) x) ≡ differences (parameters t) (take (t .balanced) w) → (b : Bool) → part b (t .n) x ≡ received (parameters t) b u
 unfolding received body
 parts-of {t} v u w x e f b =
-    let g : take (t .balanced) x ≡ difference (t .q) 0 (take (t .balanced) u) = f ∙ ap (difference (t .q) 0) e in
-    ap (λ (z : List ℕ). alternate b (drop 1 z)) (rw (v .balanced) at g)
+    let g : drop 1 (take (t .balanced) x) ≡ differences (parameters t) (take (t .balanced) u) = f ∙ ap (differences (parameters t)) e in
+    ap (alternate b) (rw (v .balanced) at g)
 
 -- the array with the symbol at index i corrected to y
 module _ {t : Row} {word : List ℕ} (w : Word t word) (i y : ℕ) (h : i < t .balanced) (l : y < t .q) (array : List ℕ)

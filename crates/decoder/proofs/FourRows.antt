@@ -12,7 +12,7 @@ use lib.ListN.{length, getD}
 use borrow.Author.Tests.{eq-eqb, ne-eqb}
 use Rattle.modular.proofs.Search.{eq-test, same-test, all-at, all-of, le-or-lt}
 use Rattle.code.proofs.Columns.{q-positive, r-large, last-below}
-use Rattle.decoding.specs.Syndromes.{tabulate, value, zeroSyndrome, columnPosition, columnSyndrome, nearSyndrome, nearSyndromes}
+use Rattle.decoding.specs.Syndromes.{tabulate, fromDigits, zeroSyndrome, columnPosition, columnSyndrome, nearSyndrome, nearSyndromes}
 use Rattle.decoding.proofs.Value.{tabulate-at}
 use Rattle.profiles.specs.declared.row.Row.{Row}
 use Rattle.profiles.specs.Row.{parameters, Valid}
@@ -91,7 +91,7 @@ module _ (t : Row) (v : Valid t) where
     digits-are w = go (t .r) (r-large (parameters t) (v .sized)) (v .checks) (w .unused)
       where
         go : (r : ℕ) → 2 ≤ r → r ≤ 4 → ((j : ℕ) → r - 1 ≤ j → j < 3 → getD s j 0 ≡ 0)
-            → (getD s 2 0 * t .q + getD s 1 0) * t .q + getD s 0 0 ≡ value (t .q) (r - 1) (tabulate (λ j. getD s (rowIndex r j) 0) r)
+            → (getD s 2 0 * t .q + getD s 1 0) * t .q + getD s 0 0 ≡ fromDigits (t .q) (r - 1) (tabulate (λ j. getD s (rowIndex r j) 0) r)
         go zero a b u = absurd (omega arith)
         go (suc zero) a b u = absurd (omega arith)
         go (suc (suc zero)) a b u = rw (u 2 (omega arith) (omega arith), u 1 (omega arith) (omega arith)) (omega arith)
@@ -101,7 +101,7 @@ module _ (t : Row) (v : Valid t) where
 
   -- The tests of four rows are those of the r rows.
   module _ (s : Syndrome) (w : FourRows t (rows s)) where
-    pub position-same : value (t .q) 3 (rows s) ≡ columnPosition (parameters t) (rowsOf t (rows s))
+    pub position-same : fromDigits (t .q) 3 (rows s) ≡ columnPosition (parameters t) (rowsOf t (rows s))
     position-same = sym (position-is (t .q) (s .low) (s .middle) (s .high) (s .ones)) ∙ digits-are (rows s) w
 
     zero-four : zeroSyndrome (fourRows (t .q) (t .n)) (rows s) ≡ zeroSyndrome (parameters t) (rowsOf t (rows s))

@@ -6,15 +6,14 @@ use mathlib.Core.List.{List}
 use Prim.Native.Nat.{ℕ, _+_, _-_, _*_, _≤_, _<_}
 use native.Mathlib.Nat.{one-mul, mul-le-mul, mul-le-mul-left}
 use native.Mathlib.Omega.{arith}
-use lib.ListN.{length, getD, take, drop, length-drop}
-use lib.Seq.{length-take-le, take-all}
+use lib.ListN.{length, getD, take}
+use lib.Seq.{take-all}
 use Rattle.code.specs.Parameters.{Parameters}
 use Rattle.code.specs.Component.{isCheck, message}
-use Rattle.code.proofs.Weights.{length-alternate, double, double-is}
 use Rattle.profiles.specs.declared.row.Row.{Row}
 use Rattle.profiles.specs.Row.{parameters, Valid}
 use Rattle.symbols.specs.Syndromes.{part}
-use Rattle.symbols.proofs.Parts.{part-first, part-second, part-length}
+use Rattle.symbols.proofs.Parts.{part-first, part-second, part-length, part-size}
 use Rattle.symbols.proofs.Powers.{Spans, Ahead, ahead-first, ahead-power, check-two, check-power, check-neither}
 use Rattle.decoder.specs.Written.{run, Outputs, Messages}
 use Rattle.decoder.proofs.Extracting.{Extracting, extracting-none, extracting-skip, extracting-run, run-room, extracting-all}
@@ -46,11 +45,7 @@ module _ {t : Row} (v : Valid t) {q : ℕ} (same : q ≡ t .q) (x : List ℕ) (s
   few = rw same (v .levels)
 
   part-long : (b : Bool) → t .n ≤ length (part b (t .n) x)
-  part-long b =
-      let e : length (take (2 * t .n + 1) x) ≡ 2 * t .n + 1 = length-take-le (2 * t .n + 1) x (omega (arith, v .length)) in
-      let f : length (drop 1 (take (2 * t .n + 1) x)) ≡ double (t .n) = length-drop 1 (take (2 * t .n + 1) x) ∙ omega (arith, double-is (t .n)) in
-      let g = length-alternate (t .n) b (drop 1 (take (2 * t .n + 1) x)) f in
-      omega arith
+  part-long b = omega (arith, part-size b (t .n) x (omega (arith, v .length, size)))
 
   -- positions 1 and 2 are check positions
   pub passed-two : (first second : List ℕ) → Passed q (t .n) x first second first second q 2 0

@@ -11,7 +11,7 @@ use Rattle.modular.specs.Sum.{weight}
 use Rattle.code.specs.Parameters.{balancedLength, balancingValue, delta}
 use Rattle.code.specs.Codeword.{alternate, alpha, beta, body, received}
 use Rattle.code.proofs.Columns.{q-positive}
-use Rattle.code.proofs.Lawful.{length-body}
+use Rattle.code.proofs.Lawful.{body-length}
 use Rattle.code.proofs.Delta.{alternate-weight}
 use Rattle.decoding.specs.Syndromes.{syndromes}
 use Rattle.decoding.specs.Decoded.{sums, checkSymbol, checkIndex, target, lack}
@@ -48,7 +48,7 @@ module _ {t : Row} {word w x : List ℕ} (a : Apart t word w x) where
   q₁ = q-positive (parameters t) (a .is .valid .sized)
 
   body-long : length (body (parameters t) word) ≡ balancedLength (parameters t)
-  body-long = length-body (parameters t) word (a .is .long)
+  body-long = body-length (parameters t) word (a .is .long)
 
   body-light : weight (body (parameters t) word) ≤ 1358
   unfolding body

@@ -3,8 +3,9 @@ use crate::residue::sub;
 use profiles::Row;
 ghost use mathlib.Core.Path.{_≡_};
 ghost use Prim.Native.Nat.{_≤_, _<_};
-ghost use lib.ListN.{length, take, set};
-ghost use Rattle.code.specs.Balance.{difference};
+ghost use lib.ListN.{length, take, drop, set};
+ghost use Rattle.code.specs.Balance.{neighbourDifference, differences};
+ghost use Rattle.profiles.specs.Row.{parameters};
 ghost use Rattle.decoder.specs.Received.{Body};
 ghost use Rattle.decoder.specs.Totals.{Word, Components};
 
@@ -20,17 +21,24 @@ pub(crate) fn copy_body(word: &[u8], m: usize, w: &mut [u8; 97])
     }
 }
 
-// 01: w differenced mod q, into x.
+// What differencing gives for two neighbours a and b of a body.
+fn neighbour_difference(row: Row, a: u8, b: u8) -> u8
+    requires { ⌜ (a < row .q) × (b < row .q) × (row .q ≤ 15) ⌝ }
+    ensures { λ r. ⌜ (r ≡ neighbourDifference (parameters row) a b) × (r < row .q) ⌝ }
+{
+    sub(row.q, b, a)
+}
+
+// 01: w differenced mod q, into x: the symbols of the components in turn, after one that is not looked at.
 pub(crate) fn difference_body(row: Row, w: &[u8; 97], x: &mut [u8; 97])
     requires { ⌜ Body row (now w) × (length (now x) ≡ 97) ⌝ }
-    ensures { λ _. ⌜ Body row (now (x .exit)) × (take (row .balanced) (now (x .exit)) ≡ difference (row .q) 0 (take (row .balanced) (now (w .entry)))) ⌝ }
+    ensures { λ _. ⌜ Body row (now (x .exit)) × (drop 1 (take (row .balanced) (now (x .exit))) ≡ differences (parameters row) (take (row .balanced) (now (w .entry)))) ⌝ }
 {
-    let q = row.q;
     let m = row.balanced;
     x[0] = w[0];
     let mut i = 1;
     while i < m {
-        x[i] = sub(q, w[i], w[i - 1]);
+        x[i] = neighbour_difference(row, w[i - 1], w[i]);
         i += 1;
     }
 }

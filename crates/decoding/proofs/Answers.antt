@@ -4,23 +4,21 @@ use mathlib.Core.Path.{_≡_, sym, ap, subst, _∙_}
 use mathlib.Core.Logic.{⊎-elim, _≢_}
 use mathlib.Core.Bool.{Bool, true, false, _&&_}
 use mathlib.Core.List.{List}
-use Prim.Native.Nat.{ℕ, _+_, _≤_, _<_}
-use native.Mathlib.Nat.{le-of-suc-le-suc}
+use Prim.Native.Nat.{ℕ, _<_}
 use lib.Dec.{T, eqb, eqb→eq}
 use lib.ListN.{length, getD, set}
-use lib.Seq.{getD-set-same, set-set, set-getD}
 use Rattle.modular.specs.Sum.{weight}
-use Rattle.modular.proofs.Search.{eq-test, and-four, and-parts, and-left, and-right, and-intro, le-of-not-lt}
+use Rattle.modular.proofs.Search.{eq-test, and-four, and-parts, and-left, and-right, and-intro}
 use Rattle.code.specs.Parameters.{Parameters, Sized, codewordLength}
 use Rattle.code.specs.Component.{isWord}
 use Rattle.code.specs.Codeword.{body, isBalanced, hasChecks, hasComponents, codeword}
-use Rattle.code.specs.Reading.{distance, correctionAt, Finding, clean, corrected, unreadable, readAs, reading}
-use Rattle.code.specs.Claims.{OneNear, Reads}
+use Rattle.code.specs.Reading.{correctionAt, Finding, clean, corrected, unreadable, readAs, mends, reading}
+use Rattle.code.specs.Claims.{NearCodeword, OneNear, Reads}
 use Rattle.code.proofs.Columns.{q-positive}
 use Rattle.code.proofs.Merge.{word-length, word-below}
-use Rattle.code.proofs.Distance.{one-apart}
+use Rattle.code.proofs.Distance.{OneApart, one-apart}
 use Rattle.code.proofs.Found.{found-clean, found-sent}
-use Rattle.code.proofs.Reading.{near-self, near-set, reading-is}
+use Rattle.code.proofs.Reading.{near-self, near-mends, mends-near, reading-is}
 use Rattle.decoding.specs.Decoded.{checkSymbol, checkIndex, target}
 
 -- what the test of a codeword asks
@@ -60,25 +58,24 @@ module _ (p : Parameters) (s : Sized p) (one : OneNear p) (v : List ℕ) (w : T 
   pub reads-sent : T (codeword p v) → reading p v ≡ readAs p clean v
   reads-sent h = law .sent v (near-self p s one v w h) ∙ ap (λ (f : Finding). readAs p f v) (found-clean v)
 
-  pub reads-changed : (i y : ℕ) → i < codewordLength p → y ≢ getD v i 0 → T (codeword p (set v i y))
+  pub reads-changed : (i y : ℕ) → i < codewordLength p → y ≢ getD v i 0 → T (mends p v i y)
       → reading p v ≡ readAs p (corrected (correctionAt i (getD v i 0) y)) (set v i y)
   reads-changed i y l ne h =
-      law .sent (set v i y) (near-set p s one v w i y h)
+      law .sent (set v i y) (near-mends p s one v w i y h)
       ∙ ap (λ (f : Finding). readAs p f (set v i y)) (found-sent v i y (subst (λ (k : ℕ). i < k) (sym long) l) ne)
 
-  pub reads-none : (T (codeword p v) → ⊥) → ((i y : ℕ) → i < codewordLength p → y < p .q → y ≢ getD v i 0 → T (codeword p (set v i y)) → ⊥)
+  pub reads-none : (T (codeword p v) → ⊥) → ((i y : ℕ) → i < codewordLength p → y < p .q → y ≢ getD v i 0 → T (mends p v i y) → ⊥)
       → reading p v ≡ unreadable
-  reads-none f g = law .none (λ u n. near u (n .lawful) (n .close))
+  reads-none f g = law .none near
     where
-      near : (u : List ℕ) → T (codeword p u) → distance u v ≤ 1 → ⊥
-      near u h d =
-          let word : T (isWord (p .q) (codewordLength p) u) = codeword-tests p u h .word in
+      near : (u : List ℕ) → NearCodeword p v u → ⊥
+      near u n =
+          let word : T (isWord (p .q) (codewordLength p) u) = codeword-tests p u (n .lawful) .word in
           let size : length u ≡ codewordLength p = word-length (p .q) (codewordLength p) u word in
-          ⊎-elim (λ (e : u ≡ v). f (subst (λ (x : List ℕ). T (codeword p x)) e h))
-          (λ (c : (i : ℕ) × (i < length u) × (getD u i 0 ≢ getD v i 0) × (set u i (getD v i 0) ≡ v)).
-          let i : ℕ = c .0 in
-          let back : u ≡ set v i (getD u i 0) =
-          sym (set-getD u i 0) ∙ sym (set-set u i (getD v i 0) (getD u i 0)) ∙ ap (λ (x : List ℕ). set x i (getD u i 0)) (c .3) in
-          g i (getD u i 0) (subst (λ (k : ℕ). i < k) size (c .1)) (word-below (p .q) (codewordLength p) u (q-positive p s) word i) (c .2)
-          (subst (λ (x : List ℕ). T (codeword p x)) back h))
-          (one-apart u v (size ∙ sym long) d)
+          ⊎-elim (λ (e : u ≡ v). f (subst (λ (x : List ℕ). T (codeword p x)) e (n .lawful)))
+          (λ (c : OneApart u v).
+          let y : ℕ = getD u (c .i) 0 in
+          let below : y < p .q = word-below (p .q) (codewordLength p) u (q-positive p s) word (c .i) in
+          g (c .i) y (subst (λ (k : ℕ). c .i < k) size (c .within)) below (c .unequal)
+          (mends-near p s one v w (c .i) y (subst (NearCodeword p v) (sym (c .back)) n)))
+          (one-apart u v (size ∙ sym long) (n .close))

@@ -1,4 +1,5 @@
--- What one changed symbol of a received word changes: the body or a check symbol, and in the body the weight, one check symbol and the syndromes.
+-- What one changed symbol of a received word changes: the body or a check symbol, and in the body the weight, one check symbol and the
+-- syndromes.
 -- Assumes nothing.
 use mathlib.Core.Path.{_≡_, refl, sym, ap, subst, _∙_}
 use mathlib.Core.Logic.{_⊎_, inl, inr, ⊎-elim, _≢_}
@@ -16,14 +17,13 @@ use Rattle.modular.proofs.Residue.{of-eq, same, _then_, add, reduce, multiple, 
 use Rattle.modular.proofs.Sum.{weight-set}
 use Rattle.code.specs.Parameters.{Parameters, Sized, balancedLength, codewordLength}
 use Rattle.code.specs.Codeword.{body, received, hasComponents}
-use Rattle.code.proofs.Weights.{double, double-is, times-pred}
+use Rattle.code.proofs.Weights.{double, double-is, parity, times-pred}
 use Rattle.code.proofs.Columns.{q-positive}
-use Rattle.code.proofs.Moves.{parity}
-use Rattle.code.proofs.Lawful.{length-body, balanced-length, body-at}
+use Rattle.code.proofs.Lawful.{body-length, balanced-length, body-at}
 use Rattle.decoding.specs.Syndromes.{index}
 use Rattle.decoding.specs.Decoded.{checkSymbol, checkIndex, Sums, sums, update, movedSums, target, lack, nearAfter, places}
-use Rattle.decoding.proofs.Tests.{both}
-use Rattle.decoding.proofs.Near.{Rows, rows}
+use Rattle.decoding.proofs.Tests.{for-both}
+use Rattle.decoding.proofs.Near.{Rows, syndromes-rows}
 use Rattle.decoding.proofs.Components.{components-test}
 use Rattle.decoding.proofs.Moved.{index-odd, index-even, Gain, moved-side}
 use Rattle.decoding.proofs.Checks.{check-gained, check-kept}
@@ -35,15 +35,15 @@ index-within p true k h = omega arith
 index-within p false k h = omega arith
 
 -- an index of the body is one of a parity
-pub data Placed (p : Parameters) : ℕ → Type 0 where
-  placed : (b : Bool) (k : ℕ) → k < places p b → Placed p (index b k)
+pub data OfParity (p : Parameters) : ℕ → Type 0 where
+  of-parity : (b : Bool) (k : ℕ) → k < places p b → OfParity p (index b k)
 
-pub place : (p : Parameters) (i : ℕ) → i < balancedLength p → Placed p i
-place p i h = go (parity i .0) (parity i .1)
+pub in-parity : (p : Parameters) (i : ℕ) → i < balancedLength p → OfParity p i
+in-parity p i h = go (parity i .0) (parity i .1)
   where
-    go : (a : ℕ) → (i ≡ double a) ⊎ (i ≡ suc (double a)) → Placed p i
-    go a (inl e) = subst (Placed p) (index-odd a ∙ sym e) (placed true a (omega (arith, double-is a)))
-    go a (inr e) = subst (Placed p) (index-even a ∙ sym e) (placed false a (omega (arith, double-is a)))
+    go : (a : ℕ) → (i ≡ double a) ⊎ (i ≡ suc (double a)) → OfParity p i
+    go a (inl e) = subst (OfParity p) (index-odd a ∙ sym e) (of-parity true a (omega (arith, double-is a)))
+    go a (inr e) = subst (OfParity p) (index-even a ∙ sym e) (of-parity false a (omega (arith, double-is a)))
 
 -- the others are the check symbols'
 pub index-cases : (p : Parameters) (i : ℕ) → i < codewordLength p → (i < balancedLength p) ⊎ ((b : Bool) × (i ≡ checkIndex p b))
@@ -52,7 +52,8 @@ index-cases p i h = ⊎-elim past (λ (l : i < balancedLength p). inl l) (le-or-
     past : balancedLength p ≤ i → (i < balancedLength p) ⊎ ((b : Bool) × (i ≡ checkIndex p b))
     past l =
         let k : i ≤ balancedLength p + 1 = omega arith in
-        ⊎-elim (λ (e : i ≡ balancedLength p + 1). inr (false, e)) (λ (m : i < balancedLength p + 1). inr (true, omega arith)) (eq-or-lt-of-le k)
+        ⊎-elim (λ (e : i ≡ balancedLength p + 1). inr (false, e)) (λ (m : i < balancedLength p + 1). inr (true, omega arith))
+        (eq-or-lt-of-le k)
 
 pub check-within : (p : Parameters) (b : Bool) → checkIndex p b < codewordLength p
 check-within p true = omega arith
@@ -82,6 +83,12 @@ module _ (p : Parameters) (v : List ℕ) where
   unfolding body
   body-set i y h = take-set-lt (balancedLength p) v i y h
 
+  pub weight-body-set : length v ≡ codewordLength p → (i y : ℕ) → i < balancedLength p
+      → weight (body p (set v i y)) + getD v i 0 ≡ weight (body p v) + y
+  weight-body-set n i y h =
+      let l : i < length (body p v) = rw (body-length p v n) h in
+      omega (arith, ap weight (body-set i y h), weight-set (body p v) i y l, body-at p v i h)
+
   pub checks-kept : (b : Bool) (i y : ℕ) → i < balancedLength p → getD (set v i y) (checkIndex p b) 0 ≡ getD v (checkIndex p b) 0
   checks-kept b i y h = getD-set-other v i (checkIndex p b) y 0 (omega (arith, check-past p b))
 
@@ -101,8 +108,8 @@ summed p v =
       weighs = refl;
       asked = λ b. refl;
       arrived = λ b. refl;
-      first = rows p (received p true v);
-      second = rows p (received p false v);
+      first = syndromes-rows p (received p true v);
+      second = syndromes-rows p (received p false v);
     }
 
 -- the lack is what takes x to the symbol that balances
@@ -127,30 +134,36 @@ update-other true y f = refl
 update-other false y f = refl
 
 -- y, which is e more mod q, in place of the symbol at index k of the parity b moves the sums
-module _ (p : Parameters) (s : Sized p) {v : List ℕ} (n : length v ≡ codewordLength p) {t : Sums} (m : Summed p v t) (b : Bool) (k y e a : ℕ)
-    (l : k < places p b) (small : e ≤ p .q) (gained : Congruent (p .q) (getD v (index b k) 0 + e) y)
+module _ (p : Parameters) (s : Sized p) {v : List ℕ} (n : length v ≡ codewordLength p) {t : Sums} (m : Summed p v t) (b : Bool)
+    (k y e a : ℕ) (l : k < places p b) (small : e ≤ p .q) (gained : Congruent (p .q) (getD v (index b k) 0 + e) y)
     (weighed : y + t .weighs ≡ getD v (index b k) 0 + a) where
   within : index b k < balancedLength p
   within = index-within p b k l
 
   raised : Gain p (body p v) b k y e
   raised =
-      let h : length (body p v) ≡ balancedLength p = length-body p v n in
+      let h : length (body p v) ≡ balancedLength p = body-length p v n in
       record { long = h ∙ balanced-length p; within = rw h within; small = small; gained = rw (body-at p v (index b k) within) gained }
 
   here : body p (set v (index b k) y) ≡ set (body p v) (index b k) y
   here = body-set p v (index b k) y within
 
+  own-check : checkSymbol (p .q) b (body p (set v (index b k) y)) ≡ (t .asked b + e) % p .q
+  own-check =
+      ap (checkSymbol (p .q) b) here ∙ check-gained b (body p v) k y e (raised .within) (raised .gained)
+      ∙ ap (λ (x : ℕ). (x + e) % p .q) (sym (m .asked b))
+
+  other-check : checkSymbol (p .q) (not b) (body p (set v (index b k) y)) ≡ t .asked (not b)
+  other-check = ap (checkSymbol (p .q) (not b)) here ∙ check-kept (p .q) b (body p v) k y ∙ sym (m .asked (not b))
+
   pub summed-moved : Summed p (set v (index b k) y) (movedSums p b k e a t)
   unfolding received
   summed-moved =
       record {
-        weighs = omega (arith, ap weight here, weight-set (body p v) (index b k) y (raised .within), body-at p v (index b k) within, m .weighs);
+        weighs = omega (arith, weight-body-set p v n (index b k) y within, m .weighs);
         asked =
-            both b (λ c. update b ((t .asked b + e) % p .q) (t .asked) c ≡ checkSymbol (p .q) c (body p (set v (index b k) y)))
-            (update-here b _ (t .asked) ∙ ap (λ (x : ℕ). (x + e) % p .q) (m .asked b)
-            ∙ sym (ap (checkSymbol (p .q) b) here ∙ check-gained b (body p v) k y e (raised .within) (raised .gained)))
-            (update-other b _ (t .asked) ∙ m .asked (not b) ∙ sym (ap (checkSymbol (p .q) (not b)) here ∙ check-kept (p .q) b (body p v) k y));
+            for-both b (λ c. update b ((t .asked b + e) % p .q) (t .asked) c ≡ checkSymbol (p .q) c (body p (set v (index b k) y)))
+            (update-here b _ (t .asked) ∙ sym own-check) (update-other b _ (t .asked) ∙ sym other-check);
         arrived = λ c. m .arrived c ∙ sym (checks-kept p v c (index b k) y within);
         first = rw here (moved-side (q-positive p s) true b raised (m .first));
         second = rw here (moved-side (q-positive p s) false b raised (m .second));

@@ -10,14 +10,14 @@ use lib.ListN.{length, getD, set, length-set}
 use Rattle.modular.specs.Sum.{weight, dot}
 use Rattle.modular.specs.Residue.{Congruent}
 use Rattle.modular.proofs.Residue.{of-eq, same, symm, _then_, add, reduce}
-use Rattle.modular.proofs.Sum.{dot-one}
+use Rattle.modular.proofs.Sum.{dot-gain}
 use Rattle.code.specs.Parameters.{delta}
 use Rattle.code.specs.Codeword.{alternate, alpha, beta}
-use Rattle.code.proofs.Weights.{spread, spread-take, dot-alternate}
+use Rattle.code.proofs.Weights.{ones, spread-take, dot-ones}
 use Rattle.code.proofs.Alternate.{first-kept, second-kept}
 use Rattle.decoding.specs.Syndromes.{index}
 use Rattle.decoding.specs.Decoded.{checkSymbol}
-use Rattle.decoding.proofs.Moved.{index-odd, index-even, dot-gain}
+use Rattle.decoding.proofs.Moved.{index-odd, index-even}
 
 -- what is added to the sum of the symbols
 abbrev offset : ℕ → Bool → ℕ → ℕ
@@ -30,25 +30,23 @@ check-is q true w = refl
 check-is q false w = rw add-zero refl
 
 -- the symbols of a parity are counted once each, and the others are not
-counted : (b : Bool) (k : ℕ) → spread b (λ x. 1) (index b k) ≡ 1
-counted true k = ap (spread true (λ x. 1)) (index-odd k) ∙ spread-take (λ x. 1) k
-counted false k = ap (spread false (λ x. 1)) (index-even k) ∙ spread-take (λ x. 1) k
-
-sum-is : (b : Bool) (w : List ℕ) → dot (spread b (λ x. 1)) w ≡ weight (alternate b w)
-sum-is b w = sym (dot-alternate b (λ x. 1) w) ∙ dot-one (alternate b w)
+counted : (b : Bool) (k : ℕ) → ones b (index b k) ≡ 1
+counted true k = ap (ones true) (index-odd k) ∙ spread-take (λ x. 1) k
+counted false k = ap (ones false) (index-even k) ∙ spread-take (λ x. 1) k
 
 pub check-gained : {q : ℕ} (b : Bool) (w : List ℕ) (k y e : ℕ) → index b k < length w → Congruent q (getD w (index b k) 0 + e) y
     → checkSymbol q b (set w (index b k) y) ≡ (checkSymbol q b w + e) % q
 check-gained {q} b w k y e l h =
-    let f : ℕ → ℕ = spread b (λ x. 1) in
+    let w′ : List ℕ = set w (index b k) y in
+    let sum : ℕ = weight (alternate b w) in
     let d : ℕ = offset q b (length w) in
-    let a : dot f w + f (index b k) * e ≡ weight (alternate b w) + e =
-    ap₂ (λ (x z : ℕ). x + z * e) (sum-is b w) (counted b k) ∙ ap (λ (x : ℕ). weight (alternate b w) + x) (one-mul e) in
-    let c : weight (alternate b w) + e + d ≡ weight (alternate b w) + d + e = omega arith in
-    let g : Congruent q (weight (alternate b (set w (index b k) y)) + d) (checkSymbol q b w + e) =
-    add (of-eq (sym (sum-is b (set w (index b k) y))) then dot-gain f w (index b k) y e l h then of-eq a) (same d) then of-eq c
-    then add (symm (of-eq (check-is q b w) then reduce q (weight (alternate b w) + d))) (same e) in
-    check-is q b (set w (index b k) y) ∙ ap (λ (x : ℕ). (weight (alternate b (set w (index b k) y)) + offset q b x) % q) (length-set w (index b k) y) ∙ g .same
+    let a : dot (ones b) w + ones b (index b k) * e ≡ sum + e =
+    ap₂ (λ (x z : ℕ). x + z * e) (dot-ones b w) (counted b k) ∙ ap (λ (x : ℕ). sum + x) (one-mul e) in
+    let c : sum + e + d ≡ sum + d + e = omega arith in
+    let g : Congruent q (weight (alternate b w′) + d) (checkSymbol q b w + e) =
+    add (of-eq (sym (dot-ones b w′)) then dot-gain (ones b) w (index b k) y e l h then of-eq a) (same d) then of-eq c
+    then add (symm (of-eq (check-is q b w) then reduce q (sum + d))) (same e) in
+    check-is q b w′ ∙ ap (λ (x : ℕ). (weight (alternate b w′) + offset q b x) % q) (length-set w (index b k) y) ∙ g .same
 
 pub check-kept : (q : ℕ) (b : Bool) (w : List ℕ) (k y : ℕ) → checkSymbol q (not b) (set w (index b k) y) ≡ checkSymbol q (not b) w
 check-kept q b w k y =

@@ -10,17 +10,17 @@ use lib.ListN.{length}
 use Rattle.modular.proofs.Search.{and-left, and-right, or-cases, or-left}
 use Rattle.code.specs.Parameters.{Parameters, Sized, codewordLength}
 use Rattle.code.specs.Component.{message}
-use Rattle.code.specs.Codeword.{body, received, nearCode, hasComponents, carried}
+use Rattle.code.specs.Codeword.{body, received, nearComponents, hasComponents, carried}
 use Rattle.code.specs.Reading.{Finding, read, readAs}
-use Rattle.code.proofs.Weights.{length-part}
-use Rattle.code.proofs.Lawful.{length-body, balanced-length}
+use Rattle.code.proofs.Weights.{length-differenced}
+use Rattle.code.proofs.Lawful.{body-length, balanced-length}
 use Rattle.decoding.specs.Syndromes.{zeroSyndrome, columnSyndrome, nearSyndrome, nearSyndromes, restoredBy}
 use Rattle.decoding.specs.Decoded.{readBy}
 use Rattle.decoding.proofs.Near.{Rows, zero-test, near-test, restored-by}
 
 pub length-received : (p : Parameters) (b : Bool) (u : List ℕ) → length u ≡ codewordLength p → length (received p b u) ≡ p .n
 unfolding received
-length-received p b u e = length-part (p .q) (p .n) b (body p u) (length-body p u e ∙ balanced-length p)
+length-received p b u e = length-differenced p b (body p u) (body-length p u e ∙ balanced-length p)
 
 -- a zero syndrome is near
 near-zero : (p : Parameters) (S : List ℕ) → T (zeroSyndrome p S) → T (nearSyndrome p S)
@@ -46,6 +46,11 @@ near-parts p S S′ t =
     b′ : Bool
     b′ = nearSyndrome p S′
 
+near-both : (p : Parameters) → Sized p → {c d S S′ : List ℕ} → Rows p c S → Rows p d S′ → length c ≡ p .n → length d ≡ p .n
+    → nearSyndromes p S S′ ≡ nearComponents p c d
+unfolding nearSyndromes nearComponents
+near-both p s w w′ n n′ = rw (zero-test w, zero-test w′, near-test p s w n, near-test p s w′ n′) refl
+
 module _ (p : Parameters) (s : Sized p) (u : List ℕ) (l : length u ≡ codewordLength p) where
   pub carried-by : (b : Bool) {S : List ℕ} → Rows p (received p b u) S → T (nearSyndrome p S)
       → message p (restoredBy p S (received p b u)) ≡ carried p b u
@@ -54,11 +59,8 @@ module _ (p : Parameters) (s : Sized p) (u : List ℕ) (l : length u ≡ codewor
 
   module _ {S S′ : List ℕ} (w : Rows p (received p true u) S) (w′ : Rows p (received p false u) S′) where
     pub components-test : nearSyndromes p S S′ ≡ hasComponents p u
-    unfolding nearSyndromes hasComponents
-    components-test =
-        let n : nearSyndrome p S ≡ nearCode p (received p true u) = near-test p s w (length-received p true u l) in
-        let n′ : nearSyndrome p S′ ≡ nearCode p (received p false u) = near-test p s w′ (length-received p false u l) in
-        rw (zero-test w, zero-test w′, n, n′) refl
+    unfolding hasComponents
+    components-test = near-both p s w w′ (length-received p true u l) (length-received p false u l)
 
     pub read-by : (f : Finding) → T (nearSyndromes p S S′) → readBy p f u S S′ ≡ readAs p f u
     unfolding readBy

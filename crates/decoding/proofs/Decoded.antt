@@ -16,7 +16,7 @@ use Rattle.code.specs.Reading.{reading}
 use Rattle.code.specs.Claims.{OneNear}
 use Rattle.decoding.specs.Syndromes.{nearSyndromes, index}
 use Rattle.decoding.specs.Decoded.{Sums, target, fits, places, firstFit, decodedBody, agrees, decodedBalanced, decodedUnbalanced, decodedBy, decoded}
-use Rattle.decoding.proofs.Tests.{false-test, both}
+use Rattle.decoding.proofs.Tests.{false-test, for-both}
 use Rattle.decoding.proofs.Changed.{Summed, summed}
 use Rattle.decoding.proofs.Outcomes.{clean-reading, check-reading, fit-reading, far-refused, checks-refused, right-refused, wrong-refused, unfit-refused}
 
@@ -24,10 +24,10 @@ module _ (p : Parameters) (s : Sized p) (one : OneNear p) {v : List ℕ} (w : T 
     (m : Summed p v t) where
   -- both check symbols, from the values of their tests
   agree : agrees t true ≡ true → agrees t false ≡ true → (b : Bool) → t .asked b ≡ t .arrived b
-  agree f g = both true (λ b. t .asked b ≡ t .arrived b) (eqb-true _ _ f) (eqb-true _ _ g)
+  agree f g = for-both true (λ b. t .asked b ≡ t .arrived b) (eqb-true _ _ f) (eqb-true _ _ g)
 
   disagree : agrees t true ≡ false → agrees t false ≡ false → (b : Bool) → t .asked b ≢ t .arrived b
-  disagree f g = both true (λ b. t .asked b ≢ t .arrived b) (eqb-false _ _ f) (eqb-false _ _ g)
+  disagree f g = for-both true (λ b. t .asked b ≢ t .arrived b) (eqb-false _ _ f) (eqb-false _ _ g)
 
   body-decoded : (b : Bool) → t .weighs ≢ target p → agrees t (not b) ≡ true → decodedBody p t b v ≡ reading p v
   unfolding decodedBody firstFit
@@ -49,7 +49,8 @@ module _ (p : Parameters) (s : Sized p) (one : OneNear p) {v : List ℕ} (w : T 
   unfolding decodedBalanced
   balanced-decoded a = go (nearSyndromes p (t .first) (t .second)) (agrees t true) (agrees t false) refl refl refl
     where
-      go : (n c d : Bool) → nearSyndromes p (t .first) (t .second) ≡ n → agrees t true ≡ c → agrees t false ≡ d → decodedBalanced p t v ≡ reading p v
+      go : (n c d : Bool) → nearSyndromes p (t .first) (t .second) ≡ n → agrees t true ≡ c → agrees t false ≡ d
+          → decodedBalanced p t v ≡ reading p v
       go false c d e f g = rw (e, decodedBalanced) (sym (far-refused p s one w m a (false-test e)))
       go true true true e f g = rw (e, decodedBalanced, f, g) (sym (clean-reading p s one w m a (holds _ e) (agree f g)))
       go true true false e f g =
@@ -77,6 +78,7 @@ module _ (p : Parameters) (s : Sized p) (one : OneNear p) {v : List ℕ} (w : T 
       go true e = rw (e, decodedBy) (balanced-decoded (eqb-true _ _ e))
       go false e = rw (e, decodedBy) (unbalanced-decoded (eqb-false _ _ e))
 
-pub decoded-reading : (p : Parameters) → Sized p → OneNear p → (v : List ℕ) → T (isWord (p .q) (codewordLength p) v) → decoded p v ≡ reading p v
+pub decoded-reading : (p : Parameters) → Sized p → OneNear p → (v : List ℕ) → T (isWord (p .q) (codewordLength p) v)
+    → decoded p v ≡ reading p v
 unfolding decoded
 decoded-reading p s one v w = decoded-by p s one w (summed p v)

@@ -1,6 +1,6 @@
 -- An index of the body fits exactly where the symbol that balances there makes a codeword, if the other check symbol is right.
 -- Assumes nothing.
-use mathlib.Core.Path.{_≡_, sym, ap, subst, _∙_}
+use mathlib.Core.Path.{_≡_, sym, subst, _∙_}
 use mathlib.Core.Logic.{_≢_}
 use mathlib.Core.Bool.{Bool, not}
 use mathlib.Core.List.{List}
@@ -9,23 +9,20 @@ use native.Mathlib.Nat.{zero-add, add-zero, add-comm}
 use native.Mathlib.Omega.{arith}
 use lib.Dec.{T, eqb, leb, ltb, eqb→eq, leb→le, ltb→lt, le→leb, lt→ltb}
 use lib.ListN.{length, getD, set, length-set}
-use Rattle.modular.specs.Sum.{weight}
 use Rattle.modular.specs.Residue.{Congruent}
 use Rattle.modular.proofs.Search.{eq-test, and-left, and-right, and-intro}
 use Rattle.modular.proofs.Residue.{of-eq, same, symm, _then_, add, reduce, small, cancel}
-use Rattle.modular.proofs.Sum.{weight-set}
-use Rattle.code.specs.Parameters.{Parameters, Sized, balancedLength, codewordLength}
+use Rattle.code.specs.Parameters.{Parameters, Sized, codewordLength}
 use Rattle.code.specs.Component.{symbolsBelow, isWord}
 use Rattle.code.specs.Codeword.{body, codeword}
 use Rattle.code.proofs.Columns.{q-positive}
-use Rattle.code.proofs.Lawful.{body-at, length-body}
 use Rattle.code.proofs.Merge.{word-length, word-below, word-of}
 use Rattle.code.proofs.Symbols.{symbols-set}
 use Rattle.decoding.specs.Syndromes.{index}
 use Rattle.decoding.specs.Decoded.{checkSymbol, checkIndex, Sums, target, lack, balancingSymbol, inRange, offByLack, nearAfter, fits, places}
-use Rattle.decoding.proofs.Tests.{and-three, three-parts, both}
+use Rattle.decoding.proofs.Tests.{and-three, three-parts, for-both}
 use Rattle.decoding.proofs.Answers.{Tests, codeword-tests, tests-codeword}
-use Rattle.decoding.proofs.Changed.{index-within, body-set, checks-kept, Summed, lack-gained, changed, changed-check, kept-check, changed-near}
+use Rattle.decoding.proofs.Changed.{index-within, weight-body-set, checks-kept, Summed, lack-gained, changed, changed-check, kept-check, changed-near}
 
 -- what the test says: y is the symbol that balances in place of x
 pub record Fit (p : Parameters) (s : Sums) (b : Bool) (k x y : ℕ) : Type 0 where
@@ -53,7 +50,8 @@ fit-test p s b k x y f =
     (lt→ltb (x + target p - s .weighs) (p .q) d))
     (eq-test (f .check)) (f .near)
 
-pub word-set : (p : Parameters) (v : List ℕ) (i y : ℕ) → T (isWord (p .q) (codewordLength p) v) → y < p .q → T (isWord (p .q) (codewordLength p) (set v i y))
+pub word-set : (p : Parameters) (v : List ℕ) (i y : ℕ) → T (isWord (p .q) (codewordLength p) v) → y < p .q
+    → T (isWord (p .q) (codewordLength p) (set v i y))
 word-set p v i y w h =
     word-of (p .q) (codewordLength p) (set v i y) (length-set v i y ∙ word-length (p .q) (codewordLength p) v w)
     (symbols-set (p .q) v i y h (and-right (eqb (length v) (codewordLength p)) (symbolsBelow (p .q) v) w))
@@ -74,7 +72,7 @@ module _ (p : Parameters) (s : Sized p) {v : List ℕ} (w : T (isWord (p .q) (co
         word = word-set p v (index b k) y w (f .below);
         weighs = sym (changed p s long m b k y l (f .balances) .weighs);
         checks =
-            both b (λ c. checkSymbol (p .q) c (body p (set v (index b k) y)) ≡ getD (set v (index b k) y) (checkIndex p c) 0)
+            for-both b (λ c. checkSymbol (p .q) c (body p (set v (index b k) y)) ≡ getD (set v (index b k) y) (checkIndex p c) 0)
             (changed-check p s long m b k y l (f .balances) ∙ f .check ∙ arrived-is b)
             (kept-check p s long m b k y l (f .balances) ∙ a ∙ arrived-is (not b));
         near = subst T (changed-near p s long m b k y l (f .balances)) (f .near);
@@ -86,11 +84,7 @@ module _ (p : Parameters) (s : Sized p) {v : List ℕ} (w : T (isWord (p .q) (co
     tests = codeword-tests p (set v (index b k) y) h
 
     balances : y + t .weighs ≡ getD v (index b k) 0 + target p
-    balances =
-        let i : index b k < balancedLength p = index-within p b k l in
-        let n : index b k < length (body p v) = rw (length-body p v long) i in
-        omega
-        (arith, ap weight (body-set p v (index b k) y i), weight-set (body p v) (index b k) y n, body-at p v (index b k) i, tests .weighs, m .weighs)
+    balances = omega (arith, weight-body-set p v long (index b k) y (index-within p b k l), tests .weighs, m .weighs)
 
     check : (t .asked b + lack p t) % p .q ≡ t .arrived b
     check = sym (changed-check p s long m b k y l balances) ∙ tests .checks b ∙ sym (arrived-is b)
@@ -107,12 +101,13 @@ module _ (p : Parameters) (s : Sized p) {v : List ℕ} (w : T (isWord (p .q) (co
         let c : ℕ = t .asked b in
         let d : ℕ = lack p t in
         let x : ℕ = getD v (index b k) 0 in
-        let z : Congruent (p .q) d 0 = cancel c (of-eq (add-comm d c) then symm (reduce (p .q) (c + d)) then of-eq (check ∙ sym a ∙ sym (zero-add c))) in
+        let z : Congruent (p .q) d 0 =
+        cancel c (of-eq (add-comm d c) then symm (reduce (p .q) (c + d)) then of-eq (check ∙ sym a ∙ sym (zero-add c))) in
         ne
         (small below (word-below (p .q) (codewordLength p) v (q-positive p s) w (index b k))
         (symm (lack-gained p t x y (q-positive p s) balances) then add (same x) z then of-eq (add-zero x)))
 
     pub codeword-fit : T (fits p t b k (getD v (index b k) 0))
     codeword-fit =
-        fit-test p t b k (getD v (index b k) 0) y
-        (record { balances = balances; below = below; check = check; near = subst T (sym (changed-near p s long m b k y l balances)) (tests .near) })
+        let near : T (nearAfter p t b k) = subst T (sym (changed-near p s long m b k y l balances)) (tests .near) in
+        fit-test p t b k (getD v (index b k) 0) y (record { balances = balances; below = below; check = check; near = near })

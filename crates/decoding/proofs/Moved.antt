@@ -9,14 +9,16 @@ use native.Mathlib.Omega.{arith}
 use lib.ListN.{length, getD, set, length-set}
 use Rattle.modular.specs.Sum.{dot}
 use Rattle.modular.specs.Residue.{Congruent}
-use Rattle.modular.proofs.Residue.{of-eq, same, symm, _then_, add, scale, multiple, cancel}
-use Rattle.modular.proofs.Sum.{dot-set}
+use Rattle.modular.proofs.Residue.{of-eq, same, symm, _then_, add, multiple, cancel}
+use Rattle.modular.proofs.Sum.{dot-gain}
 use Rattle.code.specs.Parameters.{Parameters}
 use Rattle.code.specs.Component.{checkRow, syndrome}
-use Rattle.code.proofs.Weights.{double, double-is, later, part, dot-part, times-pred, weight-first-odd, weight-second-odd, weight-first-even, weight-second-even}
+use Rattle.code.specs.Codeword.{differenced}
+use Rattle.code.proofs.Weights.{double, double-is, later, dot-differenced, times-pred, weight-first-odd, weight-second-odd, weight-first-even, weight-second-even}
 use Rattle.code.proofs.Columns.{entry}
 use Rattle.code.proofs.Moves.{rowWeight}
 use Rattle.decoding.specs.Syndromes.{columnEntry, moved, index, columnOf, times, movedOf}
+use Rattle.decoding.specs.Decoded.{gainBy}
 use Rattle.decoding.proofs.Value.{tabulate-at, length-tabulate}
 use Rattle.decoding.proofs.Near.{Rows, rows-congruent}
 
@@ -26,14 +28,6 @@ index-odd k = sym (double-is k)
 
 pub index-even : (k : ℕ) → index false k ≡ suc (double k)
 index-even k = omega (arith, double-is k)
-
--- what a weighted sum gains by e more at index i
-pub dot-gain : {q : ℕ} (f : ℕ → ℕ) (w : List ℕ) (i y e : ℕ) → i < length w → Congruent q (getD w i 0 + e) y
-    → Congruent q (dot f (set w i y)) (dot f w + f i * e)
-dot-gain f w i y e l h =
-    let x : ℕ = getD w i 0 in
-    let k : dot f w + f i * (x + e) ≡ dot f w + f i * e + f i * x = omega arith in
-    cancel (f i * x) (of-eq (dot-set f w i y l) then add (same (dot f w)) (scale (f i) (symm h)) then of-eq k)
 
 -- e times less a column is q - e times the column
 less : (q a e : ℕ) → 1 ≤ q → e ≤ q → Congruent q ((q - 1) * a * e) ((q - e) * a)
@@ -70,34 +64,35 @@ pub record Gain (p : Parameters) (w : List ℕ) (b : Bool) (k y e : ℕ) : Type 
 module _ {p : Parameters} (h : 1 ≤ p .q) {w : List ℕ} {b : Bool} {k y e : ℕ} (m : Gain p w b k y e) where
   -- the syndrome of component c, where at that index its rows have the weights of column a, times g in place of e
   moved-by : (c : Bool) (g a : ℕ) {S : List ℕ}
-      → ((j : ℕ) → Congruent (p .q) (rowWeight p c j (index b k) * e) (g * columnEntry p j a)) → Rows p (part (p .q) c w) S
-      → Rows p (part (p .q) c (set w (index b k) y)) (moved p g a S)
+      → ((j : ℕ) → Congruent (p .q) (rowWeight p c j (index b k) * e) (g * columnEntry p j a)) → Rows p (differenced p c w) S
+      → Rows p (differenced p c (set w (index b k) y)) (moved p g a S)
   moved-by c g a f r =
-      moved-rows (part (p .q) c (set w (index b k) y)) g a r
+      moved-rows (differenced p c (set w (index b k) y)) g a r
       (λ j l.
       let row : ℕ → ℕ = checkRow p j in
-      dot-part (p .q) (p .n) h c row (set w (index b k) y) (length-set w (index b k) y ∙ m .long)
+      dot-differenced p h c row (set w (index b k) y) (length-set w (index b k) y ∙ m .long)
       then dot-gain (rowWeight p c j) w (index b k) y e (m .within) (m .gained)
-      then add (symm (dot-part (p .q) (p .n) h c row w (m .long))) (f j))
+      then add (symm (dot-differenced p h c row w (m .long))) (f j))
 
 -- the weights of row j at index k of a parity
 weight-at : (p : Parameters) (c : Bool) (j : ℕ) {i i′ x : ℕ} (e : ℕ) → i ≡ i′ → rowWeight p c j i′ ≡ x → rowWeight p c j i * e ≡ x * e
 weight-at p c j e f g = ap (λ (i : ℕ). rowWeight p c j i * e) f ∙ ap (λ (x : ℕ). x * e) g
 
 pub weight-times : (p : Parameters) → 1 ≤ p .q → (c b : Bool) (k e j : ℕ) → e ≤ p .q
-    → Congruent (p .q) (rowWeight p c j (index b k) * e) (times p c b e * columnEntry p j (columnOf c b k))
+    → Congruent (p .q) (rowWeight p c j (index b k) * e) (times p c b (gainBy p e) * columnEntry p j (columnOf c b k))
 weight-times p h true true k e j l =
-    of-eq (weight-at p true j e (index-odd k) (weight-first-odd (p .q) (p .n) (checkRow p j) k)) then less (p .q) (entry p j k) e h l
+    of-eq (weight-at p true j e (index-odd k) (weight-first-odd p (checkRow p j) k)) then less (p .q) (entry p j k) e h l
 weight-times p h true false k e j l =
-    of-eq (weight-at p true j e (index-even k) (weight-first-even (p .q) (p .n) (checkRow p j) k) ∙ mul-comm (entry p j k) e)
+    of-eq (weight-at p true j e (index-even k) (weight-first-even p (checkRow p j) k) ∙ mul-comm (entry p j k) e)
 weight-times p h false true k e j l =
     of-eq
-    (weight-at p false j e (index-odd k) (weight-second-odd (p .q) (p .n) (checkRow p j) k ∙ sym (entry-is p j k))
+    (weight-at p false j e (index-odd k) (weight-second-odd p (checkRow p j) k ∙ sym (entry-is p j k))
     ∙ mul-comm (columnEntry p j k) e)
 weight-times p h false false k e j l =
-    of-eq (weight-at p false j e (index-even k) (weight-second-even (p .q) (p .n) (checkRow p j) k)) then less (p .q) (entry p j k) e h l
+    of-eq (weight-at p false j e (index-even k) (weight-second-even p (checkRow p j) k)) then less (p .q) (entry p j k) e h l
 
-pub moved-side : {p : Parameters} → 1 ≤ p .q → {w S : List ℕ} (c b : Bool) {k y e : ℕ} → Gain p w b k y e → Rows p (part (p .q) c w) S
-    → Rows p (part (p .q) c (set w (index b k) y)) (movedOf p c b k e S)
+pub moved-side : {p : Parameters} → 1 ≤ p .q → {w S : List ℕ} (c b : Bool) {k y e : ℕ} → Gain p w b k y e → Rows p (differenced p c w) S
+    → Rows p (differenced p c (set w (index b k) y)) (movedOf p c b k (gainBy p e) S)
 unfolding movedOf
-moved-side {p} h c b {k} {y} {e} m r = moved-by h m c (times p c b e) (columnOf c b k) (λ j. weight-times p h c b k e j (m .small)) r
+moved-side {p} h c b {k} {y} {e} m r =
+    moved-by h m c (times p c b (gainBy p e)) (columnOf c b k) (λ j. weight-times p h c b k e j (m .small)) r

@@ -32,8 +32,8 @@ pub record Rows (p : Parameters) (c S : List ℕ) : Type 0 where
   pub long : p .r ≤ length S
   pub at : (j : ℕ) → j < p .r → getD S j 0 ≡ syndrome p c j
 
-pub rows : (p : Parameters) (c : List ℕ) → Rows p c (syndromes p c)
-rows p c =
+pub syndromes-rows : (p : Parameters) (c : List ℕ) → Rows p c (syndromes p c)
+syndromes-rows p c =
     record {
       long = rw length-tabulate (le-refl (p .r));
       at = λ j h. tabulate-at (syndrome p c) (p .r) j h;
@@ -83,9 +83,10 @@ pub restored-as-is : (p : Parameters) (S c : List ℕ) → zeroSyndrome p S ≡ 
 unfolding restoredBy
 restored-as-is p S c e = rw (e, restoredBy)
 
-pub restored-lowered : (p : Parameters) (S c : List ℕ) → zeroSyndrome p S ≡ false → restoredBy p S c ≡ lowered (p .q) c (columnPosition p S - 1)
+pub restored-at-position : (p : Parameters) (S c : List ℕ) → zeroSyndrome p S ≡ false
+    → restoredBy p S c ≡ lowered (p .q) c (columnPosition p S - 1)
 unfolding restoredBy
-restored-lowered p S c e = rw (e, restoredBy)
+restored-at-position p S c e = rw (e, restoredBy)
 
 module _ (p : Parameters) (s : Sized p) {c S : List ℕ} (w : Rows p c S) where
   row-digits : Digits (p .q) (p .r - 1) S
@@ -125,16 +126,16 @@ module _ (p : Parameters) (s : Sized p) {c S : List ℕ} (w : Rows p c S) where
     row-is : (j : ℕ) → j < p .r → getD S j 0 ≡ checkRow p j i
     row-is j h = small (rows-below (q-positive p s) w j h) (entry-below j h) (rows-congruent w j h then k j h)
 
-    pub position-is : columnPosition p S ≡ suc i
+    pub position-named : columnPosition p S ≡ suc i
     unfolding columnPosition
-    position-is =
+    position-named =
         value-digits (p .q) (p .r - 1) (suc i) S (q-positive p s) (le-trans (suc-le-suc l) (s .columns)) (row-digits .long)
         (λ j h. row-is j (omega arith) ∙ digit-row p j i h)
 
     pub column-test : T (columnSyndrome p S)
     column-test =
-        named-test p S
-        (record { last = row-is (p .r - 1) (last-below p s) ∙ last-row p i; some = omega (arith, position-is); within = omega (arith, position-is) })
+        let last : getD S (p .r - 1) 0 ≡ 1 = row-is (p .r - 1) (last-below p s) ∙ last-row p i in
+        named-test p S (record { last = last; some = omega (arith, position-named); within = omega (arith, position-named) })
 
   module _ (n : length c ≡ p .n) where
     position-within : T (columnSyndrome p S) → columnPosition p S - 1 < length c
@@ -161,4 +162,5 @@ module _ (p : Parameters) (s : Sized p) {c S : List ℕ} (w : Rows p c S) where
       where
         go : (b : Bool) → zeroSyndrome p S ≡ b → T (b || columnSyndrome p S) → restoredBy p S c ≡ restored p c
         go true e k = restored-as-is p S c e ∙ sym (restored-zero p s c n (code-zero p c (subst T (zero-test w) (holds _ e))))
-        go false e k = restored-lowered p S c e ∙ sym (restored-column p s c n (columnPosition p S - 1) (position-within k) (column-named k))
+        go false e k =
+            restored-at-position p S c e ∙ sym (restored-column p s c n (columnPosition p S - 1) (position-within k) (column-named k))

@@ -11,14 +11,14 @@ use Rattle.modular.specs.Sum.{weight}
 use Rattle.code.specs.Parameters.{Parameters, Sized, codewordLength}
 use Rattle.code.specs.Component.{isWord}
 use Rattle.code.specs.Codeword.{body, received, hasComponents, codeword}
-use Rattle.code.specs.Reading.{unreadable, reading}
+use Rattle.code.specs.Reading.{unreadable, mends, reading}
 use Rattle.code.specs.Claims.{OneNear}
 use Rattle.code.proofs.Merge.{word-length}
 use Rattle.decoding.specs.Syndromes.{nearSyndromes, index}
 use Rattle.decoding.specs.Decoded.{checkSymbol, checkIndex, Sums, target, fits, places}
 use Rattle.decoding.proofs.Components.{components-test}
 use Rattle.decoding.proofs.Answers.{Tests, codeword-tests, reads-none}
-use Rattle.decoding.proofs.Changed.{Placed, placed, place, index-cases, body-kept, other-kept, Summed}
+use Rattle.decoding.proofs.Changed.{OfParity, of-parity, in-parity, index-cases, body-kept, other-kept, Summed}
 use Rattle.decoding.proofs.Fits.{unbalanced, other-agrees, own-disagrees, codeword-fit}
 
 -- a changed check symbol leaves the components
@@ -30,14 +30,14 @@ pub components-kept : (p : Parameters) (v : List ℕ) (b : Bool) (y : ℕ) → h
 unfolding hasComponents
 components-kept p v b y = rw (received-kept p v b y true, received-kept p v b y false) refl
 
--- what the tests of the algorithm say where a codeword is within one position of v: it arrived as sent, with a check symbol changed, or with
--- a symbol of the body changed
+-- what the tests of the algorithm say where a codeword is within one position of v: it arrived as sent, with a check symbol changed, or
+-- with a symbol of the body changed
 pub data Nearby (p : Parameters) (t : Sums) (v : List ℕ) : Type 0 where
   as-sent : t .weighs ≡ target p → T (nearSyndromes p (t .first) (t .second)) → ((b : Bool) → t .asked b ≡ t .arrived b) → Nearby p t v
   check-changed : (b : Bool) → t .weighs ≡ target p → T (nearSyndromes p (t .first) (t .second)) → t .asked (not b) ≡ t .arrived (not b)
       → Nearby p t v
-  body-changed : (b : Bool) (k : ℕ) → t .weighs ≢ target p → t .asked (not b) ≡ t .arrived (not b) → t .asked b ≢ t .arrived b → k < places p b
-      → T (fits p t b k (getD v (index b k) 0)) → Nearby p t v
+  body-changed : (b : Bool) (k : ℕ) → t .weighs ≢ target p → t .asked (not b) ≡ t .arrived (not b) → t .asked b ≢ t .arrived b
+      → k < places p b → T (fits p t b k (getD v (index b k) 0)) → Nearby p t v
 
 module _ (p : Parameters) (s : Sized p) {v : List ℕ} (w : T (isWord (p .q) (codewordLength p) v)) {t : Sums} (m : Summed p v t) where
   pub near-is : nearSyndromes p (t .first) (t .second) ≡ hasComponents p v
@@ -55,15 +55,16 @@ module _ (p : Parameters) (s : Sized p) {v : List ℕ} (w : T (isWord (p .q) (co
       check-changed b (m .weighs ∙ ap weight e ∙ c .weighs) (subst T (components-kept p v b y ∙ sym near-is) (c .near))
       (m .asked (not b) ∙ ap (checkSymbol (p .q) (not b)) e ∙ c .checks (not b) ∙ other-kept p v b y ∙ sym (m .arrived (not b)))
 
-  body-nearby : (i y : ℕ) → Placed p i → y < p .q → y ≢ getD v i 0 → T (codeword p (set v i y)) → Nearby p t v
-  body-nearby i y (placed b k l) a ne h =
+  body-nearby : (i y : ℕ) → OfParity p i → y < p .q → y ≢ getD v i 0 → T (codeword p (set v i y)) → Nearby p t v
+  body-nearby i y (of-parity b k l) a ne h =
       body-changed b k (unbalanced p s w m b k y l h a ne) (other-agrees p s w m b k y l h a ne) (own-disagrees p s w m b k y l h a ne) l
       (codeword-fit p s w m b k y l h a ne)
 
   pub none-nearby : OneNear p → (Nearby p t v → ⊥) → reading p v ≡ unreadable
+  unfolding mends
   none-nearby one none =
       reads-none p s one v w (λ h. none (sent-nearby h))
       (λ i y l a ne h.
-      none
-      (⊎-elim (λ j. body-nearby i y (place p i j) a ne h)
-      (λ (c : (b : Bool) × (i ≡ checkIndex p b)). check-nearby (c .0) y (subst (λ (j : ℕ). T (codeword p (set v j y))) (c .1) h)) (index-cases p i l)))
+      let check : (b : Bool) × (i ≡ checkIndex p b) → Nearby p t v =
+      λ c. check-nearby (c .0) y (subst (λ (j : ℕ). T (codeword p (set v j y))) (c .1) h) in
+      none (⊎-elim (λ j. body-nearby i y (in-parity p i j) a ne h) check (index-cases p i l)))

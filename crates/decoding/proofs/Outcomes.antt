@@ -5,7 +5,7 @@ use mathlib.Core.Path.{_≡_, sym, ap, ap₂, subst, _∙_}
 use mathlib.Core.Logic.{_≢_}
 use mathlib.Core.Bool.{Bool, true, false, not}
 use mathlib.Core.List.{List}
-use Prim.Native.Nat.{ℕ, _+_, _≤_, _<_}
+use Prim.Native.Nat.{ℕ, _≤_, _<_}
 use native.Mathlib.Nat.{mod-lt}
 use native.Mathlib.Omega.{arith}
 use lib.Dec.{T}
@@ -15,13 +15,13 @@ use Rattle.modular.specs.Sum.{weight}
 use Rattle.code.specs.Parameters.{Parameters, Sized, codewordLength}
 use Rattle.code.specs.Component.{isWord}
 use Rattle.code.specs.Codeword.{alpha, beta, body, carried}
-use Rattle.code.specs.Reading.{Finding, correctionAt, read, unreadable, clean, corrected, readAs, reading}
+use Rattle.code.specs.Reading.{Finding, correctionAt, read, unreadable, clean, corrected, readAs, mends, reading}
 use Rattle.code.specs.Claims.{OneNear}
 use Rattle.code.proofs.Columns.{q-positive}
 use Rattle.code.proofs.Merge.{word-length}
 use Rattle.decoding.specs.Syndromes.{nearSyndromes, index}
 use Rattle.decoding.specs.Decoded.{checkSymbol, checkIndex, Sums, target, balancingSymbol, nearAfter, fits, places, readBy, readFit, decodedCheck, movedSums, lack}
-use Rattle.decoding.proofs.Tests.{both}
+use Rattle.decoding.proofs.Tests.{for-both}
 use Rattle.decoding.proofs.Components.{read-by}
 use Rattle.decoding.proofs.Answers.{Tests, tests-codeword, reads-sent, reads-changed}
 use Rattle.decoding.proofs.Changed.{index-within, check-within, body-kept, other-kept, Summed, changed}
@@ -65,10 +65,10 @@ module _ (p : Parameters) (s : Sized p) (one : OneNear p) {v : List ℕ} (w : T 
   -- the check symbol that is wrong is the one that changed
   pub check-reading : (b : Bool) → t .weighs ≡ target p → T (nearSyndromes p (t .first) (t .second)) → t .asked (not b) ≡ t .arrived (not b)
       → t .asked b ≢ t .arrived b → reading p v ≡ decodedCheck p t b v
-  unfolding decodedCheck
+  unfolding decodedCheck mends
   check-reading b a n r ne =
       reads-changed p s one v w i y (check-within p b) (λ e. ne (e ∙ sym (m .arrived b))) (tests-codeword p u tests)
-      ∙ ap₂ (λ (c d : List ℕ). read (corrected (correctionAt i (getD v i 0) y)) c d) (carried-kept p v b y true) (carried-kept p v b y false)
+      ∙ ap₂ (read (corrected (correctionAt i (getD v i 0) y))) (carried-kept p v b y true) (carried-kept p v b y false)
       ∙ sym (read-here (corrected (correctionAt i (t .arrived b) y)) n)
     where
       i : ℕ
@@ -89,7 +89,7 @@ module _ (p : Parameters) (s : Sized p) (one : OneNear p) {v : List ℕ} (w : T 
             word = word-set p v i y w (rw (m .asked b) (check-below (p .q) (q-positive p s) b (body p v)));
             weighs = ap weight same-body ∙ sym (m .weighs) ∙ a;
             checks =
-                both b (λ c. checkSymbol (p .q) c (body p u) ≡ getD u (checkIndex p c) 0)
+                for-both b (λ c. checkSymbol (p .q) c (body p u) ≡ getD u (checkIndex p c) 0)
                 (ap (checkSymbol (p .q) b) same-body ∙ sym (m .asked b)
                 ∙ sym (getD-set-same v i y 0 (subst (λ (k : ℕ). i < k) (sym long) (check-within p b))))
                 (ap (checkSymbol (p .q) (not b)) same-body ∙ sym (m .asked (not b)) ∙ r ∙ m .arrived (not b) ∙ sym (other-kept p v b y));
@@ -99,11 +99,10 @@ module _ (p : Parameters) (s : Sized p) (one : OneNear p) {v : List ℕ} (w : T 
   -- an index that fits, whichever, is the one that changed
   pub fit-reading : (b : Bool) (k : ℕ) → k < places p b → t .weighs ≢ target p → t .asked (not b) ≡ t .arrived (not b)
       → T (fits p t b k (getD v (index b k) 0)) → reading p v ≡ readFit p t b k v
-  unfolding readFit nearAfter
+  unfolding readFit nearAfter mends
   fit-reading b k l a r f =
       reads-changed p s one v w i y inside differs (fit-codeword p s w m b k y l g r)
-      ∙ sym
-      (read-by p s (set v i y) (length-set v i y ∙ long) (moved .first) (moved .second) (corrected (correctionAt i (getD v i 0) y)) (g .near))
+      ∙ sym (read-by p s (set v i y) (length-set v i y ∙ long) (moved .first) (moved .second) found (g .near))
     where
       i : ℕ
       i = index b k
@@ -113,6 +112,9 @@ module _ (p : Parameters) (s : Sized p) (one : OneNear p) {v : List ℕ} (w : T 
 
       g : Fit p t b k (getD v i 0) y
       g = fit p t b k (getD v i 0) f
+
+      found : Finding
+      found = corrected (correctionAt i (getD v i 0) y)
 
       inside : i < codewordLength p
       inside = omega (arith, index-within p b k l)
@@ -125,51 +127,45 @@ module _ (p : Parameters) (s : Sized p) (one : OneNear p) {v : List ℕ} (w : T 
 
   -- Refusals.
 
-  refused : (Nearby p t v → ⊥) → reading p v ≡ unreadable
-  refused f = none-nearby p s w m one f
+  -- a balanced body, where it is not that the syndromes are near and a check symbol is right
+  balanced-refused : t .weighs ≡ target p → (T (nearSyndromes p (t .first) (t .second)) → (b : Bool) → t .asked b ≡ t .arrived b → ⊥)
+      → reading p v ≡ unreadable
+  balanced-refused a f = none-nearby p s w m one go
+    where
+      go : Nearby p t v → ⊥
+      go (as-sent x n h) = f n true (h true)
+      go (check-changed c x n h) = f n (not c) h
+      go (body-changed c k x h g l o) = x a
 
   pub far-refused : t .weighs ≡ target p → (T (nearSyndromes p (t .first) (t .second)) → ⊥) → reading p v ≡ unreadable
-  far-refused a f = refused go
-    where
-      go : Nearby p t v → ⊥
-      go (as-sent x n h) = f n
-      go (check-changed c x n h) = f n
-      go (body-changed c k x h g l o) = x a
+  far-refused a f = balanced-refused a (λ n b h. f n)
 
-  -- a balanced body with two wrong check symbols
+  -- two wrong check symbols
   pub checks-refused : t .weighs ≡ target p → ((b : Bool) → t .asked b ≢ t .arrived b) → reading p v ≡ unreadable
-  checks-refused a f = refused go
-    where
-      go : Nearby p t v → ⊥
-      go (as-sent x n h) = f true (h true)
-      go (check-changed c x n h) = f (not c) h
-      go (body-changed c k x h g l o) = x a
+  checks-refused a f = balanced-refused a (λ n b h. f b h)
 
-  -- an unbalanced body with two right ones, or two wrong ones
-  pub right-refused : t .weighs ≢ target p → ((b : Bool) → t .asked b ≡ t .arrived b) → reading p v ≡ unreadable
-  right-refused a f = refused go
+  -- no index of the parity b fits
+  abbrev Unfit : Bool → Type 0
+  Unfit b = (k : ℕ) → k < places p b → T (fits p t b k (getD v (index b k) 0)) → ⊥
+
+  -- an unbalanced body, where none does of a parity whose check symbol alone is wrong
+  unbalanced-refused : t .weighs ≢ target p → ((b : Bool) → t .asked (not b) ≡ t .arrived (not b) → t .asked b ≢ t .arrived b → Unfit b)
+      → reading p v ≡ unreadable
+  unbalanced-refused a f = none-nearby p s w m one go
     where
       go : Nearby p t v → ⊥
       go (as-sent x n h) = a x
       go (check-changed c x n h) = a x
-      go (body-changed c k x h g l o) = g (f c)
+      go (body-changed c k x h g l o) = f c h g k l o
+
+  -- two right check symbols, or two wrong ones
+  pub right-refused : t .weighs ≢ target p → ((b : Bool) → t .asked b ≡ t .arrived b) → reading p v ≡ unreadable
+  right-refused a f = unbalanced-refused a (λ b h g k l o. g (f b))
 
   pub wrong-refused : t .weighs ≢ target p → ((b : Bool) → t .asked b ≢ t .arrived b) → reading p v ≡ unreadable
-  wrong-refused a f = refused go
-    where
-      go : Nearby p t v → ⊥
-      go (as-sent x n h) = a x
-      go (check-changed c x n h) = a x
-      go (body-changed c k x h g l o) = f (not c) h
+  wrong-refused a f = unbalanced-refused a (λ b h g k l o. f (not b) h)
 
-  -- an unbalanced body where no index of the parity b fits and the other check symbol is right
-  pub unfit-refused : (b : Bool) → t .weighs ≢ target p → t .asked (not b) ≡ t .arrived (not b)
-      → ((k : ℕ) → k < places p b → T (fits p t b k (getD v (index b k) 0)) → ⊥) → reading p v ≡ unreadable
-  unfit-refused b a r f = refused go
-    where
-      go : Nearby p t v → ⊥
-      go (as-sent x n h) = a x
-      go (check-changed c x n h) = a x
-      go (body-changed c k x h g l o) =
-          both b (λ c. (k : ℕ) → t .asked c ≢ t .arrived c → k < places p c → T (fits p t c k (getD v (index c k) 0)) → ⊥) (λ k g l o. f k l o)
-          (λ k g l o. g r) c k g l o
+  -- the other check symbol is right
+  pub unfit-refused : (b : Bool) → t .weighs ≢ target p → t .asked (not b) ≡ t .arrived (not b) → Unfit b → reading p v ≡ unreadable
+  unfit-refused b a r f =
+      unbalanced-refused a (λ c h g. for-both b (λ c. t .asked c ≢ t .arrived c → Unfit c) (λ g. f) (λ g. absurd (g r)) c g)

@@ -20,8 +20,8 @@ pub false-test : {b : Bool} → b ≡ false → T b → ⊥
 false-test e t = subst T e t
 
 -- what holds of b and of the other holds of both
-pub both : (b : Bool) (P : Bool → Type 0) → P b → P (not b) → (c : Bool) → P c
-both true P h k true = h
-both true P h k false = k
-both false P h k true = k
-both false P h k false = h
+pub for-both : (b : Bool) (P : Bool → Type 0) → P b → P (not b) → (c : Bool) → P c
+for-both true P h k true = h
+for-both true P h k false = k
+for-both false P h k true = k
+for-both false P h k false = h

@@ -117,7 +117,9 @@ unfoldable pub readFit : Parameters → Sums → Bool → ℕ → List ℕ → R
 readFit p s b k v =
     let i : ℕ = index b k in
     let y : ℕ = balancingSymbol p s (getD v i 0) in
-    readBy p (corrected (correctionAt i (getD v i 0) y)) (set v i y) (movedOf p true b k (gain p s) (s .first)) (movedOf p false b k (gain p s) (s .second))
+    let S : List ℕ = movedOf p true b k (gain p s) (s .first) in
+    let S′ : List ℕ = movedOf p false b k (gain p s) (s .second) in
+    readBy p (corrected (correctionAt i (getD v i 0) y)) (set v i y) S S′
 
 -- one check symbol, b's, disagrees with an unbalanced body
 unfoldable pub decodedBody : Parameters → Sums → Bool → List ℕ → Reading

@@ -25,14 +25,14 @@ unfoldable pub zeroSyndrome : Parameters → List ℕ → Bool
 zeroSyndrome p S = allBelow (λ j. eqb (getD S j 0) 0) (p .r)
 
 -- the number whose k lowest digits in base q the list begins with
-abbrev pub value : ℕ → ℕ → List ℕ → ℕ
-value q zero l = 0
-value q (suc k) [] = 0
-value q (suc k) (x ∷ xs) = value q k xs * q + x
+abbrev pub fromDigits : ℕ → ℕ → List ℕ → ℕ
+fromDigits q zero l = 0
+fromDigits q (suc k) [] = 0
+fromDigits q (suc k) (x ∷ xs) = fromDigits q k xs * q + x
 
 -- the position that the digits name
 unfoldable pub columnPosition : Parameters → List ℕ → ℕ
-columnPosition p S = value (p .q) (p .r - 1) S
+columnPosition p S = fromDigits (p .q) (p .r - 1) S
 
 -- the last row is 1 and the digits name a position from 1 to n
 unfoldable pub columnSyndrome : Parameters → List ℕ → Bool
@@ -70,7 +70,8 @@ columnOf true b k = suc k
 columnOf false true k = k
 columnOf false false k = suc k
 
--- how often that column comes in by e more of the symbol, mod q: in the first component less at the odd positions, in the second at the even ones
+-- how often that column comes in by e more of the symbol, mod q: in the first component less at the odd positions, in the second at the
+-- even ones
 abbrev pub times : Parameters → Bool → Bool → ℕ → ℕ
 times p true true e = p .q - e
 times p true false e = e

@@ -18,7 +18,8 @@ length-digits q zero i = refl
 length-digits q (suc k) i = ap suc (length-digits q k (i / q))
 
 -- numbers below q^k with the same k digits are equal
-pub digits-injective : (q k i j : ℕ) → 1 ≤ q → i < q ^ k → j < q ^ k → ((e : ℕ) → e < k → getD (digits q k i) e 0 ≡ getD (digits q k j) e 0) → i ≡ j
+pub digits-injective : (q k i j : ℕ) → 1 ≤ q → i < q ^ k → j < q ^ k
+    → ((e : ℕ) → e < k → getD (digits q k i) e 0 ≡ getD (digits q k j) e 0) → i ≡ j
 digits-injective q zero i j h a b e = lt-one (rw pow-zero at a) ∙ sym (lt-one (rw pow-zero at b))
 digits-injective q (suc k) i j h a b e =
     let low : i % q ≡ j % q = e 0 (suc-le-suc zero-le) in
@@ -33,7 +34,8 @@ digits-below q (suc k) i zero h = mod-lt i h
 digits-below q (suc k) i (suc j) h = digits-below q k (i / q) j h
 
 -- the number that has the digits l
-pub digits-onto : (q : ℕ) (l : List ℕ) → ((j : ℕ) → j < length l → getD l j 0 < q) → (i : ℕ) × (i < q ^ length l) × (digits q (length l) i ≡ l)
+pub digits-onto : (q : ℕ) (l : List ℕ) → ((j : ℕ) → j < length l → getD l j 0 < q)
+    → (i : ℕ) × (i < q ^ length l) × (digits q (length l) i ≡ l)
 digits-onto q [] h = (0, rw pow-zero (suc-le-suc zero-le), refl)
 digits-onto q (x ∷ xs) h =
     let (i, l, e) = digits-onto q xs (λ j k. h (suc j) (suc-le-suc k)) in
@@ -45,8 +47,8 @@ pub digits-zero : (q k : ℕ) → digits q k 0 ≡ replicate k 0
 digits-zero q zero = refl
 digits-zero q (suc k) = rw (zero-mod, zero-div, digits-zero q k)
 
-pub digits-small : (q k i : ℕ) → i < q → digits q (suc k) i ≡ i ∷ replicate k 0
-digits-small q k i h = rw (mod-eq-of-lt h, div-eq-of-lt h, digits-zero q k)
+pub digits-single : (q k i : ℕ) → i < q → digits q (suc k) i ≡ i ∷ replicate k 0
+digits-single q k i h = rw (mod-eq-of-lt h, div-eq-of-lt h, digits-zero q k)
 
 -- The digits of the next number.
 
@@ -64,7 +66,7 @@ digits-carry q k i some h =
 
 pub digits-power : (q k j : ℕ) → 2 ≤ q → digits q k (q ^ j) ≡ set (replicate k 0) j 1
 digits-power q zero j h = refl
-digits-power q (suc k) zero h = rw pow-zero (digits-small q k 1 h)
+digits-power q (suc k) zero h = rw pow-zero (digits-single q k 1 h)
 digits-power q (suc k) (suc j) h =
     let p : 0 < q = omega arith in
     rw (pow-suc, mul-mod-left, mul-div-cancel, digits-power q k j h)

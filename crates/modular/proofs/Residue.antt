@@ -1,9 +1,9 @@
 -- Laws of numbers that agree mod q.
 -- Assumes nothing.
-use mathlib.Core.Path.{_≡_, refl, sym, ap, _∙_}
+use mathlib.Core.Path.{_≡_, refl, sym, ap, ap₂, _∙_}
 use mathlib.Core.Bool.{Bool, true, false, cond}
 use Prim.Native.Nat.{ℕ, zero, suc, _+_, _-_, _*_, _/_, _%_, _≤_, _<_, zero-le, suc-le-suc}
-use native.Mathlib.Nat.{add-mod, mod-mod, mod-eq-of-lt, add-mul-mod-self-right, mod-add-div', mod-lt, mod-zero, mul-comm, mul-assoc, mul-add, mul-one, pos-of-ne-zero, not-suc-le-zero, le-trans, le-refl}
+use native.Mathlib.Nat.{add-mod, mod-mod, mod-eq-of-lt, add-mul-mod-self-right, mod-add-div', mod-lt, mod-zero, mul-comm, mul-one, pos-of-ne-zero, not-suc-le-zero, le-trans, le-refl}
 use borrow.Author.Tests.{ltb-true, ltb-false}
 use native.Mathlib.Omega.{arith}
 use lib.Dec.{ltb}
@@ -27,20 +27,21 @@ pub reduce : (q a : ℕ) → Congruent q (a % q) a
 reduce q a = record { same = mod-mod a q }
 
 pub add : {q a b c d : ℕ} → Congruent q a b → Congruent q c d → Congruent q (a + c) (b + d)
-add {q} {a} {b} {c} {d} h k = record { same = add-mod a c q ∙ ap (λ (x : ℕ). (x + c % q) % q) (h .same) ∙ ap (λ (x : ℕ). (b % q + x) % q) (k .same) ∙ sym (add-mod b d q) }
+add {q} {a} {b} {c} {d} h k =
+    record { same = add-mod a c q ∙ ap₂ (λ (x y : ℕ). (x + y) % q) (h .same) (k .same) ∙ sym (add-mod b d q) }
 
 -- a multiple of q more
 pub multiple : (q a k : ℕ) → Congruent q (a + k * q) a
 multiple q a k = record { same = add-mul-mod-self-right a k q }
 
 -- a number is its remainder and a multiple
-pub split : (q a : ℕ) → a ≡ a % q + a / q * q
-split q a = sym (mod-add-div' a q)
+pub div-split : (q a : ℕ) → a ≡ a % q + a / q * q
+div-split q a = sym (mod-add-div' a q)
 
 scale-mod : (q k a : ℕ) → Congruent q (k * a) (k * (a % q))
 scale-mod q k a =
-    of-eq (ap (λ (x : ℕ). k * x) (split q a) ∙ mul-add k (a % q) (a / q * q) ∙ ap (λ (x : ℕ). k * (a % q) + x) (sym (mul-assoc k (a / q) q)))
-    then multiple q (k * (a % q)) (k * (a / q))
+    let e : k * (a % q + a / q * q) ≡ k * (a % q) + k * (a / q) * q = omega arith in
+    of-eq (ap (λ (x : ℕ). k * x) (div-split q a) ∙ e) then multiple q (k * (a % q)) (k * (a / q))
 
 pub scale : {q a b : ℕ} (k : ℕ) → Congruent q a b → Congruent q (k * a) (k * b)
 scale {q} {a} {b} k h = scale-mod q k a then of-eq (ap (λ (x : ℕ). k * x) (h .same)) then symm (scale-mod q k b)
@@ -82,12 +83,13 @@ unfolding minus
 minus-below q a b h = remainder-below (pos a -ℤ pos b) q h
 
 -- a - b + b is a
-below-case : (q a b : ℕ) → 1 ≤ q → (t : Bool) → ltb a (suc b) ≡ t → Congruent q (remainder (cond t (negsuc (suc b - suc a)) (pos (a - suc b))) q + suc b) a
+below-case : (q a b : ℕ) → 1 ≤ q → (t : Bool) → ltb a (suc b) ≡ t
+    → Congruent q (remainder (cond t (negsuc (suc b - suc a)) (pos (a - suc b))) q + suc b) a
 below-case q a b h true e =
     let k : a < suc b = ltb-true a (suc b) e in
     let d : ℕ = suc b - suc a in
     let m : d % q < q = mod-lt d h in
-    let f : (q - (d % q + 1)) + suc b ≡ a + suc (d / q) * q = omega (arith, split q d) in
+    let f : (q - (d % q + 1)) + suc b ≡ a + suc (d / q) * q = omega (arith, div-split q d) in
     of-eq f then multiple q a (suc (d / q))
 below-case q a b h false e =
     let k : suc b ≤ a = ltb-false a (suc b) e in
@@ -109,8 +111,8 @@ minus-is q a b h k =
     (cancel b (add (reduce q (a + (q - b))) (same b) then of-eq e then multiple q a 1 then symm (minus-add q a b h)))
 
 -- a number below q is its own remainder, and one below twice q is once it is less by q
-pub kept : {q s : ℕ} → s < q → (s ≡ s % q) × (s < q)
-kept h = (sym (mod-eq-of-lt h), h)
+pub already-reduced : {q s : ℕ} → s < q → (s ≡ s % q) × (s < q)
+already-reduced h = (sym (mod-eq-of-lt h), h)
 
 pub wrapped : {q s : ℕ} → q ≤ s → s < q + q → (s - q ≡ s % q) × (s - q < q)
 wrapped {q} {s} h l =
@@ -139,7 +141,10 @@ inverse-upto {q} p (suc k) (suc (suc d)) l h b =
     let some : 0 < q % e = pos-of-ne-zero (p .no-divisor e (suc-le-suc (suc-le-suc zero-le)) b) in
     let u : Invertible q (q % e) = inverse-upto p k (q % e) (omega arith) some (omega arith) in
     let one : suc (q - 1) ≡ q = omega arith in
-    record { inverse = (q - 1) * (q / e) * u .inverse; product = inverse-step (q - 1) (q / e) e (q % e) (u .inverse) one (mod-add-div' q e) (u .product) }
+    record {
+      inverse = (q - 1) * (q / e) * u .inverse;
+      product = inverse-step (q - 1) (q / e) e (q % e) (u .inverse) one (mod-add-div' q e) (u .product);
+    }
 
 pub prime-inverse : {q : ℕ} → Prime q → (e : ℕ) → 0 < e → e < q → Invertible q e
 prime-inverse p e h k = inverse-upto p e e (le-refl e) h k

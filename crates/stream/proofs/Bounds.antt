@@ -3,12 +3,11 @@
 use mathlib.Core.Path.{_≡_, refl, subst}
 use mathlib.Core.Bool.{Bool, true, false, _&&_}
 use mathlib.Core.List.{List, [], _∷_}
-use Prim.Native.Nat.{ℕ, zero, suc, _+_, _≤_, _<_, zero-le}
+use Prim.Native.Nat.{ℕ, zero, suc, _≤_, _<_, zero-le}
 use native.Mathlib.Nat.{le-trans}
 use native.Mathlib.Numerals.{add-one}
 use lib.Dec.{lit≤, T, leb, ltb, eqb, leb→le, eqb→eq}
-use lib.ListN.{length, drop, set, getD}
-use lib.Seq.{getD-drop}
+use lib.ListN.{length, set, getD}
 use borrow.Author.Tests.{ltb-true}
 use Rattle.modular.specs.Search.{allBelow}
 use Rattle.modular.proofs.Search.{and-left, and-right, least-le}
@@ -16,21 +15,17 @@ use Rattle.modular.proofs.Residue.{minus-below}
 use Rattle.code.specs.Parameters.{Parameters, messageLength, codewordLength}
 use Rattle.code.specs.Refusal.{Test, firstRefusal}
 use Rattle.code.specs.Component.{Below, message, inCode}
-use Rattle.code.specs.Balance.{difference}
+use Rattle.code.specs.Balance.{differences}
 use Rattle.code.specs.Codeword.{alternate, received, restored, carried, codeword, body}
-use Rattle.code.specs.Reading.{Finding, correctionAt, clean, corrected, correction, Reading, read, unreadable, readAs, reading, nearReading, changedAt, sentAt}
+use Rattle.code.specs.Reading.{Finding, correctionAt, clean, corrected, correction, Reading, read, unreadable, readAs, reading, nearReading, mends, changedAt, sentAt}
 use Rattle.code.specs.Profiles.{profiles, isProfile, profile}
 use Rattle.code.specs.Operations.{Answer, refused, answered, decodeTests, readUnless, decodeAnswer}
 use Rattle.code.proofs.Refusal.{AllPass, passed-every, number-most}
+use Rattle.code.proofs.Weights.{differences-below}
 use Rattle.code.proofs.Merge.{cases, below-keep}
 use Rattle.code.proofs.Profiles.{every-profile}
 
 -- The symbols of a message are below q.
-
-below-difference : (q : ℕ) → 1 ≤ q → (a : ℕ) (w : List ℕ) → Below q (difference q a w)
-below-difference q h a [] i = h
-below-difference q h a (x ∷ w) zero = minus-below q x a h
-below-difference q h a (x ∷ w) (suc i) = below-difference q h x w i
 
 below-alternate : (q : ℕ) (b : Bool) (z : List ℕ) → Below q z → Below q (alternate b z)
 below-alternate q b [] h i = h i
@@ -55,8 +50,7 @@ unfolding carried message received
 below-carried p h b u =
     below-keep (p .q) _ (restored p (received p b u))
     (below-restored p h (received p b u)
-    (below-alternate (p .q) b (drop 1 (difference (p .q) 0 (body p u)))
-    (λ i. rw getD-drop (below-difference (p .q) h 0 (body p u) (1 + i)))))
+    (below-alternate (p .q) b (differences p (body p u)) (differences-below p h (body p u))))
 
 -- A reading.
 
@@ -75,7 +69,7 @@ near-small p h u =
     (λ e.
     rw (e, nearReading)
     (read-as p h (corrected (correctionAt (changedAt p u) (getD u (changedAt p u) 0) (sentAt p u (changedAt p u)))) (length u) _ (rw add-one (ltb-true (changedAt p u) (length u) e))
-    (least-le (λ y. codeword p (set u (changedAt p u) y)) (p .q)))) (λ e. rw (e, nearReading) tt)
+    (least-le (mends p u (changedAt p u)) (p .q)))) (λ e. rw (e, nearReading) tt)
 
 reading-small : (p : Parameters) → 1 ≤ p .q → (u : List ℕ) → SmallReading (length u) (p .q) (reading p u)
 unfolding reading

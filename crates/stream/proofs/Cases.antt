@@ -4,8 +4,8 @@ use mathlib.Core.Path.{refl}
 use Rattle.modular.specs.Residue.{minus}
 use Rattle.code.specs.Parameters.{balancingValue, delta}
 use Rattle.code.specs.Component.{syndrome, inCode, message, isCheck}
-use Rattle.code.specs.Codeword.{alpha, beta, body, received, nearCode, restored, isBalanced, hasChecks, hasComponents, codeword, carried}
-use Rattle.code.specs.Reading.{changedAt, sentAt, nearReading, reading}
+use Rattle.code.specs.Codeword.{alpha, beta, body, received, nearCode, restored, isBalanced, hasChecks, nearComponents, hasComponents, codeword, carried}
+use Rattle.code.specs.Reading.{mends, changedAt, sentAt, nearReading, reading}
 use Rattle.code.specs.Profiles.{profile}
 use Rattle.code.specs.Operations.{decodeAnswer}
 use Rattle.stream.specs.Line.{hasForm, decimal, refusalLine, readingLine, readAnswer, lineAnswer}
@@ -13,5 +13,5 @@ use Rattle.stream.specs.Stream.{streamOutput}
 use Rattle.stream.specs.Cases.{AllPrint, cases}
 
 pub cases-print : AllPrint cases
-unfolding minus balancingValue delta syndrome inCode isCheck message alpha beta body received nearCode restored isBalanced hasChecks hasComponents codeword carried changedAt sentAt nearReading reading profile decodeAnswer hasForm decimal refusalLine readingLine readAnswer lineAnswer streamOutput
+unfolding minus balancingValue delta syndrome inCode isCheck message alpha beta body received nearCode restored isBalanced hasChecks nearComponents hasComponents codeword carried mends changedAt sentAt nearReading reading profile decodeAnswer hasForm decimal refusalLine readingLine readAnswer lineAnswer streamOutput
 cases-print = (refl, (refl, (refl, (refl, (refl, (refl, (refl, (refl, (refl, tt)))))))))

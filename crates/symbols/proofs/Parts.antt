@@ -8,10 +8,10 @@ use native.Mathlib.Nat.{min-le-left}
 use native.Mathlib.Omega.{arith}
 use lib.ListN.{length, getD, take, drop, length-take, length-drop}
 use lib.Seq.{getD-take, getD-drop, length-take-le}
-use Rattle.code.proofs.Weights.{double, double-is}
+use Rattle.code.proofs.Weights.{double, double-is, length-alternate}
 use Rattle.code.proofs.Alternate.{first-at, second-at}
 use Rattle.symbols.specs.Syndromes.{part}
-use Rattle.symbols.proofs.Words.{length-alternate, size-alternate}
+use Rattle.symbols.proofs.Words.{alternate-most}
 
 pub part-first : (n : ℕ) (x : List ℕ) (i : ℕ) → i < n → getD (part true n x) i 0 ≡ getD x (2 * i + 1) 0
 part-first n x i h =
@@ -29,9 +29,10 @@ part-second n x i h =
 pub part-length : (b : Bool) (n : ℕ) (x : List ℕ) → length (part b n x) ≤ n
 part-length b n x =
     let few : length (take (2 * n + 1) x) ≤ 2 * n + 1 = rw length-take (min-le-left (2 * n + 1) (length x)) in
-    length-alternate b n (drop 1 (take (2 * n + 1) x)) (omega (arith, length-drop 1 (take (2 * n + 1) x)))
+    alternate-most b n (drop 1 (take (2 * n + 1) x)) (omega (arith, length-drop 1 (take (2 * n + 1) x)))
 
 -- and n of them where the word has as many
 pub part-size : (b : Bool) (n : ℕ) (x : List ℕ) → 2 * n + 1 ≤ length x → length (part b n x) ≡ n
 part-size b n x h =
-    size-alternate b n (drop 1 (take (2 * n + 1) x)) (omega (arith, length-drop 1 (take (2 * n + 1) x), length-take-le (2 * n + 1) x h))
+    length-alternate n b (drop 1 (take (2 * n + 1) x))
+    (omega (arith, length-drop 1 (take (2 * n + 1) x), length-take-le (2 * n + 1) x h, double-is n))

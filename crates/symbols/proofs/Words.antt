@@ -28,18 +28,10 @@ zeros-at zero k = refl
 zeros-at (suc m) zero = refl
 zeros-at (suc m) (suc k) = zeros-at m k
 
-pub length-alternate : (b : Bool) (k : ℕ) (c : List ℕ) → length c ≤ 2 * k → length (alternate b c) ≤ k
-length-alternate b k [] h = zero-le
-length-alternate b zero (x ∷ c) h = absurd (omega arith)
-length-alternate true (suc k) (x ∷ []) h = omega arith
-length-alternate false (suc k) (x ∷ []) h = zero-le
-length-alternate true (suc k) (x ∷ y ∷ c) h = omega (arith, length-alternate true k c (omega arith))
-length-alternate false (suc k) (x ∷ y ∷ c) h = omega (arith, length-alternate false k c (omega arith))
-
-pub size-alternate : (b : Bool) (k : ℕ) (c : List ℕ) → length c ≡ 2 * k → length (alternate b c) ≡ k
-size-alternate b zero [] h = refl
-size-alternate b (suc k) [] h = absurd (omega arith)
-size-alternate b zero (x ∷ c) h = absurd (omega arith)
-size-alternate b (suc k) (x ∷ []) h = absurd (omega arith)
-size-alternate true (suc k) (x ∷ y ∷ c) h = omega (arith, size-alternate true k c (omega arith))
-size-alternate false (suc k) (x ∷ y ∷ c) h = omega (arith, size-alternate false k c (omega arith))
+pub alternate-most : (b : Bool) (k : ℕ) (c : List ℕ) → length c ≤ 2 * k → length (alternate b c) ≤ k
+alternate-most b k [] h = zero-le
+alternate-most b zero (x ∷ c) h = absurd (omega arith)
+alternate-most true (suc k) (x ∷ []) h = omega arith
+alternate-most false (suc k) (x ∷ []) h = zero-le
+alternate-most true (suc k) (x ∷ y ∷ c) h = omega (arith, alternate-most true k c (omega arith))
+alternate-most false (suc k) (x ∷ y ∷ c) h = omega (arith, alternate-most false k c (omega arith))

@@ -9,13 +9,14 @@ use lib.ListN.{getD, take, drop}
 use Rattle.modular.specs.Sum.{weight, dot}
 use Rattle.code.specs.Parameters.{Parameters}
 use Rattle.code.specs.Codeword.{alternate}
+use Rattle.code.specs.Profiles.{row}
 use Rattle.symbols.specs.declared.syndromes.Sums.{Sums}
 use Rattle.symbols.specs.declared.syndromes.Syndrome.{Syndrome}
 use Rattle.symbols.specs.Remainder.{residue}
 
 -- q levels and n positions, with three digit rows and the row of ones
 abbrev pub fourRows : ℕ → ℕ → Parameters
-fourRows q n = record { q = q; r = 4; n = n }
+fourRows q n = row q 4 n
 
 -- the rows in their order
 abbrev pub rows : Syndrome → List ℕ

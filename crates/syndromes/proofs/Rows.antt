@@ -9,7 +9,7 @@ use native.Mathlib.Omega.{arith}
 use lib.Dec.{eqb, leb, eqb→eq, leb→le, le→leb}
 use lib.ListN.{getD}
 use Rattle.modular.proofs.Search.{fails, same-test, all-at}
-use Rattle.decoding.specs.Syndromes.{value, zeroSyndrome, columnPosition, columnSyndrome}
+use Rattle.decoding.specs.Syndromes.{fromDigits, zeroSyndrome, columnPosition, columnSyndrome}
 use Rattle.decoding.proofs.Near.{named, named-test}
 use Rattle.symbols.specs.Syndromes.{fourRows}
 use Rattle.syndromes.specs.FourRows.{zeroRows}
@@ -33,14 +33,14 @@ pub zero-by : (q n : ℕ) (S : List ℕ) {b c : Bool} → b ≡ zeroRows S → b
 unfolding zeroSyndrome zeroRows
 zero-by q n S e f = sym e ∙ f
 
-pub position-is : (q a b c d : ℕ) → (c * q + b) * q + a ≡ value q 3 (a ∷ b ∷ c ∷ d ∷ [])
+pub position-is : (q a b c d : ℕ) → (c * q + b) * q + a ≡ fromDigits q 3 (a ∷ b ∷ c ∷ d ∷ [])
 position-is q a b c d = omega arith
 
 module _ (q n : ℕ) (S : List ℕ) where
   pub column-none : getD S 3 0 ≢ 1 → false ≡ columnSyndrome (fourRows q n) S
   column-none z = sym (fails (λ h. z (named (fourRows q n) S h .last)))
 
-  module _ {at : ℕ} (e : at ≡ value q 3 S) where
+  module _ {at : ℕ} (e : at ≡ fromDigits q 3 S) where
     is-position : at ≡ columnPosition (fourRows q n) S
     unfolding columnPosition
     is-position = e

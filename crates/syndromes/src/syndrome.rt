@@ -2,7 +2,7 @@
 use symbols::Syndrome;
 ghost use mathlib.Core.Path.{_≡_};
 ghost use Prim.Native.Nat.{_≤_};
-ghost use Rattle.decoding.specs.Syndromes.{value, columnSyndrome, nearSyndromes};
+ghost use Rattle.decoding.specs.Syndromes.{fromDigits, columnSyndrome, nearSyndromes};
 ghost use Rattle.symbols.specs.Syndromes.{fourRows, rows};
 ghost use Rattle.syndromes.specs.FourRows.{zeroRows};
 
@@ -31,7 +31,7 @@ pub fn is_zero(s: Syndrome) -> bool
 
 // The position that the digits name.
 pub fn position(q: u8, s: Syndrome) -> usize
-    ensures { λ i. ⌜ i ≡ value q 3 (rows s) ⌝ }
+    ensures { λ i. ⌜ i ≡ fromDigits q 3 (rows s) ⌝ }
 {
     let levels = wide(q);
     (wide(s.high) * levels + wide(s.middle)) * levels + wide(s.low)

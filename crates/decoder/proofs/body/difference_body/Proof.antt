@@ -3,18 +3,20 @@
 use native.Mathlib.Omega.{arith}
 use denote.Ref.{now}
 use Prim.Native.Nat.{_-_, _≤_}
-use lib.ListN.{take}
-use Rattle.code.specs.Balance.{difference}
+use mathlib.Core.List.{_∷_}
+use lib.ListN.{getD, take}
+use Rattle.code.specs.Balance.{differences}
+use Rattle.profiles.specs.Row.{parameters}
 use Rattle.decoder.proofs.Copying.{Copied, differenced-first, differenced-more, differenced-all}
 use borrow.Author.Needs.{needs}
 use Rattle.decoder.proofs.body.difference_body.Statement.{statement}
 use Rattle.decoder.proofs.body.difference_body.Tie as tie
 
 abbrev Inv-loop : tie.InvT-loop
-Inv-loop w x₀ q m i₀ x i = (1 ≤ i) × Copied (difference q 0 (take m w)) x m i
+Inv-loop row w x₀ m i₀ x i = (1 ≤ i) × Copied (getD w 0 0 ∷ differences (parameters row) (take m w)) x m i
 
 abbrev μ-loop : tie.MeasureT-loop
-μ-loop w x₀ q m i₀ x i = m - i
+μ-loop row w x₀ m i₀ x i = m - i
 
 element-copy-out-x : tie.Need-element-copy-out-x Inv-loop μ-loop
 element-copy-out-x c = search needs
@@ -25,20 +27,20 @@ element-write-x c = search needs
 loop-holds : tie.Need-loop-holds Inv-loop μ-loop
 loop-holds c = (search needs, differenced-first (c .before .pre .0) (now (c .before .args .x)) (c .before .pre .1))
 
-element-copy-out-sub : tie.Need-element-copy-out-sub Inv-loop μ-loop
-element-copy-out-sub c = search needs
+sub-neighbour-difference : tie.Need-sub-neighbour-difference Inv-loop μ-loop
+sub-neighbour-difference c = search needs
 
-sub-sub : tie.Need-sub-sub Inv-loop μ-loop
-sub-sub c = search needs
+element-copy-out-neighbour-difference : tie.Need-element-copy-out-neighbour-difference Inv-loop μ-loop
+element-copy-out-neighbour-difference c = search needs
 
-element-copy-out-sub-2 : tie.Need-element-copy-out-sub-2 Inv-loop μ-loop
-element-copy-out-sub-2 c = search needs
+element-copy-out-neighbour-difference-2 : tie.Need-element-copy-out-neighbour-difference-2 Inv-loop μ-loop
+element-copy-out-neighbour-difference-2 c = search needs
 
-sub-requires : tie.Need-sub-requires Inv-loop μ-loop
-sub-requires c κs =
+neighbour-difference-requires : tie.Need-neighbour-difference-requires Inv-loop μ-loop
+neighbour-difference-requires c κs =
     let b = c .before .before .before .before .before .pre .0 in
     let l = c .before .before .loop-test .taken in
-    (b .below _ l, b .below _ (omega (arith, l)), b .valid .levels)
+    (b .below _ (omega (arith, l)), b .below _ l, b .valid .levels)
 
 element-write-x-2 : tie.Need-element-write-x-2 Inv-loop μ-loop
 element-write-x-2 c = search needs
@@ -50,7 +52,10 @@ loop-less : tie.Need-loop-less Inv-loop μ-loop
 loop-less c = search needs
 
 loop-again : tie.Need-loop-again Inv-loop μ-loop
-loop-again c = let e = c .before .before .before .before .loop .inv in (search needs, differenced-more (c .before .before .before .before .before .before .pre .0) (e .1) (e .0) (c .before .before .before .loop-test .taken) (c .sub .ensures .0))
+loop-again c =
+    let at = c .before .before .before in
+    let looped = at .before .loop .inv in
+    (search needs, differenced-more (at .before .before .before .pre .0) (looped .1) (looped .0) (at .loop-test .taken) (c .neighbour-difference .ensures .0))
 
 returns : tie.Need-returns Inv-loop μ-loop
 returns c = differenced-all (c .before .before .before .pre .0) (c .before .loop .inv .1) (c .loop-test .left)
@@ -64,10 +69,10 @@ difference-body-spec =
     element-copy-out-x
     element-write-x
     loop-holds
-    element-copy-out-sub
-    sub-sub
-    element-copy-out-sub-2
-    sub-requires
+    sub-neighbour-difference
+    element-copy-out-neighbour-difference
+    element-copy-out-neighbour-difference-2
+    neighbour-difference-requires
     element-write-x-2
     add-i
     loop-less

@@ -1,7 +1,7 @@
 -- `decoder::residue::add` meets its contract: a sum of two symbols is below twice q.
 -- Assumes nothing.
 use native.Mathlib.Omega.{arith}
-use Rattle.modular.proofs.Residue.{kept, wrapped}
+use Rattle.modular.proofs.Residue.{already-reduced, wrapped}
 use borrow.Author.Needs.{needs}
 use Rattle.decoder.proofs.residue.add.Statement.{statement}
 use Rattle.decoder.proofs.residue.add.Tie as tie
@@ -10,7 +10,7 @@ add-sum : tie.Need-add-sum
 add-sum c = search needs
 
 returns : tie.Need-returns
-returns c = kept (c .if1 .taken)
+returns c = already-reduced (c .if1 .taken)
 
 returns-2 : tie.Need-returns-2
 returns-2 c = let s = c .before .pre in wrapped (c .if1 .left) (omega (arith, s .0, s .1))
