@@ -17,7 +17,8 @@ use Rattle.code.specs.Profiles.{isProfile, profile}
 use Rattle.code.proofs.Refusal.{AllPass, stops, kept}
 use Rattle.sheet.specs.Layout.{cellSize, isQueueLength, firstFree}
 use Rattle.sheet.specs.Sound.{isBox, sound, Queue}
-use Rattle.sheet.specs.Operations.{formatAnswer, formatQueue, enqueueAnswer, enqueueQueue, cellOf, peekAnswer, peekOutput, dequeueAnswer, dequeueQueue, dequeueOutput}
+use Rattle.sheet.specs.Operations.{formatAnswer, formatQueue, enqueueAnswer, enqueueQueue, cellOf, peekAnswer, peekOutput, dequeueAnswer}
+use Rattle.sheet.specs.Operations.{dequeueQueue, dequeueOutput}
 use Rattle.sheet.specs.Allowed.{EnqueueAllows, PeekAllows}
 use Rattle.queue.specs.Claims.{EnqueueRefuses, ShowRefuses, Refusals}
 

@@ -12,7 +12,7 @@ use Rattle.modular.specs.Search.{allBelow}
 use Rattle.modular.proofs.Search.{same-test, all-at, all-of}
 use Rattle.code.proofs.Distance.{equal-or-not}
 use Rattle.sheet.specs.Lists.{zeros, bit, count}
-use Rattle.sheet.specs.Layout.{next}
+use Rattle.sheet.specs.Layout.{nextCell}
 use Rattle.sheet.specs.Chains.{chain}
 use Rattle.sheet.specs.Sound.{eachOnce}
 use Rattle.sheet.proofs.Counts.{bit-same, bit-other, count-append}
@@ -48,7 +48,7 @@ tally-le (c ∷ l) t i = omega (arith, tally-one t c i, tally-le l (set t c (get
 length-chain : (s : List ℕ) (n i : ℕ) → length (chain s n i) ≤ n
 length-chain s zero i = omega arith
 length-chain s (suc n) zero = omega arith
-length-chain s (suc n) (suc i) = omega (arith, length-chain s n (next s (suc i)))
+length-chain s (suc n) (suc i) = omega (arith, length-chain s n (nextCell s (suc i)))
 
 -- the table before any cell has been met
 unfoldable pub noneSeen : List ℕ

@@ -18,7 +18,8 @@ use Rattle.code.specs.Refusal.{Test, firstRefusal}
 use Rattle.code.specs.Component.{Below, message, inCode}
 use Rattle.code.specs.Balance.{difference}
 use Rattle.code.specs.Codeword.{alternate, received, restored, carried, codeword, body}
-use Rattle.code.specs.Reading.{Finding, correctionAt, clean, corrected, correction, Reading, read, unreadable, readAs, reading, nearReading, changedAt, sentAt}
+use Rattle.code.specs.Reading.{Finding, correctionAt, clean, corrected, correction, Reading, read, unreadable, readAs, reading, nearReading}
+use Rattle.code.specs.Reading.{changedAt, sentAt}
 use Rattle.code.specs.Profiles.{profiles, isProfile, profile}
 use Rattle.code.specs.Operations.{Answer, refused, answered, decodeTests, readUnless, decodeAnswer}
 use Rattle.code.proofs.Refusal.{AllPass, passed-every, number-most}

@@ -13,7 +13,8 @@ use lib.Seq.{take-add}
 use borrow.Author.Tests.{le-leb, lt-leb, eq-eqb, ne-eqb}
 use Rattle.modular.proofs.Search.{le-or-lt}
 use Rattle.code.proofs.Merge.{cases}
-use Rattle.stream.specs.Feed.{Partial, held, tooLong, Model, lineAfter, answerAfter, feedFrom, feed, finishing, isDone, lineAfterAll, lineEnds, lastLines, linesFinished}
+use Rattle.stream.specs.Feed.{Partial, held, tooLong, Model, lineAfter, answerAfter, feedFrom, feed, finishing, isDone, lineAfterAll}
+use Rattle.stream.specs.Feed.{lineEnds, lastLines, linesFinished}
 use Rattle.stream.proofs.Feed.{feed-on, feed-stop}
 use Rattle.stream.proofs.Cutting.{finish-on, finish-stop, done-reaches}
 

@@ -12,7 +12,8 @@ use Rattle.code.specs.Profiles.{profile}
 use Rattle.code.specs.Refusal.{firstRefusal}
 use Rattle.code.specs.Operations.{Answer, refused, answered, readUnless}
 use Rattle.code.proofs.Merge.{cases}
-use Rattle.stream.specs.Line.{digit, decimalBefore, decimal, letter, refusalLine, readingLine, answerLine, profileOf, symbolsOf, lineTests, lineAnswer}
+use Rattle.stream.specs.Line.{digit, decimalBefore, decimal, letter, refusalLine, readingLine, answerLine, profileOf, symbolsOf}
+use Rattle.stream.specs.Line.{lineTests, lineAnswer}
 use Rattle.stream.specs.Feed.{Partial, held, tooLong, answerTo, answerAtEnd, lineAfterAll, lineEnds, lastLines}
 use Rattle.stream.specs.Claims.{OneAnswerEach}
 use Rattle.stream.proofs.Whole.{outputFrom, output-whole, line-ends, line-grows}

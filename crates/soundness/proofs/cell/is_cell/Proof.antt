@@ -10,11 +10,11 @@ use lib.ListN.{length}
 use denote.Ref.{now}
 use borrow.Author.Needs.{needs}
 use borrow.Author.Tests.{le-leb, lt-leb}
-use Rattle.sheet.specs.Layout.{cellSize, bodySize, capacity, body}
+use Rattle.sheet.specs.Layout.{cellSize, bodySize, capacity, cellBody}
 use Rattle.sheet.specs.Sound.{isBody, isCell, isRecord}
 use Rattle.sheet.specs.Lists.{allZero}
 use Rattle.sheet.proofs.Lists.{size-of}
-use Rattle.cells.proofs.Bytes.{part}
+use Rattle.cells.proofs.Bytes.{lent-part}
 use Rattle.soundness.proofs.Conditions.{off, on}
 use Rattle.soundness.proofs.cell.is_cell.Statement.{statement}
 use Rattle.soundness.proofs.cell.is_cell.Tie as tie
@@ -37,7 +37,7 @@ unfolding isCell
 returns c =
     let s = Q (c .before) in
     let a = c .before .before .before .args in
-    off (leb (a .cell) (capacity s)) (isBody (a .used) (body s (a .cell)))
+    off (leb (a .cell) (capacity s)) (isBody (a .used) (cellBody s (a .cell)))
     (lt-leb _ _ (subst (λ (n : ℕ). n < a .cell) (c .before .capacity .ensures) (c .if1 .taken)))
 
 mul-a : tie.Need-mul-a
@@ -70,9 +70,9 @@ returns-2 c =
     let e = c .before .before .before in
     let a = e .before .before .before .args in
     let s = now (a .queue) in
-    let r : c .is-record .result ≡ isRecord (body s (a .cell)) =
-    c .is-record .ensures ∙ ap isRecord (part s (a .cell * cellSize + 1) bodySize) in
-    rw (c .before .if2 .taken) (on (leb (a .cell) (capacity s)) (isRecord (body s (a .cell))) (c .is-record .result) (in-queue e) r)
+    let r : c .is-record .result ≡ isRecord (cellBody s (a .cell)) =
+    c .is-record .ensures ∙ ap isRecord (lent-part s (a .cell * cellSize + 1) bodySize) in
+    rw (c .before .if2 .taken) (on (leb (a .cell) (capacity s)) (isRecord (cellBody s (a .cell))) (c .is-record .result) (in-queue e) r)
 
 returns-3 : tie.Need-returns-3
 unfolding isCell
@@ -80,9 +80,9 @@ returns-3 c =
     let e = c .before .before .before in
     let a = e .before .before .before .args in
     let s = now (a .queue) in
-    let r : c .all-zero .result ≡ allZero (body s (a .cell)) =
-    c .all-zero .ensures ∙ ap allZero (part s (a .cell * cellSize + 1) bodySize) in
-    rw (c .before .if2 .left) (on (leb (a .cell) (capacity s)) (allZero (body s (a .cell))) (c .all-zero .result) (in-queue e) r)
+    let r : c .all-zero .result ≡ allZero (cellBody s (a .cell)) =
+    c .all-zero .ensures ∙ ap allZero (lent-part s (a .cell * cellSize + 1) bodySize) in
+    rw (c .before .if2 .left) (on (leb (a .cell) (capacity s)) (allZero (cellBody s (a .cell))) (c .all-zero .result) (in-queue e) r)
 
 pub is-cell-spec : {M : Type 1} → statement M
 is-cell-spec =

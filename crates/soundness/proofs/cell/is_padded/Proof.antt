@@ -17,7 +17,7 @@ use Rattle.profiles.proofs.Table.{row-found, none-found, codeword-is}
 use Rattle.sheet.specs.Lists.{allZero}
 use Rattle.sheet.specs.Sound.{isPadded}
 use Rattle.sheet.proofs.Record.{word-fits}
-use Rattle.cells.proofs.Bytes.{part-rest}
+use Rattle.cells.proofs.Bytes.{lent-rest}
 use Rattle.soundness.proofs.Conditions.{on, off}
 use Rattle.soundness.proofs.Rows.{received-is}
 use borrow.Author.Needs.{needs}
@@ -85,7 +85,7 @@ returns-2 c =
     let found = c .before .before .before .before in
     let w = W found in
     let symbols = c .before .before .symbols-below .ensures ∙ received-is (of found) (take (N found) w) in
-    let rest = c .all-zero .ensures ∙ ap allZero (part-rest w (N found)) in
+    let rest = c .all-zero .ensures ∙ ap allZero (lent-rest w (N found)) in
     on (isProfile (P found)) _ _ (passes (of found .known))
     (ap₂ _&&_ symbols rest ∙ ap (λ (n : ℕ). isReceived (profile (P found)) (take n w) && allZero (drop n w)) (codeword-is (of found)))
 

@@ -5,7 +5,7 @@ use mathlib.Core.Bool.{Bool, _&&_}
 use lib.ListN.{getD}
 use denote.Ref.{now}
 use Rattle.sheet.specs.Sound.{isBox, isPadded, isRecord}
-use Rattle.cells.proofs.Bytes.{part-rest}
+use Rattle.cells.proofs.Bytes.{lent-rest}
 use borrow.Author.Needs.{needs}
 use Rattle.soundness.proofs.cell.is_record.Statement.{statement}
 use Rattle.soundness.proofs.cell.is_record.Tie as tie
@@ -32,7 +32,7 @@ returns : tie.Need-returns
 unfolding isRecord
 returns c =
     let r = now (c .before .before .before .before .before .args .body) in
-    ap (λ (b : Bool). isBox (getD r 0 0) && b) (c .is-word .ensures ∙ ap (isPadded (getD r 1 0)) (part-rest r 2))
+    ap (λ (b : Bool). isBox (getD r 0 0) && b) (c .is-word .ensures ∙ ap (isPadded (getD r 1 0)) (lent-rest r 2))
 
 pub is-record-spec : {M : Type 1} → statement M
 is-record-spec =

@@ -10,7 +10,7 @@ use lib.ListN.{length, getD}
 use denote.Ref.{now}
 use borrow.Author.Tests.{not-true, not-false}
 use Rattle.modular.specs.Search.{allBelow}
-use Rattle.sheet.specs.Layout.{next, firstFree}
+use Rattle.sheet.specs.Layout.{nextCell, firstFree}
 use Rattle.sheet.proofs.Lists.{size-of}
 use Rattle.soundness.specs.Walked.{Walks}
 use Rattle.soundness.proofs.Tallies.{noneSeen, none-seen}
@@ -39,7 +39,7 @@ S c = now (start c .args .queue)
 abbrev table : tie.After-walk → List ℕ
 table c = c .walk .last .1 .1 .1 .1 .0
 
-walked : (c : tie.After-walk) → Walks (S c) true (next (S c) 0) (start c .args .number) noneSeen (table c) (c .walk .result)
+walked : (c : tie.After-walk) → Walks (S c) true (nextCell (S c) 0) (start c .args .number) noneSeen (table c) (c .walk .result)
 unfolding noneSeen
 walked c = c .walk .ensures
 
@@ -57,7 +57,7 @@ returns : tie.Need-returns
 returns c =
     let w = c .before .before in
     let s = S w in
-    unsound s (start w .args .number) (next s 0) (table w) (w .walk .result) (start w .pre) refl (walked w) (not-true _ (c .if1 .taken))
+    unsound s (start w .args .number) (nextCell s 0) (table w) (w .walk .result) (start w .pre) refl (walked w) (not-true _ (c .if1 .taken))
 
 shared-slice-read-walk-2 : tie.Need-shared-slice-read-walk-2
 shared-slice-read-walk-2 c = omega (arith, long (start (c .before .before .before)))
@@ -70,7 +70,7 @@ walk-requires-2 c κs =
     let e = c .before .before in
     let w = first e in
     let s = S w in
-    let few = few-after s (start w .args .number) (next s 0) (table w) (w .walk .result) (start w .pre) refl (walked w) in
+    let few = few-after s (start w .args .number) (nextCell s 0) (table w) (w .walk .result) (start w .pre) refl (walked w) in
     (start w .pre, few (not-false _ (e .if1 .left)))
 
 is-header-requires : tie.Need-is-header-requires
@@ -93,7 +93,7 @@ returns-2 c =
     let w = first e in
     let s = S w in
     let t = f .walk2 .last .1 .1 .1 .1 .0 in
-    checks s (start w .args .number) (next s 0) (table w) (w .walk .result) (start w .pre) refl (walked w) (not-false _ (e .if1 .left))
+    checks s (start w .args .number) (nextCell s 0) (table w) (w .walk .result) (start w .pre) refl (walked w) (not-false _ (e .if1 .left))
     (firstFree s) t (f .walk2 .result) (h .is-header .result) (o .each-once .result) refl (f .walk2 .ensures)
     (h .is-header .ensures)
     (o .each-once .ensures ∙ ap (allBelow (λ i. eqb (getD t (suc i) 0) 1)) (o .before .capacity .ensures))
