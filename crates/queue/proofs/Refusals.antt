@@ -79,7 +79,8 @@ module _ {s : List ℕ} {b p : ℕ} {w : List ℕ} {n : ℕ} {s′ : List ℕ} (
         keeps = λ d. h .queue ∙ sym (kept (enqueueAnswer s b p w) _ s (λ z. d (of ∙ z)));
       }
 
-module _ (s : List ℕ) (k : ℕ) (out : List ℕ) {n : ℕ} {out′ : List ℕ} (answer : n ≡ peekAnswer s k out) (output : out′ ≡ peekOutput s k out) where
+module _ (s : List ℕ) (k : ℕ) (out : List ℕ) {n : ℕ} {out′ : List ℕ} (answer : n ≡ peekAnswer s k out)
+    (output : out′ ≡ peekOutput s k out) where
   abbrev size : Test
   size = asks (eqb (length out) cellSize) 2
 

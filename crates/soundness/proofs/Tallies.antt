@@ -2,6 +2,7 @@
 -- Assumes nothing.
 use mathlib.Core.Path.{_≡_, refl, sym, ap, subst, _∙_}
 use mathlib.Core.Logic.{_≢_, ⊎-elim}
+use mathlib.Core.Bool.{Bool}
 use mathlib.Core.List.{List, [], _∷_, _++_}
 use Prim.Native.Nat.{ℕ, zero, suc, _+_, _≤_, _<_}
 use native.Mathlib.Omega.{arith}
@@ -26,8 +27,9 @@ met t c i h =
     ⊎-elim
     (λ (e : i ≡ c).
     let k : c < length t = omega arith in
+    let more = getD t c 0 + 1 in
     let same : getD t c 0 ≡ getD t i 0 = ap (λ (x : ℕ). getD t x 0) (sym e) in
-    let there : getD (set t c (getD t c 0 + 1)) i 0 ≡ getD t c 0 + 1 = ap (λ (x : ℕ). getD (set t c (getD t c 0 + 1)) x 0) e ∙ getD-set-same t c (getD t c 0 + 1) 0 k in
+    let there : getD (set t c more) i 0 ≡ more = ap (λ (x : ℕ). getD (set t c more) x 0) e ∙ getD-set-same t c more 0 k in
     omega (arith, bit-same e))
     (λ (d : i ≢ c). omega (arith, bit-other d, getD-set-other t c i (getD t c 0 + 1) 0 d))
     (equal-or-not i c)
@@ -70,11 +72,21 @@ pub few-seen : (s : List ℕ) (n i : ℕ) → n ≤ 255 → AtMost 255 (tallied 
 few-seen s n i h k = omega (arith, tally-le (chain s n i) noneSeen k, none-at k, length-chain s n i)
 
 -- after both
-pub both-seen : (n : ℕ) (u f : List ℕ) → n ≤ 255 → allBelow (λ i. eqb (getD (tallied (tallied noneSeen u) f) (suc i) 0) 1) n ≡ eachOnce n (u ++ f)
+abbrev bothSeen : List ℕ → List ℕ → List ℕ
+bothSeen u f = tallied (tallied noneSeen u) f
+
+-- cell i + 1 has been met once, by the table and by the lists
+abbrev once-seen : List ℕ → List ℕ → ℕ → Bool
+once-seen u f i = eqb (getD (bothSeen u f) (suc i) 0) 1
+
+abbrev once-listed : List ℕ → List ℕ → ℕ → Bool
+once-listed u f i = eqb (count (suc i) (u ++ f)) 1
+
+pub both-seen : (n : ℕ) (u f : List ℕ) → n ≤ 255 → allBelow (once-seen u f) n ≡ eachOnce n (u ++ f)
 unfolding eachOnce
 both-seen n u f h = same-test _ _ there back
   where
-    same : (i : ℕ) → i < n → getD (tallied (tallied noneSeen u) f) (suc i) 0 ≡ count (suc i) (u ++ f)
+    same : (i : ℕ) → i < n → getD (bothSeen u f) (suc i) 0 ≡ count (suc i) (u ++ f)
     same i k =
         omega (
           arith,
@@ -84,12 +96,8 @@ both-seen n u f h = same-test _ _ there back
           count-append (suc i) u f,
         )
 
-    there : T (allBelow (λ i. eqb (getD (tallied (tallied noneSeen u) f) (suc i) 0) 1) n) → T (allBelow (λ i. eqb (count (suc i) (u ++ f)) 1) n)
-    there a =
-        all-of (λ i. eqb (count (suc i) (u ++ f)) 1) n
-        (λ i k. subst (λ (x : ℕ). T (eqb x 1)) (same i k) (all-at (λ i. eqb (getD (tallied (tallied noneSeen u) f) (suc i) 0) 1) n a i k))
+    there : T (allBelow (once-seen u f) n) → T (allBelow (once-listed u f) n)
+    there a = all-of (once-listed u f) n (λ i k. subst (λ (x : ℕ). T (eqb x 1)) (same i k) (all-at (once-seen u f) n a i k))
 
-    back : T (allBelow (λ i. eqb (count (suc i) (u ++ f)) 1) n) → T (allBelow (λ i. eqb (getD (tallied (tallied noneSeen u) f) (suc i) 0) 1) n)
-    back a =
-        all-of (λ i. eqb (getD (tallied (tallied noneSeen u) f) (suc i) 0) 1) n
-        (λ i k. subst (λ (x : ℕ). T (eqb x 1)) (sym (same i k)) (all-at (λ i. eqb (count (suc i) (u ++ f)) 1) n a i k))
+    back : T (allBelow (once-listed u f) n) → T (allBelow (once-seen u f) n)
+    back a = all-of (once-seen u f) n (λ i k. subst (λ (x : ℕ). T (eqb x 1)) (sym (same i k)) (all-at (once-listed u f) n a i k))

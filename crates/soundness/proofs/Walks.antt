@@ -140,11 +140,12 @@ module _ {s : List ℕ} {kind : Bool} {first k : ℕ} {t₀ t : List ℕ} {n i c
       → Walk s kind first k t₀ (set t i (getD t i 0 + 1)) (n - 1) j c (met + 1)
   walk-on h d e j c q g =
       let step = chain-step s n i h d in
+      let rest = chain s (n - 1) (nextCell s i) in
       rw (q, g)
       (record {
         list = w .list ∙ list-step s kind n i h d ∙ ap (λ (b : Bool). b && isList s kind (n - 1) (nextCell s i)) e;
         seen = w .seen ∙ ap (tallied t) step;
-        cell-is = w .cell-is ∙ ap (λ (l : List ℕ). lastOf cell (take (k - met) l)) step ∙ go-on i cell met k (chain s (n - 1) (nextCell s i));
+        cell-is = w .cell-is ∙ ap (λ (l : List ℕ). lastOf cell (take (k - met) l)) step ∙ go-on i cell met k rest;
         records-is = omega (arith, w .records-is, ap length step);
         bound = λ x. omega (arith, tally-one t i x, w .bound x);
         steps = omega (arith, w .steps);

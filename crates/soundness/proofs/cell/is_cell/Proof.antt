@@ -19,15 +19,24 @@ use Rattle.soundness.proofs.Conditions.{off, on}
 use Rattle.soundness.proofs.cell.is_cell.Statement.{statement}
 use Rattle.soundness.proofs.cell.is_cell.Tie as tie
 
+abbrev start : tie.After-capacity → tie.Start
+start c = c .before .before
+
+-- the bytes, and the cell's number
 abbrev Q : tie.After-capacity → List ℕ
-Q c = now (c .before .before .args .queue)
+Q c = now (start c .args .queue)
+
+abbrev I : tie.After-capacity → ℕ
+I c = start c .args .cell
 
 -- what `capacity` ensures, at the cell
-in-queue : (c : tie.Else1) → leb (c .before .before .before .args .cell) (capacity (Q (c .before))) ≡ true
-in-queue c = le-leb _ _ (subst (λ (n : ℕ). c .before .before .before .args .cell ≤ n) (c .before .capacity .ensures) (c .if1 .left))
+in-queue : (c : tie.Else1) → leb (I (c .before)) (capacity (Q (c .before))) ≡ true
+in-queue c = le-leb _ _ (subst (λ (n : ℕ). I (c .before) ≤ n) (c .before .capacity .ensures) (c .if1 .left))
 
-fits : (c : tie.Else1) → c .before .before .before .args .cell * cellSize + 1 + bodySize ≤ length (Q (c .before))
-fits c = omega (arith, size-of (Q (c .before)) (c .before .before .before .pre) .long, c .before .capacity .ensures, c .if1 .left)
+fits : (c : tie.Else1) → I (c .before) * cellSize + 1 + bodySize ≤ length (Q (c .before))
+fits c =
+    let counted = c .before in
+    omega (arith, size-of (Q counted) (start counted .pre) .long, counted .capacity .ensures, c .if1 .left)
 
 capacity-requires : tie.Need-capacity-requires
 capacity-requires c κs = search needs
@@ -35,10 +44,11 @@ capacity-requires c κs = search needs
 returns : tie.Need-returns
 unfolding isCell
 returns c =
-    let s = Q (c .before) in
-    let a = c .before .before .before .args in
-    off (leb (a .cell) (capacity s)) (isBody (a .used) (cellBody s (a .cell)))
-    (lt-leb _ _ (subst (λ (n : ℕ). n < a .cell) (c .before .capacity .ensures) (c .if1 .taken)))
+    let counted = c .before in
+    let s = Q counted in
+    let i = I counted in
+    off (leb i (capacity s)) (isBody (start counted .args .used) (cellBody s i))
+    (lt-leb _ _ (subst (λ (n : ℕ). n < i) (counted .capacity .ensures) (c .if1 .taken)))
 
 mul-a : tie.Need-mul-a
 mul-a c = omega (arith, fits c)
@@ -67,22 +77,22 @@ all-zero-requires c κs = search needs
 returns-2 : tie.Need-returns-2
 unfolding isCell
 returns-2 c =
-    let e = c .before .before .before in
-    let a = e .before .before .before .args in
-    let s = now (a .queue) in
-    let r : c .is-record .result ≡ isRecord (cellBody s (a .cell)) =
-    c .is-record .ensures ∙ ap isRecord (lent-part s (a .cell * cellSize + 1) bodySize) in
-    rw (c .before .if2 .taken) (on (leb (a .cell) (capacity s)) (isRecord (cellBody s (a .cell))) (c .is-record .result) (in-queue e) r)
+    let inside = c .before .before .before in
+    let s = Q (inside .before) in
+    let i = I (inside .before) in
+    let lent = lent-part s (i * cellSize + 1) bodySize in
+    let r : c .is-record .result ≡ isRecord (cellBody s i) = c .is-record .ensures ∙ ap isRecord lent in
+    rw (c .before .if2 .taken) (on (leb i (capacity s)) (isRecord (cellBody s i)) (c .is-record .result) (in-queue inside) r)
 
 returns-3 : tie.Need-returns-3
 unfolding isCell
 returns-3 c =
-    let e = c .before .before .before in
-    let a = e .before .before .before .args in
-    let s = now (a .queue) in
-    let r : c .all-zero .result ≡ allZero (cellBody s (a .cell)) =
-    c .all-zero .ensures ∙ ap allZero (lent-part s (a .cell * cellSize + 1) bodySize) in
-    rw (c .before .if2 .left) (on (leb (a .cell) (capacity s)) (allZero (cellBody s (a .cell))) (c .all-zero .result) (in-queue e) r)
+    let inside = c .before .before .before in
+    let s = Q (inside .before) in
+    let i = I (inside .before) in
+    let lent = lent-part s (i * cellSize + 1) bodySize in
+    let r : c .all-zero .result ≡ allZero (cellBody s i) = c .all-zero .ensures ∙ ap allZero lent in
+    rw (c .before .if2 .left) (on (leb i (capacity s)) (allZero (cellBody s i)) (c .all-zero .result) (in-queue inside) r)
 
 pub is-cell-spec : {M : Type 1} → statement M
 is-cell-spec =

@@ -24,8 +24,12 @@ use borrow.Author.Needs.{needs}
 use Rattle.soundness.proofs.cell.is_padded.Statement.{statement}
 use Rattle.soundness.proofs.cell.is_padded.Tie as tie
 
+-- the moments at which the row is looked up, and the start
+abbrev looked : tie.After-known-told → tie.After-row-of
+looked c = c .before .before .before
+
 abbrev start : tie.After-known-told → tie.Start
-start c = c .before .before .before .before .before
+start c = looked c .before .before
 
 abbrev P : tie.After-known-told → ℕ
 P c = start c .args .profile
@@ -41,7 +45,7 @@ W c = now (start c .args .bytes)
 
 -- the row is the profile's
 of : (c : tie.After-known-told) → RowOf (P c) (row c)
-of c = row-found _ (c .before .before .before .row-of .ensures) (c .before .row .given .1)
+of c = row-found _ (looked c .row-of .ensures) (c .before .row .given .1)
 
 fits : (c : tie.After-known-told) → N c ≤ length (W c)
 fits c = omega (arith, codeword-is (of c), word-fits (P c) (of c .known), start c .pre)

@@ -31,7 +31,8 @@ is-word-requires c κs = search needs
 returns : tie.Need-returns
 unfolding isRecord
 returns c =
-    let r = now (c .before .before .before .before .before .args .body) in
+    let start = c .before .before .before .before .before in
+    let r = now (start .args .body) in
     ap (λ (b : Bool). isBox (getD r 0 0) && b) (c .is-word .ensures ∙ ap (isPadded (getD r 1 0)) (lent-rest r 2))
 
 pub is-record-spec : {M : Type 1} → statement M
