@@ -13,7 +13,7 @@ use lib.ListN.{length, getD, take, drop, set, length-set, length-drop}
 use lib.Seq.{take-suc-set, take-suc, getD-drop, take-all}
 use Rattle.modular.proofs.Search.{and-intro, and-left, and-right, and-four, and-parts, eq-test, passes, fails, le-or-lt}
 use Rattle.code.proofs.Merge.{cases}
-use Rattle.stream.specs.Line.{isDigit, digitsOnly, value, symbolsOf, hasForm, isShort, profileOf}
+use Rattle.stream.specs.Line.{isDigit, digitsOnly, digitValue, symbolsOf, hasForm, isShort, profileOf}
 use Rattle.answers.specs.declared.form.Form.{Form}
 use Rattle.answers.specs.declared.form.Form.the-variants.{Good, Bad}
 use Rattle.answers.specs.Forms.{formOf, Valued, Higher, Symbols, Parsed}
@@ -51,7 +51,7 @@ pub record Taken (s word₀ word : List ℕ) (highest i : ℕ) : Type 0 where
   pub same : length word ≡ length word₀
   pub low : T (digitsOnly (take i s)) → highest ≤ 9
   pub digits : highest ≤ 9 → T (digitsOnly (take i s))
-  pub text : highest ≤ 9 → take i word ≡ map value (take i s)
+  pub text : highest ≤ 9 → take i word ≡ map digitValue (take i s)
 
 pub taken-more : {s word₀ word : List ℕ} {highest i : ℕ} (v highest′ : ℕ) → Taken s word₀ word highest i → i < length s → length s ≤ length word₀
     → Valued (getD s i 0) v → Higher highest v highest′ → Taken s word₀ (set word i v) highest′ (i + 1)
@@ -62,13 +62,13 @@ taken-more {s} {word₀} {word} {highest} {i} v highest′ t h k w m =
       same = simp length-set (t .same);
       low = rw e (λ d. let p : T (digitsOnly (take i s)) × T (isDigit (getD s i 0)) = snoc-digits (take i s) (getD s i 0) d in higher-low (t .low (p .0)) (w .low (p .1)));
       digits = rw e (λ l. digits-snoc (take i s) (getD s i 0) (t .digits (omega (arith, m .left))) (w .digit (omega (arith, m .right))));
-      text = rw (e, map-append value (take i s) (getD s i 0 ∷ []), add-one i) (λ l. take-suc-set word i v (omega (arith, t .same)) ∙ joined (t .text (omega (arith, m .left))) (w .is (omega (arith, m .right))));
+      text = rw (e, map-append digitValue (take i s) (getD s i 0 ∷ []), add-one i) (λ l. take-suc-set word i v (omega (arith, t .same)) ∙ joined (t .text (omega (arith, m .left))) (w .is (omega (arith, m .right))));
     }
   where
     higher-low : highest ≤ 9 → v ≤ 9 → highest′ ≤ 9
     higher-low a b = ⊎-elim (λ (n : highest′ ≤ highest). omega arith) (λ (n : highest < highest′). omega (arith, m .is n)) (le-or-lt highest′ highest)
 
-    joined : take i word ≡ map value (take i s) → v ≡ value (getD s i 0) → take i word ++ v ∷ [] ≡ map value (take i s) ++ value (getD s i 0) ∷ []
+    joined : take i word ≡ map digitValue (take i s) → v ≡ digitValue (getD s i 0) → take i word ++ v ∷ [] ≡ map digitValue (take i s) ++ digitValue (getD s i 0) ∷ []
     joined a b = rw (a, b)
 
 pub taken-all : {s word₀ word : List ℕ} {highest i : ℕ} → Taken s word₀ word highest i → length s ≤ i → Symbols s word highest

@@ -115,32 +115,32 @@ decimal-append zero n x y = refl
 decimal-append (suc k) n x y =
     cases (ltb n 10) (λ e. rw (e, decimalBefore)) (λ e. rw (e, decimalBefore) (decimal-append k (n / 10) (digit (n % 10) ∷ x) y))
 
-pub heading-written : {a b c d e : List ℕ} {i j k l : ℕ} (p v place y : ℕ) → Written a b 0 i ((48 + p) ∷ 32 ∷ []) → Written b c i j (v ∷ 32 ∷ [])
-    → Written c d j k (decimal place (32 ∷ [])) → Written d e k l ((48 + y) ∷ 32 ∷ []) → Written a e 0 l (headingOf p v place y)
+pub heading-written : {a b c d e : List ℕ} {i j k l : ℕ} (p v position y : ℕ) → Written a b 0 i ((48 + p) ∷ 32 ∷ []) → Written b c i j (v ∷ 32 ∷ [])
+    → Written c d j k (decimal position (32 ∷ [])) → Written d e k l ((48 + y) ∷ 32 ∷ []) → Written a e 0 l (headingOf p v position y)
 unfolding headingOf decimal
-heading-written p v place y f g h w =
-    rw (decimal-append 20 place (32 ∷ []) ((48 + y) ∷ 32 ∷ [])) (f then (g then (h then w)))
+heading-written p v position y f g h w =
+    rw (decimal-append 20 position (32 ∷ []) ((48 + y) ∷ 32 ∷ [])) (f then (g then (h then w)))
 
 -- the two words of a reading, as they follow its heading
 abbrev words : List ℕ → List ℕ → List ℕ
 words s t = map digit s ++ 32 ∷ (map digit t ++ 10 ∷ [])
 
-place-on : (place y : ℕ) (after : List ℕ) → y ≤ 9 → decimal place (32 ∷ digit y ∷ 32 ∷ []) ++ after ≡ decimal place (32 ∷ decimal y (32 ∷ after))
+place-on : (position y : ℕ) (after : List ℕ) → y ≤ 9 → decimal position (32 ∷ digit y ∷ 32 ∷ []) ++ after ≡ decimal position (32 ∷ decimal y (32 ∷ after))
 unfolding decimal
-place-on place y after h =
-    sym (decimal-append 20 place (32 ∷ digit y ∷ 32 ∷ []) after)
-    ∙ ap (λ (l : List ℕ). decimal place (32 ∷ l)) (sym (decimal-one y (32 ∷ after) (omega arith)))
+place-on position y after h =
+    sym (decimal-append 20 position (32 ∷ digit y ∷ 32 ∷ []) after)
+    ∙ ap (λ (l : List ℕ). decimal position (32 ∷ l)) (sym (decimal-one y (32 ∷ after) (omega arith)))
 
-fields : (p v place y : ℕ) (s t : List ℕ) → y ≤ 9
-    → headingOf p v place y ++ ((map digit s ++ 32 ∷ []) ++ (map digit t ++ 10 ∷ [])) ≡ readingLine p v place y s t
+fields : (p v position y : ℕ) (s t : List ℕ) → y ≤ 9
+    → headingOf p v position y ++ ((map digit s ++ 32 ∷ []) ++ (map digit t ++ 10 ∷ [])) ≡ readingLine p v position y s t
 unfolding headingOf readingLine
-fields p v place y s t h =
-    ap (λ (l : List ℕ). headingOf p v place y ++ l) (append-assoc (map digit s) (32 ∷ []) (map digit t ++ 10 ∷ []))
-    ∙ ap (λ (l : List ℕ). digit p ∷ 32 ∷ v ∷ 32 ∷ l) (place-on place y (words s t) h)
+fields p v position y s t h =
+    ap (λ (l : List ℕ). headingOf p v position y ++ l) (append-assoc (map digit s) (32 ∷ []) (map digit t ++ 10 ∷ []))
+    ∙ ap (λ (l : List ℕ). digit p ∷ 32 ∷ v ∷ 32 ∷ l) (place-on position y (words s t) h)
 
-pub reading-written : {a b c d : List ℕ} {i j k : ℕ} (p v place y : ℕ) (s t : List ℕ) → y ≤ 9 → Written a b 0 i (headingOf p v place y)
-    → Written b c i j (map digit s ++ 32 ∷ []) → Written c d j k (map digit t ++ 10 ∷ []) → Written a d 0 k (readingLine p v place y s t)
-reading-written p v place y s t small f g h = rw (fields p v place y s t small) at (f then (g then h))
+pub reading-written : {a b c d : List ℕ} {i j k : ℕ} (p v position y : ℕ) (s t : List ℕ) → y ≤ 9 → Written a b 0 i (headingOf p v position y)
+    → Written b c i j (map digit s ++ 32 ∷ []) → Written c d j k (map digit t ++ 10 ∷ []) → Written a d 0 k (readingLine p v position y s t)
+reading-written p v position y s t small f g h = rw (fields p v position y s t small) at (f then (g then h))
 
 pub reworded : {old new x y : List ℕ} {at end : ℕ} → x ≡ y → Written old new at end x → Written old new at end y
 reworded e w = rw e at w

@@ -17,7 +17,7 @@ pub record Written (old new : List ℕ) (at end : ℕ) (bytes : List ℕ) : Type
 
 -- the fields of a reading before its words, each with a space: profile, the kind's letter, place, sent symbol
 unfoldable pub headingOf : ℕ → ℕ → ℕ → ℕ → List ℕ
-headingOf i c place y = digit i ∷ 32 ∷ c ∷ 32 ∷ decimal place (32 ∷ digit y ∷ 32 ∷ [])
+headingOf i c position y = digit i ∷ 32 ∷ c ∷ 32 ∷ decimal position (32 ∷ digit y ∷ 32 ∷ [])
 
 -- the output line from what decoding reports and leaves in its two outputs
 abbrev pub shownLine : ℕ → Report → List ℕ → List ℕ → List ℕ

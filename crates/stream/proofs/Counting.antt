@@ -34,7 +34,8 @@ pub line-further : (p : Partial) (input : List ℕ) (at n : ℕ)
     → lineAfterAll p (take (at + n) input) ≡ lineAfterAll (lineAfterAll p (take at input)) (take n (drop at input))
 line-further p input at n = ap (lineAfterAll p) (take-add at n input) ∙ line-append p (take at input) (take n (drop at input))
 
-pub ends-further : (input : List ℕ) (at n : ℕ) → lineEnds (take (at + n) input) ≡ lineEnds (take at input) + lineEnds (take n (drop at input))
+pub ends-further : (input : List ℕ) (at n : ℕ)
+    → lineEnds (take (at + n) input) ≡ lineEnds (take at input) + lineEnds (take n (drop at input))
 ends-further input at n = ap lineEnds (take-add at n input) ∙ ends-append (take at input) (take n (drop at input))
 
 -- no more lines than bytes

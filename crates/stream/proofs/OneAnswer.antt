@@ -50,14 +50,14 @@ ends-letter : (f : Finding) (t : List ℕ) → lineEnds (letter f ∷ t) ≡ lin
 ends-letter clean t = refl
 ends-letter (corrected c) t = refl
 
-ends-reading : (i : ℕ) (k : Finding) (place y : ℕ) (a b : List ℕ) → lineEnds (readingLine i (letter k) place y a b) ≡ 1
+ends-reading : (i : ℕ) (k : Finding) (position y : ℕ) (a b : List ℕ) → lineEnds (readingLine i (letter k) position y a b) ≡ 1
 unfolding readingLine
-ends-reading i k place y a b =
+ends-reading i k position y a b =
     let words : List ℕ = 32 ∷ (map digit a ++ 32 ∷ (map digit b ++ 10 ∷ [])) in
     let rest : List ℕ = 32 ∷ decimal y words in
-    ends-digit i (32 ∷ letter k ∷ 32 ∷ decimal place rest)
-    ∙ ends-letter k (32 ∷ decimal place rest)
-    ∙ ends-decimal place rest
+    ends-digit i (32 ∷ letter k ∷ 32 ∷ decimal position rest)
+    ∙ ends-letter k (32 ∷ decimal position rest)
+    ∙ ends-decimal position rest
     ∙ ends-decimal y words
     ∙ ends-words a b
 

@@ -30,15 +30,15 @@ abbrev pub isShort : List ℕ → Bool
 isShort l = leb (length l) 101
 
 -- the value of a digit
-abbrev pub value : ℕ → ℕ
-value b = b - 48
+abbrev pub digitValue : ℕ → ℕ
+digitValue b = b - 48
 
 -- the profile of a line, and its symbols
 abbrev pub profileOf : List ℕ → ℕ
-profileOf l = value (getD l 0 0)
+profileOf l = digitValue (getD l 0 0)
 
 abbrev pub symbolsOf : List ℕ → List ℕ
-symbolsOf l = map value (drop 2 l)
+symbolsOf l = map digitValue (drop 2 l)
 
 -- What comes out.
 
@@ -66,8 +66,8 @@ refusalLine n = 82 ∷ 32 ∷ decimal n (10 ∷ [])
 
 -- profile, the kind's letter, place, sent symbol, first word, second word
 unfoldable pub readingLine : ℕ → ℕ → ℕ → ℕ → List ℕ → List ℕ → List ℕ
-readingLine i c place y a b =
-    digit i ∷ 32 ∷ c ∷ 32 ∷ decimal place (32 ∷ decimal y (32 ∷ (map digit a ++ 32 ∷ (map digit b ++ 10 ∷ []))))
+readingLine i c position y a b =
+    digit i ∷ 32 ∷ c ∷ 32 ∷ decimal position (32 ∷ decimal y (32 ∷ (map digit a ++ 32 ∷ (map digit b ++ 10 ∷ []))))
 
 -- the output for what Read answers of a word of profile i
 abbrev pub answerLine : ℕ → Answer → List ℕ

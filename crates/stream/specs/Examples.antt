@@ -33,27 +33,27 @@ abbrev pub nine : List ℕ
 nine = 82 ∷ 32 ∷ 57 ∷ 10 ∷ []
 
 -- an input and all that is printed for it
-pub record Case : Type 0 where
+pub record Example : Type 0 where
   pub input : List ℕ
   pub output : List ℕ
 
-abbrev pub AllPrint : List Case → Type 0
+abbrev pub AllPrint : List Example → Type 0
 AllPrint [] = Unit {0}
 AllPrint (c ∷ cs) = (streamOutput (c .input) ≡ c .output) × AllPrint cs
 
-abbrev case : List ℕ → List ℕ → Case
-case s o = record { input = s; output = o }
+abbrev example : List ℕ → List ℕ → Example
+example s o = record { input = s; output = o }
 
 -- 01's example; no input; one byte 10 and two; an unended line; a line of 101 bytes (refused by 4) and lines of 102, ended and not
-abbrev pub cases : List Case
-cases =
-    case exampleInput exampleOutput
-    ∷ case [] []
-    ∷ case (10 ∷ []) nine
-    ∷ case (10 ∷ 10 ∷ []) (nine ++ nine)
-    ∷ case (49 ∷ []) nine
-    ∷ case (53 ∷ 32 ∷ 49 ∷ []) (82 ∷ 32 ∷ 49 ∷ 10 ∷ [])
-    ∷ case (52 ∷ 32 ∷ replicate 99 48) (82 ∷ 32 ∷ 52 ∷ 10 ∷ [])
-    ∷ case (52 ∷ 32 ∷ replicate 100 48) nine
-    ∷ case (52 ∷ 32 ∷ replicate 100 48 ++ 10 ∷ 49 ∷ []) (nine ++ nine)
+abbrev pub examples : List Example
+examples =
+    example exampleInput exampleOutput
+    ∷ example [] []
+    ∷ example (10 ∷ []) nine
+    ∷ example (10 ∷ 10 ∷ []) (nine ++ nine)
+    ∷ example (49 ∷ []) nine
+    ∷ example (53 ∷ 32 ∷ 49 ∷ []) (82 ∷ 32 ∷ 49 ∷ 10 ∷ [])
+    ∷ example (52 ∷ 32 ∷ replicate 99 48) (82 ∷ 32 ∷ 52 ∷ 10 ∷ [])
+    ∷ example (52 ∷ 32 ∷ replicate 100 48) nine
+    ∷ example (52 ∷ 32 ∷ replicate 100 48 ++ 10 ∷ 49 ∷ []) (nine ++ nine)
     ∷ []

@@ -10,8 +10,10 @@ use Rattle.code.specs.Profiles.{profile}
 use Rattle.code.specs.Operations.{decodeAnswer}
 use Rattle.stream.specs.Line.{hasForm, decimal, refusalLine, readingLine, readAnswer, lineAnswer}
 use Rattle.stream.specs.Stream.{streamOutput}
-use Rattle.stream.specs.Cases.{AllPrint, cases}
+use Rattle.stream.specs.Examples.{AllPrint, examples}
 
-pub cases-print : AllPrint cases
-unfolding minus balancingValue delta syndrome inCode isCheck message alpha beta body received nearCode restored isBalanced hasChecks hasComponents codeword carried changedAt sentAt nearReading reading profile decodeAnswer hasForm decimal refusalLine readingLine readAnswer lineAnswer streamOutput
-cases-print = (refl, (refl, (refl, (refl, (refl, (refl, (refl, (refl, (refl, tt)))))))))
+pub examples-print : AllPrint examples
+unfolding minus balancingValue delta syndrome inCode isCheck message alpha beta body received nearCode restored isBalanced hasChecks
+    hasComponents codeword carried changedAt sentAt nearReading reading profile decodeAnswer hasForm decimal refusalLine readingLine
+    readAnswer lineAnswer streamOutput
+examples-print = (refl, (refl, (refl, (refl, (refl, (refl, (refl, (refl, (refl, tt)))))))))
