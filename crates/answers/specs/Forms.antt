@@ -26,7 +26,7 @@ pub record Higher (a b r : ℕ) : Type 0 where
   pub is : a < r → r ≡ b
 
 -- the highest value tells whether the bytes s are digits, and then their values stand at the front of a word
-pub record Symbols (s word : List ℕ) (highest : ℕ) : Type 0 where
+pub record DigitValues (s word : List ℕ) (highest : ℕ) : Type 0 where
   pub low : T (digitsOnly s) → highest ≤ 9
   pub digits : highest ≤ 9 → T (digitsOnly s)
   pub text : highest ≤ 9 → take (length s) word ≡ map digitValue s

@@ -30,7 +30,7 @@ shared-slice-read-out : tie.Need-shared-slice-read-out Inv-loop μ-loop
 shared-slice-read-out c = omega arith
 
 add-out : tie.Need-add-out Inv-loop μ-loop
-add-out c = omega (arith, c .before .before .before .pre .1 (c .before .before .loop .i))
+add-out c = let turn = c .before .before in omega (arith, turn .before .pre .1 (turn .loop .i))
 
 add-out-2 : tie.Need-add-out-2 Inv-loop μ-loop
 add-out-2 c = omega arith
@@ -45,7 +45,13 @@ loop-less : tie.Need-loop-less Inv-loop μ-loop
 loop-less c = omega arith
 
 loop-again : tie.Need-loop-again Inv-loop μ-loop
-loop-again c = record { within = omega arith; same = simp length-set (c .before .before .loop .inv .same); text = word-more _ _ _ _ _ (c .before .loop-test .taken) (omega (arith, c .before .before .loop .inv .same)) (c .before .before .loop .inv .text) }
+loop-again c =
+    let inv = c .before .before .loop .inv in
+    record {
+      within = omega arith;
+      same = simp length-set (inv .same);
+      text = word-more _ _ _ _ _ (c .before .loop-test .taken) (omega (arith, inv .same)) (inv .text);
+    }
 
 add-out-3 : tie.Need-add-out-3 Inv-loop μ-loop
 add-out-3 c = omega arith

@@ -1,10 +1,10 @@
--- `answers::reply::message_length` meets its contract: the row is the profile's, where there is one.
+-- `answers::respond::message_length` meets its contract: the row is the profile's, where there is one.
 -- Assumes nothing.
 use borrow.Author.Needs.{needs}
 use Rattle.profiles.proofs.Table.{row-found, none-found}
 use Rattle.answers.proofs.Answers.{message-row, message-none}
-use Rattle.answers.proofs.reply.message_length.Statement.{statement}
-use Rattle.answers.proofs.reply.message_length.Tie as tie
+use Rattle.answers.proofs.respond.message_length.Statement.{statement}
+use Rattle.answers.proofs.respond.message_length.Tie as tie
 
 row-of-requires : tie.Need-row-of-requires
 row-of-requires c κs = search needs
@@ -19,7 +19,9 @@ returns : tie.Need-returns
 returns c = message-none _ (none-found _ (c .before .before .row-of .ensures) (c .enum-told .given .1))
 
 returns-2 : tie.Need-returns-2
-returns-2 c = message-row (row-found _ (c .before .before .before .row-of .ensures) (c .before .row .given .1))
+returns-2 c =
+    let looked = c .before .before .before in
+    message-row (row-found _ (looked .row-of .ensures) (c .before .row .given .1))
 
 pub message-length-spec : {M : Type 1} → statement M
 message-length-spec =

@@ -1,4 +1,4 @@
--- `answers::form::symbols` meets its contract: after i turns the first i bytes are read.
+-- `answers::form::digit_values` meets its contract: after i turns the first i bytes are read.
 -- Assumes nothing.
 use mathlib.Core.Path.{refl}
 use Prim.Native.Nat.{_-_, zero-le}
@@ -6,8 +6,8 @@ use native.Mathlib.Omega.{arith}
 use denote.Ref.{now}
 use lib.ListN.{length, drop, length-drop}
 use Rattle.answers.proofs.Forms.{Taken, taken-more, taken-all, two-on}
-use Rattle.answers.proofs.form.symbols.Statement.{statement}
-use Rattle.answers.proofs.form.symbols.Tie as tie
+use Rattle.answers.proofs.form.digit_values.Statement.{statement}
+use Rattle.answers.proofs.form.digit_values.Tie as tie
 
 abbrev Inv-loop : tie.InvT-loop
 Inv-loop line word₀ highest₀ i₀ word highest i = Taken (drop 2 line) word₀ word highest i
@@ -21,17 +21,17 @@ loop-holds c = record { within = zero-le; same = refl; low = λ t. zero-le; digi
 sub-loop : tie.Need-sub-loop Inv-loop μ-loop
 sub-loop c = omega arith
 
-add-value : tie.Need-add-value Inv-loop μ-loop
-add-value c = omega arith
+add-digit-value : tie.Need-add-digit-value Inv-loop μ-loop
+add-digit-value c = omega arith
 
-shared-slice-read-value : tie.Need-shared-slice-read-value Inv-loop μ-loop
-shared-slice-read-value c = omega arith
+shared-slice-read-digit-value : tie.Need-shared-slice-read-digit-value Inv-loop μ-loop
+shared-slice-read-digit-value c = omega arith
 
-value-requires : tie.Need-value-requires Inv-loop μ-loop
-value-requires c κs = tt
+digit-value-requires : tie.Need-digit-value-requires Inv-loop μ-loop
+digit-value-requires c κs = tt
 
 slice-write-word : tie.Need-slice-write-word Inv-loop μ-loop
-slice-write-word c = omega (arith, c .before .before .before .loop .inv .same)
+slice-write-word c = let turn = c .before .before .before in omega (arith, turn .loop .inv .same)
 
 higher-requires : tie.Need-higher-requires Inv-loop μ-loop
 higher-requires c κs = tt
@@ -44,9 +44,11 @@ loop-less c = omega arith
 
 loop-again : tie.Need-loop-again Inv-loop μ-loop
 loop-again c =
-    let l = c .before .before .before .before in
-    let line = now (l .before .before .before .args .line) in
-    taken-more _ _ (l .loop .inv) (rw length-drop (c .before .before .before .loop-test .taken)) (rw length-drop (omega arith)) (rw (two-on line (l .loop .i)) (c .before .value .ensures)) (c .higher .ensures)
+    let entered = c .before .before .before in
+    let turn = entered .before in
+    let start = turn .before .before .before in
+    taken-more _ _ (turn .loop .inv) (rw length-drop (entered .loop-test .taken)) (rw length-drop (omega arith))
+    (rw (two-on (now (start .args .line)) (turn .loop .i)) (c .before .digit-value .ensures)) (c .higher .ensures)
 
 same-length : tie.Need-same-length Inv-loop μ-loop
 same-length c = c .before .loop .inv .same
@@ -54,17 +56,17 @@ same-length c = c .before .loop .inv .same
 returns : tie.Need-returns Inv-loop μ-loop
 returns c = taken-all (c .before .loop .inv) (rw length-drop (c .loop-test .left))
 
-pub symbols-spec : {M : Type 1} → statement M
-symbols-spec =
+pub digit-values-spec : {M : Type 1} → statement M
+digit-values-spec =
     tie.close
     (tie.spec
     Inv-loop
     μ-loop
     loop-holds
     sub-loop
-    add-value
-    shared-slice-read-value
-    value-requires
+    add-digit-value
+    shared-slice-read-digit-value
+    digit-value-requires
     slice-write-word
     higher-requires
     add-i

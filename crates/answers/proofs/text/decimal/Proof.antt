@@ -1,12 +1,12 @@
--- `answers::text::number` meets its contract: below 10 the number is its one digit, and below 100 its two.
+-- `answers::text::decimal` meets its contract: below 10 the number is its one digit, and below 100 its two.
 -- Assumes nothing.
 use native.Mathlib.Omega.{arith}
 use denote.Ref.{now}
 use lib.ListN.{length-set}
 use Rattle.answers.proofs.Writing.{number-one, number-two}
 use borrow.Author.Needs.{needs}
-use Rattle.answers.proofs.text.number.Statement.{statement}
-use Rattle.answers.proofs.text.number.Tie as tie
+use Rattle.answers.proofs.text.decimal.Statement.{statement}
+use Rattle.answers.proofs.text.decimal.Tie as tie
 
 cast-pair : tie.Need-cast-pair
 cast-pair c = search needs
@@ -21,7 +21,9 @@ same-length : tie.Need-same-length
 same-length c = search needs
 
 returns : tie.Need-returns
-returns c = (number-one (c .before .before .before .before .if1 .taken) (c .before .before .pair .ensures), omega (arith, c .before .before .pair .ensures .ends))
+returns c =
+    let written = c .before .before in
+    (number-one (written .before .before .if1 .taken) (written .pair .ensures), omega (arith, written .pair .ensures .ends))
 
 cast-out : tie.Need-cast-out
 cast-out c = search needs
@@ -48,10 +50,14 @@ same-length-2 : tie.Need-same-length-2
 same-length-2 c = simp length-set at (c .before .before .pair2 .kept .0)
 
 returns-2 : tie.Need-returns-2
-returns-2 c = (number-two (now (c .before .before .before .before .before .before .args .out)) _ (omega arith) (omega arith) (omega arith) (c .before .before .pair2 .ensures), omega (arith, c .before .before .pair2 .ensures .ends))
+returns-2 c =
+    let written = c .before .before in
+    let start = written .before .before .before .before in
+    let text = number-two (now (start .args .out)) _ (omega arith) (omega arith) (omega arith) (written .pair2 .ensures) in
+    (text, omega (arith, written .pair2 .ensures .ends))
 
-pub number-spec : {M : Type 1} → statement M
-number-spec =
+pub decimal-spec : {M : Type 1} → statement M
+decimal-spec =
     tie.close
     (tie.spec
     cast-pair

@@ -1,10 +1,10 @@
--- `answers::text::refusal` meets its contract: two pairs of bytes.
+-- `answers::text::refusal_line` meets its contract: two pairs of bytes.
 -- Assumes nothing.
 use Rattle.answers.proofs.Writing.{refusal-written}
 use native.Mathlib.Omega.{arith}
 use borrow.Author.Needs.{needs}
-use Rattle.answers.proofs.text.refusal.Statement.{statement}
-use Rattle.answers.proofs.text.refusal.Tie as tie
+use Rattle.answers.proofs.text.refusal_line.Statement.{statement}
+use Rattle.answers.proofs.text.refusal_line.Tie as tie
 
 pair-requires : tie.Need-pair-requires
 pair-requires c κs = search needs
@@ -24,5 +24,5 @@ returns c =
     let first = second .before .before .before .before in
     refusal-written (omega arith) (first .pair .ensures) (second .pair2 .ensures)
 
-pub refusal-spec : {M : Type 1} → statement M
-refusal-spec = tie.close (tie.spec pair-requires add-pair pair-requires-2 same-length returns)
+pub refusal-line-spec : {M : Type 1} → statement M
+refusal-line-spec = tie.close (tie.spec pair-requires add-pair pair-requires-2 same-length returns)

@@ -12,23 +12,30 @@ use profiles::Lookup;
 use profiles::row_of;
 
 // What decoding answered, as a line.
-fn show(decoded: Decoded, profile: usize, first: &[u8], second: &[u8], out: &mut [u8]) -> usize
+fn write_decoded(
+    decoded: Decoded,
+    profile: usize,
+    first: &[u8],
+    second: &[u8],
+    out: &mut [u8],
+) -> usize
     requires { ⌜ (profile ≤ 9) × (length (now out) ≡ 128) × (length (now first) ≤ 45) × (length (now second) ≤ 45) ⌝ }
     requires { ⌜ Small (decodedReport decoded) (now first) (now second) ⌝ }
-    ensures { λ r. ⌜ Written (now (out .entry)) (now (out .exit)) 0 r (shownLine profile (decodedReport decoded) (now (first .entry)) (now (second .entry))) ⌝ }
+    ensures { λ r. ⌜ Written (now (out .entry)) (now (out .exit)) 0 r
+        (shownLine profile (decodedReport decoded) (now (first .entry)) (now (second .entry))) ⌝ }
 {
     match decoded {
-        Decoded::Clean => crate::text::reading(out, profile, b'C', 0, 0, first, second),
+        Decoded::Clean => crate::text::reading_line(out, profile, b'C', 0, 0, first, second),
         Decoded::Corrected(c) => {
-            crate::text::reading(out, profile, b'M', c.position, c.symbol, first, second)
+            crate::text::reading_line(out, profile, b'M', c.position, c.symbol, first, second)
         }
-        Decoded::Unreadable => crate::text::refusal(out, 4),
-        Decoded::Refused(number) => crate::text::refusal(out, number),
+        Decoded::Unreadable => crate::text::refusal_line(out, 4),
+        Decoded::Refused(number) => crate::text::refusal_line(out, number),
     }
 }
 
 // Read, into two words of the profile's length, and its answer as a line.
-fn respond(
+fn respond_with(
     profile: usize,
     word: &[u8],
     first: &mut [u8],
@@ -36,11 +43,12 @@ fn respond(
     out: &mut [u8],
 ) -> usize
     requires { ⌜ (profile ≤ 9) × (length (now out) ≡ 128) × (messageLength (Profiles.profile profile) ≤ 45) ⌝ }
-    requires { ⌜ (length (now first) ≡ messageLength (Profiles.profile profile)) × (length (now second) ≡ messageLength (Profiles.profile profile)) ⌝ }
+    requires { ⌜ length (now first) ≡ messageLength (Profiles.profile profile) ⌝ }
+    requires { ⌜ length (now second) ≡ messageLength (Profiles.profile profile) ⌝ }
     ensures { λ r. ⌜ Written (now (out .entry)) (now (out .exit)) 0 r (answerLine profile (readAnswer profile (now (word .entry)))) ⌝ }
 {
     let decoded = decoder::decode(profile, word, first, second);
-    show(decoded, profile, first, second, out)
+    write_decoded(decoded, profile, first, second, out)
 }
 
 // 01: k, and 0 for a number that is no profile's.
@@ -54,12 +62,12 @@ fn message_length(profile: usize) -> usize
 }
 
 // The same, with the words, of k symbols each.
-pub(crate) fn reply(profile: usize, word: &[u8], out: &mut [u8]) -> usize
+pub(crate) fn respond(profile: usize, word: &[u8], out: &mut [u8]) -> usize
     requires { ⌜ (profile ≤ 9) × (length (now out) ≡ 128) ⌝ }
     ensures { λ r. ⌜ Written (now (out .entry)) (now (out .exit)) 0 r (answerLine profile (readAnswer profile (now (word .entry)))) ⌝ }
 {
     let k = message_length(profile);
     let mut first = [0u8; 45];
     let mut second = [0u8; 45];
-    respond(profile, word, &mut first[..k], &mut second[..k], out)
+    respond_with(profile, word, &mut first[..k], &mut second[..k], out)
 }
