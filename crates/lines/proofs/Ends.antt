@@ -14,7 +14,7 @@ use Rattle.modular.proofs.Search.{le-or-lt}
 use Rattle.code.proofs.Merge.{cases}
 use Rattle.stream.specs.Feed.{lineEnds}
 use Rattle.stream.proofs.Counting.{ends-further, ends-none, ends-one}
-use Rattle.lines.specs.Ends.{LineEnd, Placed}
+use Rattle.lines.specs.Ends.{LineEnd, EndIndex}
 
 -- none of the bytes from an index on and before another is byte 10
 abbrev pub None : List ℕ → ℕ → ℕ → Type 0
@@ -54,7 +54,7 @@ module _ {input : List ℕ} {from w first i : ℕ} (s : Seen input from w first 
         ends = s .ends;
       }
 
-  pub seen-more : {p first′ : ℕ} → Placed (getD input (from + i) 0) i w p → (first′ ≤ first) × (first′ ≤ p) × (first′ < first → first′ ≡ p) → Seen input from w first′ (i + 1)
+  pub seen-more : {p first′ : ℕ} → EndIndex (getD input (from + i) 0) i w p → (first′ ≤ first) × (first′ ≤ p) × (first′ < first → first′ ≡ p) → Seen input from w first′ (i + 1)
   seen-more {p} {first′} q m =
       ⊎-elim (λ (h : w ≤ first). cases (eqb (getD input (from + i) 0) 10) (λ e. hit h (eqb-true _ _ e)) (λ e. miss (eqb-false _ _ e)))
       (λ (h : first < w). same (kept h) (seen-miss (inl (s .before h)))) (le-or-lt w first)
@@ -62,7 +62,7 @@ module _ {input : List ℕ} {from w first i : ℕ} (s : Seen input from w first 
       same : first′ ≡ first → Seen input from w first (i + 1) → Seen input from w first′ (i + 1)
       same e t = rw e t
 
-      -- the place of a byte in a window of which one was seen lies after it
+      -- the index of a byte in a window of which one was seen lies after it
       kept : first < w → first′ ≡ first
       kept h =
           ⊎-elim (λ (k : first ≤ first′). omega (arith, m .0))

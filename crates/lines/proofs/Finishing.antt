@@ -13,7 +13,7 @@ use Rattle.modular.proofs.Search.{le-or-lt}
 use lib.Seq.{take-all, take-nil}
 use Rattle.stream.specs.Feed.{Model, Fed, answerAtEnd, stopped, finishing, isEmpty, isDone, overwritten}
 use Rattle.stream.proofs.Cutting.{finish-on, finish-stop}
-use Rattle.lines.specs.States.{partialOf, pendingOf, Holds}
+use Rattle.lines.specs.States.{partialOf, pendingOf, BeginsWith}
 use Rattle.lines.proofs.Stepping.{Turn, Done, length-pending, nothing, no-room, no-input, stepped}
 
 module _ {out₀ line : List ℕ} {len : ℕ} {pending : List ℕ} {from′ to n : ℕ} {out : List ℕ} (o : List ℕ)
@@ -35,7 +35,7 @@ module _ {out₀ line : List ℕ} {len : ℕ} {pending : List ℕ} {from′ to n
         ∙ append-nil (take n out)
 
     -- the answer at the end is pending
-    pub ended : {pending′ : List ℕ} {end : ℕ} → Holds pending′ end (answerAtEnd (partialOf line len)) → length o ≡ n
+    pub ended : {pending′ : List ℕ} {end : ℕ} → BeginsWith pending′ end (answerAtEnd (partialOf line len)) → length o ≡ n
         → Turn (finishing (record { line = partialOf line len; pending = o }) (length out₀)) [] out₀ line 0 pending′ 0 end 0 n out
     ended {pending′} {end} w e =
         record {

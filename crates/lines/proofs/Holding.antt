@@ -12,8 +12,8 @@ use Rattle.modular.proofs.Search.{le-or-lt}
 use Rattle.stream.specs.Line.{hasForm, lineAnswer}
 use Rattle.stream.specs.Feed.{Partial, held, tooLong, answerTo, answerAtEnd, overwritten, lastLines}
 use Rattle.stream.proofs.Whole.{clip, clip-short, clip-long, extended-clip}
-use Rattle.lines.specs.States.{partialOf, extendedBy, Holds}
-use Rattle.lines.proofs.Clamping.{Least}
+use Rattle.lines.specs.States.{partialOf, extendedBy, BeginsWith}
+use Rattle.lines.proofs.Clamping.{Smaller}
 
 -- The line so far.
 
@@ -63,10 +63,10 @@ module _ (line : List ℕ) (len : ℕ) (s : List ℕ) (long : length line ≡ 10
 -- The answer to it.
 
 -- the contract of an answer, of another name for its bytes
-pub holds : (old : List ℕ) {new bytes answer : List ℕ} {end : ℕ} → length old ≡ 128 → bytes ≡ answer
-    → (end ≡ length bytes) × ((end ≤ 128) × (new ≡ overwritten bytes old)) → Holds new end answer
+pub begins-with : (old : List ℕ) {new bytes answer : List ℕ} {end : ℕ} → length old ≡ 128 → bytes ≡ answer
+    → (end ≡ length bytes) × ((end ≤ 128) × (new ≡ overwritten bytes old)) → BeginsWith new end answer
 unfolding overwritten
-holds old {new} {bytes} {answer} {end} long e h =
+begins-with old {new} {bytes} {answer} {end} long e h =
     record {
       text = rw (h .0, h .1 .1) (take-append-seam bytes (drop (length bytes) old)) ∙ e;
       fits = h .1 .0;
@@ -83,12 +83,12 @@ answer-held line len h = sym (ap answerTo (partial-held line len h))
 
 -- the end of the input ends one line, or none where the line so far is empty
 
-last-held : (l : List ℕ) (r : ℕ) → Least r (length l) 1 → r ≡ lastLines (held l)
+last-held : (l : List ℕ) (r : ℕ) → Smaller r (length l) 1 → r ≡ lastLines (held l)
 last-held [] r h = omega (arith, h .0)
 last-held (b ∷ l) r h =
     ⊎-elim (λ (k : length (b ∷ l) ≤ r). omega (arith, h .1)) (λ (k : r < length (b ∷ l)). h .2 k) (le-or-lt (length (b ∷ l)) r)
 
-pub last-lines : (line : List ℕ) (len r : ℕ) → length line ≡ 101 → Least r len 1 → r ≡ lastLines (partialOf line len)
+pub last-lines : (line : List ℕ) (len r : ℕ) → length line ≡ 101 → Smaller r len 1 → r ≡ lastLines (partialOf line len)
 last-lines line len r long h =
     ⊎-elim
     (λ (k : len ≤ 101).

@@ -9,7 +9,7 @@ use lib.ListN.{length, take, drop, length-drop, take-append-drop, drop-of-length
 use lib.Seq.{length-take-le, drop-drop, take-take, getD-drop, take-paste, drop-paste, length-paste, take-nil, drop-nil}
 use Rattle.stream.specs.Feed.{Model, Fed, answerTo, feedFrom, overwritten}
 use Rattle.stream.proofs.Feed.{feed-stop}
-use Rattle.lines.specs.States.{partialOf, pendingOf, extendedBy, Holds, Emitted}
+use Rattle.lines.specs.States.{partialOf, pendingOf, extendedBy, BeginsWith, Emitted}
 use Rattle.lines.specs.Ends.{LineEnd}
 use Rattle.lines.proofs.Turns.{ahead, ahead-ahead, emit-law, piece-law, end-law}
 
@@ -111,7 +111,7 @@ module _ {goal : Fed} {input out₀ line : List ℕ} {len : ℕ} {pending : List
 
     -- byte 10 came: the answer to the line is pending
     pub answered : {line′ pending′ : List ℕ} {to′ : ℕ} → end < length input → length line′ ≡ 101
-        → Holds pending′ to′ (answerTo (extendedBy (partialOf line len) (take (end - consumed) (drop consumed input))))
+        → BeginsWith pending′ to′ (answerTo (extendedBy (partialOf line len) (take (end - consumed) (drop consumed input))))
         → Turn goal input out₀ line′ 0 pending′ 0 to′ (end + 1) produced out
     unfolding bytes
     answered {line′} {pending′} {to′} h l w =

@@ -28,7 +28,7 @@ extendedBy p [] = p
 extendedBy p (b ∷ s) = extendedBy (extended p b) s
 
 -- an array of 128 bytes begins with the bytes, up to end
-pub record Holds (new : List ℕ) (end : ℕ) (bytes : List ℕ) : Type 0 where
+pub record BeginsWith (new : List ℕ) (end : ℕ) (bytes : List ℕ) : Type 0 where
   pub text : take end new ≡ bytes
   pub fits : end ≤ 128
   pub long : length new ≡ 128

@@ -53,8 +53,8 @@ pub fn step(state: State, input: &[u8], output: &mut [u8]) -> Stepped
     let mut line = state.line;
     let mut len = state.len;
     let mut pending = state.answer;
-    let mut to = pending::least(state.to, 128);
-    let mut from = pending::least(state.from, to);
+    let mut to = pending::smaller(state.to, 128);
+    let mut from = pending::smaller(state.from, to);
     let mut consumed = 0;
     let mut produced = 0;
     let mut answered = 0;
@@ -113,8 +113,8 @@ pub fn finish(state: State, output: &mut [u8]) -> Finished
     let line = state.line;
     let len = state.len;
     let mut pending = state.answer;
-    let to = pending::least(state.to, 128);
-    let from = pending::least(state.from, to);
+    let to = pending::smaller(state.to, 128);
+    let from = pending::smaller(state.from, to);
     let n = pending::emit(&pending, from, to, output, 0);
     let next = from + n;
     if next < to {
@@ -132,7 +132,7 @@ pub fn finish(state: State, output: &mut [u8]) -> Finished
             done: false,
         };
     }
-    let answered = pending::least(len, 1);
+    let answered = pending::smaller(len, 1);
     let end = line::answer_at_end(&line, len, &mut pending);
     let k = pending::emit(&pending, 0, end, output, n);
     let produced = n + k;

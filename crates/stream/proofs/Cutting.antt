@@ -19,15 +19,15 @@ use Rattle.stream.proofs.Feed.{still, stops-conserves, drop-nonempty, c
 -- The calls at the end.
 
 -- the pending bytes have room
-abbrev finished : Model → ℕ → Fed
-finished m r =
+abbrev fedAtEnd : Model → ℕ → Fed
+fedAtEnd m r =
     record {
       model = record { line = held []; pending = drop r (answerAtEnd (m .line)) };
       consumed = 0;
       produced = m .pending ++ take r (answerAtEnd (m .line));
     }
 
-pub finish-on : (m : Model) (room : ℕ) → length (m .pending) ≤ room → finishing m room ≡ finished m (room - length (m .pending))
+pub finish-on : (m : Model) (room : ℕ) → length (m .pending) ≤ room → finishing m room ≡ fedAtEnd m (room - length (m .pending))
 unfolding finishing
 finish-on m room h = rw (le-leb (length (m .pending)) room h, finishing)
 

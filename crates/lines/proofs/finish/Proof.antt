@@ -33,10 +33,10 @@ abbrev O : tie.After-emit → List ℕ
 O c = now (started c .args .output)
 
 abbrev from : tie.After-emit → ℕ
-from c = c .before .before .before .least2 .result
+from c = c .before .before .before .smaller2 .result
 
 abbrev to : tie.After-emit → ℕ
-to c = c .before .before .before .before .least .result
+to c = c .before .before .before .before .smaller .result
 
 abbrev first-bytes : tie.After-emit → List ℕ
 first-bytes c = pendingOf (started c .args .state .answer) (from c) (to c)
@@ -44,7 +44,7 @@ first-bytes c = pendingOf (started c .args .state .answer) (from c) (to c)
 first-length : (c : tie.After-emit) → length (first-bytes c) ≡ to c - from c
 first-length c =
     let bounded = c .before .before .before .before in
-    length-pending _ _ _ (long-answer (bounded .before)) (bounded .least .ensures .1)
+    length-pending _ _ _ (long-answer (bounded .before)) (bounded .smaller .ensures .1)
 
 -- those that had room are put out
 first-turn : (c : tie.After-emit)
@@ -55,9 +55,9 @@ first-turn : (c : tie.After-emit)
 first-turn c =
     let bounded = c .before .before .before .before in
     let s = started c .args .state in
-    let ordered = c .before .before .before .least2 .ensures .1 in
+    let ordered = c .before .before .before .smaller2 .ensures .1 in
     let long = long-line (bounded .before .before) in
-    let begun = begins [] (O c) (s .line) (s .len) (s .answer) _ _ long (long-answer (bounded .before)) ordered (bounded .least .ensures .1) in
+    let begun = begins [] (O c) (s .line) (s .len) (s .answer) _ _ long (long-answer (bounded .before)) ordered (bounded .smaller .ensures .1) in
     rw (zero-add (c .emit .result)) at (emitted begun (c .emit .ensures))
 
 -- the model with them pending
@@ -71,7 +71,7 @@ same-model c =
     let bounded = c .before .before .before .before in
     let s = started c .args .state in
     ap (λ (o : List ℕ). record { line = partialOf (s .line) (s .len); pending = o })
-    (clamped (s .answer) (s .from) (s .to) _ _ (long-answer (bounded .before)) (bounded .least .ensures) (c .before .before .before .least2 .ensures))
+    (clamped (s .answer) (s .from) (s .to) _ _ (long-answer (bounded .before)) (bounded .smaller .ensures) (c .before .before .before .smaller2 .ensures))
 
 same-call : (c : tie.After-emit) → finishing (first-model c) (length (O c)) ≡ finishing (modelOf (started c .args .state)) (length (O c))
 same-call c = ap (λ (m : Model). finishing m (length (O c))) (same-model c)
@@ -80,11 +80,11 @@ same-lines : (c : tie.After-emit)
     → linesFinished (first-model c) (length (O c)) ≡ linesFinished (modelOf (started c .args .state)) (length (O c))
 same-lines c = ap (λ (m : Model). linesFinished m (length (O c))) (same-model c)
 
-least-requires : tie.Need-least-requires
-least-requires c κs = search needs
+smaller-requires : tie.Need-smaller-requires
+smaller-requires c κs = search needs
 
-least-requires-2 : tie.Need-least-requires-2
-least-requires-2 c κs = search needs
+smaller-requires-2 : tie.Need-smaller-requires-2
+smaller-requires-2 c κs = search needs
 
 slice-aggregate-emit : tie.Need-slice-aggregate-emit
 slice-aggregate-emit c = search needs
@@ -92,7 +92,7 @@ slice-aggregate-emit c = search needs
 emit-requires : tie.Need-emit-requires
 emit-requires c κs =
     let l = c .before .before .before in
-    (c .before .before .least2 .ensures .1, omega (arith, l .least .ensures .1, long-answer (l .before)), zero-le)
+    (c .before .before .smaller2 .ensures .1, omega (arith, l .smaller .ensures .1, long-answer (l .before)), zero-le)
 
 add-next : tie.Need-add-next
 add-next c = search needs
@@ -111,8 +111,8 @@ returns c =
     (sym (counts-stop (first-model em) (length (O em)) cut) ∙ same-lines em)
     (more-pending _ _ _ (t .long-pending) (t .end) (c .if1 .taken))
 
-least-requires-3 : tie.Need-least-requires-3
-least-requires-3 c κs = search needs
+smaller-requires-3 : tie.Need-smaller-requires-3
+smaller-requires-3 c κs = search needs
 
 slice-aggregate-answer-at-end : tie.Need-slice-aggregate-answer-at-end
 slice-aggregate-answer-at-end c = search needs
@@ -146,7 +146,7 @@ returns-2 c =
     let room : length (first-bytes em) ≤ length (O em) = omega (arith, all, em .emit .ensures .fits) in
     let t2 = ended (first-bytes em) t (e1 .if1 .left) room w all in
     let t3 = rw (zero-add (e2 .emit2 .result)) at (emitted t2 (e2 .emit2 .ensures)) in
-    let last = last-lines _ _ (n3 .least3 .result) (t .long-line) (n3 .least3 .ensures) in
+    let last = last-lines _ _ (n3 .smaller3 .result) (t .long-line) (n3 .smaller3 .ensures) in
     let at-end = a .answer-at-end in
     finished (all-done t3 (λ h. e2 .emit2 .ensures .full (omega arith) ∙ t .same)) (same-call em)
     (last ∙ sym (counts-on (first-model em) (length (O em)) room) ∙ same-lines em)
@@ -156,14 +156,14 @@ pub finish-spec : {M : Type 1} → statement M
 finish-spec =
     tie.close
     (tie.spec
-    least-requires
-    least-requires-2
+    smaller-requires
+    smaller-requires-2
     slice-aggregate-emit
     emit-requires
     add-next
     same-length
     returns
-    least-requires-3
+    smaller-requires-3
     slice-aggregate-answer-at-end
     answer-at-end-requires
     slice-aggregate-emit-2

@@ -47,13 +47,13 @@ long-answer c = search needs
 -- the pending bytes of the call, whatever indices the state holds
 same-call : (c : tie.At-loop Inv-loop μ-loop)
     → let s = started c .args .state in
-    let pending = pendingOf (s .answer) (c .before .least2 .result) (c .before .before .least .result) in
+    let pending = pendingOf (s .answer) (c .before .smaller2 .result) (c .before .before .smaller .result) in
     feedFrom (partialOf (s .line) (s .len)) pending (I c) (length (O c)) ≡ feed (modelOf s) (I c) (length (O c))
 unfolding modelOf feed
 same-call c =
     let s = started c .args .state in
     ap (λ (o : List ℕ). feedFrom (partialOf (s .line) (s .len)) o (I c) (length (O c)))
-    (clamped (s .answer) (s .from) (s .to) _ _ (long-answer c) (c .before .before .least .ensures) (c .before .least2 .ensures))
+    (clamped (s .answer) (s .from) (s .to) _ _ (long-answer c) (c .before .before .smaller .ensures) (c .before .smaller2 .ensures))
 
 line-long : (c : tie.After-line-end Inv-loop μ-loop) → length (head (put-out c) .loop .line) ≡ 101
 line-long c = head (put-out c) .loop .inv .0 .long-line
@@ -62,14 +62,14 @@ line-long c = head (put-out c) .loop .inv .0 .long-line
 further : (c : tie.Else2 Inv-loop μ-loop) → c .before .before .line-end .result < length (I (head (put-out (c .before .before))))
 further c = omega (arith, c .before .before .line-end .ensures .high, c .if2 .left)
 
-least-requires : tie.Need-least-requires Inv-loop μ-loop
-least-requires c κs = tt
+smaller-requires : tie.Need-smaller-requires Inv-loop μ-loop
+smaller-requires c κs = tt
 
-least-requires-2 : tie.Need-least-requires-2 Inv-loop μ-loop
-least-requires-2 c κs = tt
+smaller-requires-2 : tie.Need-smaller-requires-2 Inv-loop μ-loop
+smaller-requires-2 c κs = tt
 
 loop-holds : tie.Need-loop-holds Inv-loop μ-loop
-loop-holds c = (begins _ _ _ _ _ _ _ (search needs) (search needs) (c .least2 .ensures .1) (c .before .least .ensures .1), refl)
+loop-holds c = (begins _ _ _ _ _ _ _ (search needs) (search needs) (c .smaller2 .ensures .1) (c .before .smaller .ensures .1), refl)
 
 slice-aggregate-emit : tie.Need-slice-aggregate-emit Inv-loop μ-loop
 slice-aggregate-emit c = sym (c .before .loop .inv .0 .long-pending)
@@ -173,8 +173,8 @@ step-spec =
     (tie.spec
     Inv-loop
     μ-loop
-    least-requires
-    least-requires-2
+    smaller-requires
+    smaller-requires-2
     loop-holds
     slice-aggregate-emit
     emit-requires

@@ -17,8 +17,8 @@ returns-2 c =
     let s = c .before .before .before .before in
     hold-full (now (s .args .line)) (s .args .len) (now (s .args .bytes)) (s .pre) (c .before .if1 .left) (c .if2 .taken)
 
-copy-requires : tie.Need-copy-requires
-copy-requires c κs = search needs
+paste-requires : tie.Need-paste-requires
+paste-requires c κs = search needs
 
 add-result : tie.Need-add-result
 add-result c = search needs
@@ -31,7 +31,7 @@ returns-3 c =
     let t = c .before .before in
     let e = t .before .before in
     let s = e .before .before .before .before in
-    hold-room (now (s .args .line)) (s .args .len) (now (s .args .bytes)) (s .pre) (e .before .if1 .left) (omega (arith, e .if2 .left, e .before .if1 .left)) (t .copy .ensures)
+    hold-room (now (s .args .line)) (s .args .len) (now (s .args .bytes)) (s .pre) (e .before .if1 .left) (omega (arith, e .if2 .left, e .before .if1 .left)) (t .paste .ensures)
 
 pub hold-spec : {M : Type 1} → statement M
-hold-spec = tie.close (tie.spec returns returns-2 copy-requires add-result same-length returns-3)
+hold-spec = tie.close (tie.spec returns returns-2 paste-requires add-result same-length returns-3)

@@ -1,16 +1,16 @@
--- `lines::pending::copy` meets its contract: after i turns the first i bytes are copied.
+-- `lines::pending::paste` meets its contract: after i turns the first i bytes are copied.
 -- Assumes nothing.
 use Prim.Native.Nat.{_-_, zero-le}
 use native.Mathlib.Omega.{arith}
 use denote.Ref.{now}
 use lib.ListN.{length}
 use lib.Seq.{paste-zero}
-use Rattle.lines.proofs.Copying.{Copied, copied-length, copied-more, copied-all}
-use Rattle.lines.proofs.pending.copy.Statement.{statement}
-use Rattle.lines.proofs.pending.copy.Tie as tie
+use Rattle.lines.proofs.Pasting.{Pasted, pasted-length, pasted-more, pasted-all}
+use Rattle.lines.proofs.pending.paste.Statement.{statement}
+use Rattle.lines.proofs.pending.paste.Tie as tie
 
 abbrev Inv-loop : tie.InvT-loop
-Inv-loop bytes to₀ at i₀ to i = Copied bytes to₀ at to i
+Inv-loop bytes to₀ at i₀ to i = Pasted bytes to₀ at to i
 
 abbrev μ-loop : tie.MeasureT-loop
 μ-loop bytes to₀ at i₀ to i = length bytes - i
@@ -25,7 +25,7 @@ add-to : tie.Need-add-to Inv-loop μ-loop
 add-to c = omega arith
 
 slice-write-to : tie.Need-slice-write-to Inv-loop μ-loop
-slice-write-to c = omega (arith, copied-length (c .before .before .before .pre) (c .before .before .loop .inv))
+slice-write-to c = omega (arith, pasted-length (c .before .before .before .pre) (c .before .before .loop .inv))
 
 add-i : tie.Need-add-i Inv-loop μ-loop
 add-i c = omega arith
@@ -34,16 +34,16 @@ loop-less : tie.Need-loop-less Inv-loop μ-loop
 loop-less c = omega arith
 
 loop-again : tie.Need-loop-again Inv-loop μ-loop
-loop-again c = copied-more (c .before .before .before .pre) (c .before .before .loop .inv) (c .before .loop-test .taken)
+loop-again c = pasted-more (c .before .before .before .pre) (c .before .before .loop .inv) (c .before .loop-test .taken)
 
 same-length : tie.Need-same-length Inv-loop μ-loop
-same-length c = copied-length (c .before .before .pre) (c .before .loop .inv)
+same-length c = pasted-length (c .before .before .pre) (c .before .loop .inv)
 
 returns : tie.Need-returns Inv-loop μ-loop
-returns c = copied-all (c .before .before .pre) (c .before .loop .inv) (c .loop-test .left)
+returns c = pasted-all (c .before .before .pre) (c .before .loop .inv) (c .loop-test .left)
 
-pub copy-spec : {M : Type 1} → statement M
-copy-spec =
+pub paste-spec : {M : Type 1} → statement M
+paste-spec =
     tie.close
     (tie.spec
     Inv-loop
