@@ -22,7 +22,8 @@ take-smaller l a r h =
 drop-smaller : (l : List ℕ) (a r : ℕ) → Smaller r a (length l) → drop r l ≡ drop a l
 drop-smaller l a r h =
     ⊎-elim (λ (k : a ≤ r). let e : r ≡ a = omega (arith, h .0) in ap (λ (n : ℕ). drop n l) e)
-    (λ (k : r < a). drop-of-length-le l {i = r} (omega (arith, h .2 k)) ∙ sym (drop-of-length-le l {i = a} (omega (arith, h .2 k)))) (le-or-lt a r)
+    (λ (k : r < a).
+    drop-of-length-le l {i = r} (omega (arith, h .2 k)) ∙ sym (drop-of-length-le l {i = a} (omega (arith, h .2 k)))) (le-or-lt a r)
 
 -- indices past the array's end, or out of order, mean what the nearest ones mean
 pub clamped : (answer : List ℕ) (from to from′ to′ : ℕ) → length answer ≡ 128 → Smaller to′ to 128 → Smaller from′ from to′

@@ -54,10 +54,12 @@ module _ (line : List ℕ) (len : ℕ) (s : List ℕ) (long : length line ≡ 10
   pub hold-full : 101 - len < length s → tooLong ≡ extendedBy (partialOf line len) s
   hold-full h = sym (by-clip ∙ clip-long (take len line ++ s) (omega (arith, joined-length)))
 
-  pub hold-room : {new : List ℕ} → len + length s ≤ 101 → new ≡ paste line len s (length s) → partialOf new (len + length s) ≡ extendedBy (partialOf line len) s
+  pub hold-room : {new : List ℕ} → len + length s ≤ 101 → new ≡ paste line len s (length s)
+      → partialOf new (len + length s) ≡ extendedBy (partialOf line len) s
   hold-room {new} h e =
+      let pasted = take-paste line len s (length s) (omega arith) (omega arith) in
       partial-held new (len + length s) h
-      ∙ ap held (ap (take (len + length s)) e ∙ take-paste line len s (length s) (omega arith) (omega arith) ∙ ap (λ (t : List ℕ). take len line ++ t) (take-length s))
+      ∙ ap held (ap (take (len + length s)) e ∙ pasted ∙ ap (λ (t : List ℕ). take len line ++ t) (take-length s))
       ∙ sym (by-clip ∙ clip-short (take len line ++ s) (omega (arith, joined-length)))
 
 -- The answer to it.
@@ -70,7 +72,10 @@ begins-with old {new} {bytes} {answer} {end} long e h =
     record {
       text = rw (h .0, h .1 .1) (take-append-seam bytes (drop (length bytes) old)) ∙ e;
       fits = h .1 .0;
-      long = ap length (h .1 .1) ∙ length-append bytes (drop (length bytes) old) ∙ omega (arith, h .0, h .1 .0, length-drop (length bytes) old);
+      long =
+          ap length (h .1 .1)
+          ∙ length-append bytes (drop (length bytes) old)
+          ∙ omega (arith, h .0, h .1 .0, length-drop (length bytes) old);
     }
 
 -- a line that has run over is answered as the empty line is
@@ -103,7 +108,8 @@ end-held : (l : List ℕ) → 0 < length l → answerTo (held l) ≡ answerAtEnd
 end-held [] h = absurd (omega arith)
 end-held (b ∷ l) h = refl
 
-pub end-some : (line : List ℕ) (len : ℕ) → length line ≡ 101 → (len ≡ 0 → ⊥) → answerTo (partialOf line len) ≡ answerAtEnd (partialOf line len)
+pub end-some : (line : List ℕ) (len : ℕ) → length line ≡ 101 → (len ≡ 0 → ⊥)
+    → answerTo (partialOf line len) ≡ answerAtEnd (partialOf line len)
 end-some line len long n =
     ⊎-elim
     (λ (h : len ≤ 101).

@@ -35,10 +35,11 @@ same-length c = search needs
 
 returns : tie.Need-returns
 returns c =
-    let t = c .before .before in
-    let l = t .before .before .before in
-    let s = l .before .before .before in
-    emits (now (s .args .answer)) (now (s .args .output)) (s .pre .1) (s .pre .0) (s .pre .2) (l .smaller .ensures) (t .paste .ensures)
+    let pasted = c .before .before in
+    let measured = pasted .before .before .before in
+    let start = measured .before .before .before in
+    let (order, end, room) = start .pre in
+    emits (now (start .args .answer)) (now (start .args .output)) end order room (measured .smaller .ensures) (pasted .paste .ensures)
 
 pub emit-spec : {M : Type 1} → statement M
 emit-spec =

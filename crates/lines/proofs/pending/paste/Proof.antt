@@ -25,7 +25,7 @@ add-to : tie.Need-add-to Inv-loop μ-loop
 add-to c = omega arith
 
 slice-write-to : tie.Need-slice-write-to Inv-loop μ-loop
-slice-write-to c = omega (arith, pasted-length (c .before .before .before .pre) (c .before .before .loop .inv))
+slice-write-to c = let turn = c .before .before in omega (arith, pasted-length (turn .before .pre) (turn .loop .inv))
 
 add-i : tie.Need-add-i Inv-loop μ-loop
 add-i c = omega arith
@@ -34,7 +34,7 @@ loop-less : tie.Need-loop-less Inv-loop μ-loop
 loop-less c = omega arith
 
 loop-again : tie.Need-loop-again Inv-loop μ-loop
-loop-again c = pasted-more (c .before .before .before .pre) (c .before .before .loop .inv) (c .before .loop-test .taken)
+loop-again c = let turn = c .before .before in pasted-more (turn .before .pre) (turn .loop .inv) (c .before .loop-test .taken)
 
 same-length : tie.Need-same-length Inv-loop μ-loop
 same-length c = pasted-length (c .before .before .pre) (c .before .loop .inv)

@@ -22,7 +22,8 @@ shared-slice-read-if1 c = omega arith
 
 returns : tie.Need-returns Inv-loop μ-loop
 returns c =
-    let i = c .before .before .before .loop .inv in
+    let turn = c .before .before .before in
+    let i = turn .loop .inv in
     record { low = i .0; high = i .1; none = i .2; ends = λ h. c .if1 .taken }
 
 add-at : tie.Need-add-at Inv-loop μ-loop
@@ -33,8 +34,9 @@ loop-less c = omega arith
 
 loop-again : tie.Need-loop-again Inv-loop μ-loop
 loop-again c =
-    let l = c .before .before .before in
-    (omega (arith, l .loop .inv .0), omega arith, none-more (now (l .before .args .input)) (l .loop .inv .2) (c .if1 .left))
+    let turn = c .before .before .before in
+    let i = turn .loop .inv in
+    (omega (arith, i .0), omega arith, none-more (now (turn .before .args .input)) (i .2) (c .if1 .left))
 
 returns-2 : tie.Need-returns-2 Inv-loop μ-loop
 returns-2 c =

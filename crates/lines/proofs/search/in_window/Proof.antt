@@ -13,7 +13,14 @@ abbrev μ-loop : tie.MeasureT-loop
 μ-loop input from first₀ i₀ first i = 128 - i
 
 loop-holds : tie.Need-loop-holds Inv-loop μ-loop
-loop-holds c = record { within = zero-le; high = omega arith; before = λ h. absurd (omega arith); none = λ j l a b e. omega arith; ends = λ h. absurd (omega arith) }
+loop-holds c =
+    record {
+      within = zero-le;
+      high = omega arith;
+      before = λ h. absurd (omega arith);
+      none = λ j l a b e. omega arith;
+      ends = λ h. absurd (omega arith);
+    }
 
 cast-end-index : tie.Need-cast-end-index Inv-loop μ-loop
 cast-end-index c = omega arith
@@ -38,8 +45,8 @@ loop-less c = omega arith
 
 loop-again : tie.Need-loop-again Inv-loop μ-loop
 loop-again c =
-    let t = c .before .before .before in
-    seen-more (t .before .loop .inv) (t .loop-test .taken) (c .before .end-index .ensures) (c .earlier .ensures)
+    let entered = c .before .before .before in
+    seen-more (entered .before .loop .inv) (entered .loop-test .taken) (c .before .end-index .ensures) (c .earlier .ensures)
 
 cast-result : tie.Need-cast-result Inv-loop μ-loop
 cast-result c = omega (arith, c .before .loop .inv .high)
