@@ -1,5 +1,5 @@
 // Answers in print.
-use crate::text::least;
+use crate::text::smaller;
 use libc::STDOUT_FILENO;
 
 // What an output holds before a call.
@@ -8,7 +8,7 @@ pub(crate) const FILL: u8 = 170;
 // The digits of a word.
 pub(crate) fn print_word(s: &[u8]) {
     let mut text = [0u8; 128];
-    let n = least(s.len(), 128);
+    let n = smaller(s.len(), 128);
     let mut i = 0;
     while i < n {
         let x = s[i];

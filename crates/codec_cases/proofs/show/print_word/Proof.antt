@@ -15,8 +15,8 @@ Inv-loop s text₀ n i₀ text i = (i ≤ n) × (n ≤ length s) × (n ≤ 128) 
 abbrev μ-loop : tie.MeasureT-loop
 μ-loop s text₀ n i₀ text i = n - i
 
-least-requires : tie.Need-least-requires Inv-loop μ-loop
-least-requires c κs = search needs
+smaller-requires : tie.Need-smaller-requires Inv-loop μ-loop
+smaller-requires c κs = search needs
 
 loop-holds : tie.Need-loop-holds Inv-loop μ-loop
 loop-holds c = search needs
@@ -57,7 +57,7 @@ print-word-spec =
     (tie.spec
     Inv-loop
     μ-loop
-    least-requires
+    smaller-requires
     loop-holds
     shared-slice-read-x
     add-text

@@ -1,4 +1,5 @@
--- `codec_cases::text::field` is safe and ends. The invariant: a field starts within the line. The measure is how many fields are left to pass.
+-- `codec_cases::text::field` is safe and ends. The invariant: a field starts within the line. The measure is how many fields are left to
+-- pass.
 -- Assumes nothing.
 use Prim.Native.Nat.{_≤_}
 use lib.ListN.{length}

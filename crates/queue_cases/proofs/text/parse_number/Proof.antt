@@ -1,10 +1,10 @@
--- `number` is safe and ends: each number is small.
+-- `parse_number` is safe and ends: each number is small.
 -- Assumes nothing.
 use Prim.Native.Nat.{_-_, _<_}
 use lib.ListN.{length}
 use borrow.Author.Needs.{needs}
-use Rattle.queue_cases.proofs.text.number.Statement.{statement}
-use Rattle.queue_cases.proofs.text.number.Tie as tie
+use Rattle.queue_cases.proofs.text.parse_number.Statement.{statement}
+use Rattle.queue_cases.proofs.text.parse_number.Tie as tie
 
 abbrev Inv-loop : tie.InvT-loop
 Inv-loop line at i₀ value₀ i value = value < 1000256
@@ -45,8 +45,8 @@ loop-again c = search needs
 returns-3 : tie.Need-returns-3 Inv-loop μ-loop
 returns-3 c = search needs
 
-pub number-spec : {M : Type 1} → statement M
-number-spec =
+pub parse-number-spec : {M : Type 1} → statement M
+parse-number-spec =
     tie.close
     (tie.spec
     Inv-loop

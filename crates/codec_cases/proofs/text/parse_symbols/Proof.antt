@@ -1,4 +1,4 @@
--- `codec_cases::text::symbols` is safe and ends. The invariant: the output keeps its length. The measure is what is left.
+-- `codec_cases::text::parse_symbols` is safe and ends. The invariant: the output keeps its length. The measure is what is left.
 -- Assumes nothing.
 use mathlib.Core.Path.{_≡_, ap, _∙_}
 use mathlib.Core.Logic.{⊎-elim}
@@ -6,8 +6,8 @@ use Prim.Native.Nat.{_-_}
 use lib.ListN.{length, length-set}
 use denote.Ref.{now}
 use borrow.Author.Needs.{needs}
-use Rattle.codec_cases.proofs.text.symbols.Statement.{statement}
-use Rattle.codec_cases.proofs.text.symbols.Tie as tie
+use Rattle.codec_cases.proofs.text.parse_symbols.Statement.{statement}
+use Rattle.codec_cases.proofs.text.parse_symbols.Tie as tie
 
 abbrev Inv-loop : tie.InvT-loop
 Inv-loop s out₀ n₀ i₀ out n i = length out ≡ length out₀
@@ -35,7 +35,8 @@ loop-less c = search needs
 
 loop-again : tie.Need-loop-again Inv-loop μ-loop
 loop-again c =
-    let l : length (c .before .before .before .loop .out) ≡ length (now (c .before .before .before .before .args .out)) = c .before .before .before .loop .inv in
+    let turn = c .before .before .before in
+    let l : length (turn .loop .out) ≡ length (now (turn .before .args .out)) = turn .loop .inv in
     ⊎-elim (λ w. ap length (w .2) ∙ simp length-set l) (⊎-elim (λ w. ap length (w .2) ∙ l) (λ w. ap length (w .1) ∙ l)) (c .if1 .came)
 
 same-length : tie.Need-same-length Inv-loop μ-loop
@@ -44,8 +45,8 @@ same-length c = search needs
 returns : tie.Need-returns Inv-loop μ-loop
 returns c = search needs
 
-pub symbols-spec : {M : Type 1} → statement M
-symbols-spec =
+pub parse-symbols-spec : {M : Type 1} → statement M
+parse-symbols-spec =
     tie.close
     (tie.spec
     Inv-loop
