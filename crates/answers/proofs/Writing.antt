@@ -10,7 +10,7 @@ use lib.Dec.{ltb}
 use lib.ListN.{length, getD, take, drop, set, length-append, length-map, length-set, length-drop, take-append-drop}
 use lib.Seq.{take-suc, take-all, take-at, set-split, length-take-le, drop-append-add, drop-drop}
 use borrow.Author.Tests.{lt-ltb, le-ltb}
-use Rattle.stream.specs.Line.{digit, decimalBefore, decimal, refusalLine, readingLine}
+use Rattle.stream.specs.Line.{digitByte, decimalBefore, decimal, refusalLine, readingLine}
 use Rattle.stream.specs.Feed.{overwritten}
 use Rattle.code.proofs.Merge.{cases}
 use Rattle.answers.specs.Writing.{Written, headingOf}
@@ -86,27 +86,27 @@ number-two out {n} at h k l w = rw (decimal-two n (32 ∷ []) k l) (one out at (
 
 -- A word.
 
-pub first-none : (out symbols : List ℕ) (at : ℕ) → at ≤ length out → Written out out at (at + 0) (map digit (take 0 symbols))
+pub first-none : (out symbols : List ℕ) (at : ℕ) → at ≤ length out → Written out out at (at + 0) (map digitByte (take 0 symbols))
 first-none out symbols at h =
     let e : at + 0 ≡ at = omega arith in rw e (record { text = sym (take-append-drop at out); ends = omega arith; fits = h })
 
 pub word-more : (out new symbols : List ℕ) (at i : ℕ) → i < length symbols → at + i < length new
-    → Written out new at (at + i) (map digit (take i symbols))
-    → Written out (set new (at + i) (48 + getD symbols i 0)) at (at + (i + 1)) (map digit (take (i + 1) symbols))
+    → Written out new at (at + i) (map digitByte (take i symbols))
+    → Written out (set new (at + i) (48 + getD symbols i 0)) at (at + (i + 1)) (map digitByte (take (i + 1) symbols))
 word-more out new symbols at i h k w =
     let e : at + (i + 1) ≡ suc (at + i) = omega arith in
-    let f : map digit (take (suc i) symbols) ≡ map digit (take i symbols) ++ (48 + getD symbols i 0) ∷ [] =
-    ap (map digit) (take-suc symbols i 0 h) ∙ map-append digit (take i symbols) (getD symbols i 0 ∷ [])
+    let f : map digitByte (take (suc i) symbols) ≡ map digitByte (take i symbols) ++ (48 + getD symbols i 0) ∷ [] =
+    ap (map digitByte) (take-suc symbols i 0 h) ∙ map-append digitByte (take i symbols) (getD symbols i 0 ∷ [])
     in
     rw (e, add-one i, f) (w followed-by one new (at + i) (48 + getD symbols i 0) k)
 
 pub word-end : (out new symbols : List ℕ) (at i last : ℕ) → length symbols ≤ i → at + i < length new
-    → Written out new at (at + i) (map digit (take i symbols))
-    → Written out (set new (at + i) last) at (at + i + 1) (map digit symbols ++ last ∷ [])
+    → Written out new at (at + i) (map digitByte (take i symbols))
+    → Written out (set new (at + i) last) at (at + i + 1) (map digitByte symbols ++ last ∷ [])
 word-end out new symbols at i last h k w = rw add-one ((rw (take-all i symbols h) at w) followed-by one new (at + i) last k)
 
-pub words-length : (symbols : List ℕ) (last : ℕ) → length (map digit symbols ++ last ∷ []) ≡ length symbols + 1
-words-length symbols last = length-append (map digit symbols) (last ∷ []) ∙ ap (λ (n : ℕ). n + 1) (length-map symbols digit)
+pub words-length : (symbols : List ℕ) (last : ℕ) → length (map digitByte symbols ++ last ∷ []) ≡ length symbols + 1
+words-length symbols last = length-append (map digitByte symbols) (last ∷ []) ∙ ap (λ (n : ℕ). n + 1) (length-map symbols digitByte)
 
 -- the two lines, from their fields
 pub refusal-written : {a b c : List ℕ} {i j n : ℕ} → n ≤ 9 → Written a b 0 i (82 ∷ 32 ∷ []) → Written b c i j ((48 + n) ∷ 10 ∷ [])
@@ -117,7 +117,7 @@ refusal-written {n} h f g = rw (decimal-one n (10 ∷ []) (omega arith)) (f foll
 decimal-append : (k n : ℕ) (x y : List ℕ) → decimalBefore k n (x ++ y) ≡ decimalBefore k n x ++ y
 decimal-append zero n x y = refl
 decimal-append (suc k) n x y =
-    cases (ltb n 10) (λ e. rw (e, decimalBefore)) (λ e. rw (e, decimalBefore) (decimal-append k (n / 10) (digit (n % 10) ∷ x) y))
+    cases (ltb n 10) (λ e. rw (e, decimalBefore)) (λ e. rw (e, decimalBefore) (decimal-append k (n / 10) (digitByte (n % 10) ∷ x) y))
 
 pub heading-written : {a b c d e : List ℕ} {i j k l : ℕ} (p v position y : ℕ) → Written a b 0 i ((48 + p) ∷ 32 ∷ [])
     → Written b c i j (v ∷ 32 ∷ []) → Written c d j k (decimal position (32 ∷ [])) → Written d e k l ((48 + y) ∷ 32 ∷ [])
@@ -128,25 +128,25 @@ heading-written p v position y f g h w =
 
 -- the two words of a reading, as they follow its heading
 abbrev words : List ℕ → List ℕ → List ℕ
-words s t = map digit s ++ 32 ∷ (map digit t ++ 10 ∷ [])
+words s t = map digitByte s ++ 32 ∷ (map digitByte t ++ 10 ∷ [])
 
 position-on : (position y : ℕ) (after : List ℕ) → y ≤ 9
-    → decimal position (32 ∷ digit y ∷ 32 ∷ []) ++ after ≡ decimal position (32 ∷ decimal y (32 ∷ after))
+    → decimal position (32 ∷ digitByte y ∷ 32 ∷ []) ++ after ≡ decimal position (32 ∷ decimal y (32 ∷ after))
 unfolding decimal
 position-on position y after h =
-    sym (decimal-append 20 position (32 ∷ digit y ∷ 32 ∷ []) after)
+    sym (decimal-append 20 position (32 ∷ digitByte y ∷ 32 ∷ []) after)
     ∙ ap (λ (l : List ℕ). decimal position (32 ∷ l)) (sym (decimal-one y (32 ∷ after) (omega arith)))
 
 fields : (p v position y : ℕ) (s t : List ℕ) → y ≤ 9
-    → headingOf p v position y ++ ((map digit s ++ 32 ∷ []) ++ (map digit t ++ 10 ∷ [])) ≡ readingLine p v position y s t
+    → headingOf p v position y ++ ((map digitByte s ++ 32 ∷ []) ++ (map digitByte t ++ 10 ∷ [])) ≡ readingLine p v position y s t
 unfolding headingOf readingLine
 fields p v position y s t h =
-    ap (λ (l : List ℕ). headingOf p v position y ++ l) (append-assoc (map digit s) (32 ∷ []) (map digit t ++ 10 ∷ []))
-    ∙ ap (λ (l : List ℕ). digit p ∷ 32 ∷ v ∷ 32 ∷ l) (position-on position y (words s t) h)
+    ap (λ (l : List ℕ). headingOf p v position y ++ l) (append-assoc (map digitByte s) (32 ∷ []) (map digitByte t ++ 10 ∷ []))
+    ∙ ap (λ (l : List ℕ). digitByte p ∷ 32 ∷ v ∷ 32 ∷ l) (position-on position y (words s t) h)
 
 pub reading-written : {a b c d : List ℕ} {i j k : ℕ} (p v position y : ℕ) (s t : List ℕ) → y ≤ 9
-    → Written a b 0 i (headingOf p v position y) → Written b c i j (map digit s ++ 32 ∷ []) → Written c d j k (map digit t ++ 10 ∷ [])
-    → Written a d 0 k (readingLine p v position y s t)
+    → Written a b 0 i (headingOf p v position y) → Written b c i j (map digitByte s ++ 32 ∷ [])
+    → Written c d j k (map digitByte t ++ 10 ∷ []) → Written a d 0 k (readingLine p v position y s t)
 reading-written p v position y s t small f g h = rw (fields p v position y s t small) at (f followed-by (g followed-by h))
 
 pub reworded : {old new x y : List ℕ} {at end : ℕ} → x ≡ y → Written old new at end x → Written old new at end y

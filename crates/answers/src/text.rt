@@ -4,7 +4,7 @@ ghost use mathlib.Core.List.{[], _∷_, _++_, map};
 ghost use Prim.Native.Nat.{_+_, _≤_, _<_};
 ghost use lib.ListN.{length};
 ghost use Rattle.code.specs.Component.{Below};
-ghost use Rattle.stream.specs.Line.{digit, decimal, refusalLine, readingLine};
+ghost use Rattle.stream.specs.Line.{digitByte, decimal, refusalLine, readingLine};
 ghost use Rattle.answers.specs.Writing.{Written, headingOf};
 
 // Two bytes.
@@ -33,7 +33,7 @@ fn decimal(out: &mut [u8], at: usize, n: usize) -> usize
 // The digits of a word run together, and one more byte.
 fn word(out: &mut [u8], at: usize, symbols: &[u8], last: u8) -> usize
     requires { ⌜ (at + length (now symbols) < length (now out)) × Below 10 (now symbols) ⌝ }
-    ensures { λ r. ⌜ Written (now (out .entry)) (now (out .exit)) at r (map digit (now (symbols .entry)) ++ last ∷ []) ⌝ }
+    ensures { λ r. ⌜ Written (now (out .entry)) (now (out .exit)) at r (map digitByte (now (symbols .entry)) ++ last ∷ []) ⌝ }
 {
     let mut i = 0;
     while i < symbols.len() {

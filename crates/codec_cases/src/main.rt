@@ -2,17 +2,17 @@
 // `profile first second length` each, and the answer is the word. Words are in the file `words`, a line
 // `profile word first_length second_length` each, and the answer is `C 0 0 first second` or `M place symbol first second`. A refusal is
 // `R number`.
-mod show;
+mod print;
 mod text;
 
 use decoder::Decoded;
 use encoder::Encoded;
 use libc::STDIN_FILENO;
 use libc::STDOUT_FILENO;
-use show::FILL;
-use show::is_untouched;
-use show::print_refusal;
-use show::print_word;
+use print::FILL;
+use print::is_untouched;
+use print::print_refusal;
+use print::print_word;
 use text::field;
 use text::parse_number;
 use text::parse_symbols;

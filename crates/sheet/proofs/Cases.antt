@@ -16,9 +16,9 @@ use Rattle.sheet.specs.Model.{Call, Reply, enqueue, peek, dequeue, queue
 word : List ℕ
 word = replicate 19 2
 
-run : List Call
+calls : List Call
 unfolding word
-run =
+calls =
     enqueue 40 1 word
     ∷ enqueue 1 1 word
     ∷ peek 1 (zeros cellSize)
@@ -28,15 +28,15 @@ run =
     ∷ enqueue 1 1 word
     ∷ []
 
-answers : map Reply.answer (replies queueReply queueAfter (formatQueue (replicate 208 7)) run) ≡ 0 ∷ 8 ∷ 0 ∷ 10 ∷ 0 ∷ 10 ∷ 0 ∷ []
-unfolding word run profile isQueueLength capacity used free records lastUsed recordOf isPadded isRecord isHeader
+answers : map Reply.answer (replies queueReply queueAfter (formatQueue (replicate 208 7)) calls) ≡ 0 ∷ 8 ∷ 0 ∷ 10 ∷ 0 ∷ 10 ∷ 0 ∷ []
+unfolding word calls profile isQueueLength capacity used free records lastUsed recordOf isPadded isRecord isHeader
     isCell isList eachOnce sound formatted formatAnswer formatQueue enqueued enqueueAnswer enqueueQueue cellOf
     shownCell peekAnswer peekOutput dequeued dequeueAnswer dequeueQueue dequeueOutput
 answers = refl
 
-longer : List Call
+longer-calls : List Call
 unfolding word
-longer =
+longer-calls =
     enqueue 2 1 word
     ∷ enqueue 3 1 (replicate 19 1)
     ∷ enqueue 4 1 word
@@ -50,8 +50,8 @@ longer =
     ∷ dequeue (zeros cellSize)
     ∷ []
 
-as-list : replies queueReply queueAfter (formatQueue (replicate 312 7)) longer ≡ replies (listReply 2) (listAfter 2) [] longer
-unfolding word longer profile isQueueLength capacity used free records lastUsed recordOf isPadded isRecord isHeader
+as-list : replies queueReply queueAfter (formatQueue (replicate 312 7)) longer-calls ≡ replies (listReply 2) (listAfter 2) [] longer-calls
+unfolding word longer-calls profile isQueueLength capacity used free records lastUsed recordOf isPadded isRecord isHeader
     isCell isList eachOnce sound formatted formatAnswer formatQueue enqueued enqueueAnswer enqueueQueue cellOf
     shownCell peekAnswer peekOutput dequeued dequeueAnswer dequeueQueue dequeueOutput
 as-list = refl

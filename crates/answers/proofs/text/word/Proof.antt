@@ -6,7 +6,7 @@ use mathlib.Core.List.{List, map}
 use Prim.Native.Nat.{ℕ, _+_, _-_, _≤_}
 use denote.Ref.{now}
 use lib.ListN.{length, take, length-set}
-use Rattle.stream.specs.Line.{digit}
+use Rattle.stream.specs.Line.{digitByte}
 use Rattle.answers.specs.Writing.{Written}
 use Rattle.answers.proofs.Writing.{first-none, word-more, word-end}
 use Rattle.answers.proofs.text.word.Statement.{statement}
@@ -15,7 +15,7 @@ use Rattle.answers.proofs.text.word.Tie as tie
 record Filled (out₀ : List ℕ) (at : ℕ) (symbols out : List ℕ) (i : ℕ) : Type 0 where
   within : i ≤ length symbols
   same : length out ≡ length out₀
-  text : Written out₀ out at (at + i) (map digit (take i symbols))
+  text : Written out₀ out at (at + i) (map digitByte (take i symbols))
 
 abbrev Inv-loop : tie.InvT-loop
 Inv-loop out₀ at symbols last i₀ out i = Filled out₀ at symbols out i

@@ -1,12 +1,12 @@
 -- `is_cell` meets its contract: the cell's body is the part of the queue that is lent.
 -- Assumes nothing.
 use mathlib.Core.Path.{_≡_, ap, subst, _∙_}
-use mathlib.Core.Bool.{true}
+use mathlib.Core.Bool.{Bool, true, _&&_}
 use mathlib.Core.List.{List}
-use Prim.Native.Nat.{ℕ, _+_, _*_, _≤_, _<_}
+use Prim.Native.Nat.{ℕ, _+_, _-_, _*_, _≤_, _<_}
 use native.Mathlib.Omega.{arith}
 use lib.Dec.{leb}
-use lib.ListN.{length}
+use lib.ListN.{length, take, drop}
 use denote.Ref.{now}
 use borrow.Author.Needs.{needs}
 use borrow.Author.Tests.{le-leb, lt-leb}
@@ -37,6 +37,17 @@ fits : (c : tie.Else1) → I (c .before) * cellSize + 1 + bodySize ≤ length (Q
 fits c =
     let counted = c .before in
     omega (arith, size-of (Q counted) (start counted .pre) .long, counted .capacity .ensures, c .if1 .left)
+
+-- the test of the body, made of the part that is lent
+by-body : (c : tie.Else1) (test : List ℕ → Bool) (r : Bool)
+    → let s = Q (c .before) in
+    let i = I (c .before) in
+    let at = i * cellSize + 1 in
+    r ≡ test (take (at + bodySize - at) (drop at s)) → r ≡ (leb i (capacity s) && test (cellBody s i))
+by-body c test r e =
+    let s = Q (c .before) in
+    let i = I (c .before) in
+    on (leb i (capacity s)) (test (cellBody s i)) r (in-queue c) (e ∙ ap test (lent-part s (i * cellSize + 1) bodySize))
 
 capacity-requires : tie.Need-capacity-requires
 capacity-requires c κs = search needs
@@ -78,21 +89,13 @@ returns-2 : tie.Need-returns-2
 unfolding isCell
 returns-2 c =
     let inside = c .before .before .before in
-    let s = Q (inside .before) in
-    let i = I (inside .before) in
-    let lent = lent-part s (i * cellSize + 1) bodySize in
-    let r : c .is-record .result ≡ isRecord (cellBody s i) = c .is-record .ensures ∙ ap isRecord lent in
-    rw (c .before .if2 .taken) (on (leb i (capacity s)) (isRecord (cellBody s i)) (c .is-record .result) (in-queue inside) r)
+    rw (c .before .if2 .taken) (by-body inside isRecord (c .is-record .result) (c .is-record .ensures))
 
 returns-3 : tie.Need-returns-3
 unfolding isCell
 returns-3 c =
     let inside = c .before .before .before in
-    let s = Q (inside .before) in
-    let i = I (inside .before) in
-    let lent = lent-part s (i * cellSize + 1) bodySize in
-    let r : c .all-zero .result ≡ allZero (cellBody s i) = c .all-zero .ensures ∙ ap allZero lent in
-    rw (c .before .if2 .left) (on (leb i (capacity s)) (allZero (cellBody s i)) (c .all-zero .result) (in-queue inside) r)
+    rw (c .before .if2 .left) (by-body inside allZero (c .all-zero .result) (c .all-zero .ensures))
 
 pub is-cell-spec : {M : Type 1} → statement M
 is-cell-spec =

@@ -1,4 +1,4 @@
--- `codec_cases::show::print_word` is safe and ends. The measure is what is left.
+-- `codec_cases::print::print_word` is safe and ends. The measure is what is left.
 -- Assumes nothing.
 use mathlib.Core.Path.{_≡_, sym}
 use Prim.Native.Nat.{_-_, _≤_}
@@ -6,8 +6,8 @@ use lib.ListN.{length}
 use lib.Seq.{length-take-le}
 use native.Mathlib.Omega.{arith}
 use borrow.Author.Needs.{needs}
-use Rattle.codec_cases.proofs.show.print_word.Statement.{statement}
-use Rattle.codec_cases.proofs.show.print_word.Tie as tie
+use Rattle.codec_cases.proofs.print.print_word.Statement.{statement}
+use Rattle.codec_cases.proofs.print.print_word.Tie as tie
 
 abbrev Inv-loop : tie.InvT-loop
 Inv-loop s text₀ n i₀ text i = (i ≤ n) × (n ≤ length s) × (n ≤ 128) × (length text ≡ 128)

@@ -1,10 +1,10 @@
--- `codec_cases::show::is_untouched` is safe and ends. The measure is what is left.
+-- `codec_cases::print::is_untouched` is safe and ends. The measure is what is left.
 -- Assumes nothing.
 use Prim.Native.Nat.{_-_}
 use lib.ListN.{length}
 use borrow.Author.Needs.{needs}
-use Rattle.codec_cases.proofs.show.is_untouched.Statement.{statement}
-use Rattle.codec_cases.proofs.show.is_untouched.Tie as tie
+use Rattle.codec_cases.proofs.print.is_untouched.Statement.{statement}
+use Rattle.codec_cases.proofs.print.is_untouched.Tie as tie
 
 abbrev Inv-loop : tie.InvT-loop
 Inv-loop s i₀ i = Unit {0}
