@@ -74,15 +74,5 @@ returns-2 c =
 pub answer-spec : {M : Type 1} → statement M
 answer-spec =
     tie.close
-    (tie.spec
-    slice-aggregate-parse
-    parse-requires
-    enum-known-profile
-    enum-told
-    refusal-line-requires
-    returns
-    sub-n
-    array-share-prefix-word
-    slice-aggregate-respond
-    respond-requires
-    returns-2)
+    (tie.spec slice-aggregate-parse parse-requires enum-known-profile enum-told refusal-line-requires returns sub-n array-share-prefix-word
+    slice-aggregate-respond respond-requires returns-2)

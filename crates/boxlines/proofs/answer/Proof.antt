@@ -113,22 +113,6 @@ loop-again c = let stepped = called (c .before .before) in (after stepped, kept 
 pub answer-spec : {M : Type 1} → statement M
 answer-spec =
     tie.close
-    (tie.spec
-    Inv-loop
-    μ-loop
-    loop-holds
-    sub-step
-    part-step-start
-    part-step-end
-    step-requires
-    add-at
-    add-lines
-    slice-reshare-prefix-write-all
-    slice-aggregate-write-all
-    write-all-requires
-    same-length
-    returns
-    same-length-2
-    returns-2
-    loop-less
+    (tie.spec Inv-loop μ-loop loop-holds sub-step part-step-start part-step-end step-requires add-at add-lines
+    slice-reshare-prefix-write-all slice-aggregate-write-all write-all-requires same-length returns same-length-2 returns-2 loop-less
     loop-again)

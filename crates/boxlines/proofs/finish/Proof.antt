@@ -91,18 +91,5 @@ loop-again c =
 pub finish-spec : {M : Type 1} → statement M
 finish-spec =
     tie.close
-    (tie.spec
-    Inv-loop
-    μ-loop
-    loop-holds
-    finish-requires
-    add-lines
-    slice-reshare-prefix-write-all
-    slice-aggregate-write-all
-    write-all-requires
-    same-length
-    returns
-    same-length-2
-    returns-2
-    loop-less
-    loop-again)
+    (tie.spec Inv-loop μ-loop loop-holds finish-requires add-lines slice-reshare-prefix-write-all slice-aggregate-write-all
+    write-all-requires same-length returns same-length-2 returns-2 loop-less loop-again)

@@ -64,21 +64,6 @@ returns-2 c = tt
 pub main-spec : {M : Type 1} → statement M
 main-spec =
     tie.close
-    (tie.spec
-    Inv-loop
-    μ-loop
-    large-buffer-requires
-    large-buffer-requires-2
-    start-requires
-    loop-holds
-    slice-aggregate-turn
-    slice-aggregate-turn-2
-    turn-requires
-    wrapping-add-u64-requires
-    enum-told
-    print-status-requires
-    returns
-    sub-turns
-    loop-less
-    loop-again
+    (tie.spec Inv-loop μ-loop large-buffer-requires large-buffer-requires-2 start-requires loop-holds slice-aggregate-turn
+    slice-aggregate-turn-2 turn-requires wrapping-add-u64-requires enum-told print-status-requires returns sub-turns loop-less loop-again
     returns-2)

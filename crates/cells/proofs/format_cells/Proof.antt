@@ -87,11 +87,4 @@ returns-2 c =
 pub format-cells-spec : {M : Type 1} → statement M
 format-cells-spec =
     tie.close
-    (tie.spec
-    is-length-requires
-    returns
-    clear-requires
-    link-requires
-    slice-write-queue
-    same-length
-    returns-2)
+    (tie.spec is-length-requires returns clear-requires link-requires slice-write-queue same-length returns-2)

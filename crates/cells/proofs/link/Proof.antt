@@ -77,17 +77,5 @@ returns c =
 pub link-spec : {M : Type 1} → statement M
 link-spec =
     tie.close
-    (tie.spec
-    Inv-loop
-    μ-loop
-    capacity-requires
-    loop-holds
-    mul-at
-    add-queue
-    cast-queue
-    slice-write-queue
-    add-i
-    loop-less
-    loop-again
-    same-length
-    returns)
+    (tie.spec Inv-loop μ-loop capacity-requires loop-holds mul-at add-queue cast-queue slice-write-queue add-i loop-less loop-again
+    same-length returns)

@@ -89,22 +89,5 @@ returns-3 c =
 pub release-spec : {M : Type 1} → statement M
 release-spec =
     tie.close
-    (tie.spec
-    returns
-    slice-read-first
-    cast-at
-    mul-at
-    add-e
-    returns-2
-    slice-read-queue
-    slice-write-queue
-    slice-read-queue-2
-    slice-write-queue-2
-    slice-write-queue-3
-    add-clear
-    sub-clear
-    part-clear-start
-    part-clear-end
-    clear-requires
-    same-length
-    returns-3)
+    (tie.spec returns slice-read-first cast-at mul-at add-e returns-2 slice-read-queue slice-write-queue slice-read-queue-2
+    slice-write-queue-2 slice-write-queue-3 add-clear sub-clear part-clear-start part-clear-end clear-requires same-length returns-3)

@@ -78,14 +78,4 @@ returns-2 c =
 pub show-spec : {M : Type 1} → statement M
 show-spec =
     tie.close
-    (tie.spec
-    mul-a
-    add-copy
-    sub-copy
-    part-copy-start
-    part-copy-end
-    copy-requires
-    slice-write-out
-    same-length
-    returns
-    returns-2)
+    (tie.spec mul-a add-copy sub-copy part-copy-start part-copy-end copy-requires slice-write-out same-length returns returns-2)

@@ -80,25 +80,7 @@ returns c = search needs
 pub answer-pair-spec : {M : Type 1} → statement M
 answer-pair-spec =
     tie.close
-    (tie.spec
-    field-requires
-    slice-aggregate-parse-symbols
-    parse-symbols-requires
-    smaller-requires
-    field-requires-2
-    slice-aggregate-parse-symbols-2
-    parse-symbols-requires-2
-    smaller-requires-2
-    field-requires-3
-    parse-number-requires
-    smaller-requires-3
-    field-requires-4
-    parse-number-requires-2
-    array-share-prefix-first
-    slice-aggregate-encode-and-print
-    array-share-prefix-second
-    slice-aggregate-encode-and-print-2
-    array-borrow-prefix-out
-    slice-aggregate-encode-and-print-3
-    encode-and-print-requires
-    returns)
+    (tie.spec field-requires slice-aggregate-parse-symbols parse-symbols-requires smaller-requires field-requires-2
+    slice-aggregate-parse-symbols-2 parse-symbols-requires-2 smaller-requires-2 field-requires-3 parse-number-requires smaller-requires-3
+    field-requires-4 parse-number-requires-2 array-share-prefix-first slice-aggregate-encode-and-print array-share-prefix-second
+    slice-aggregate-encode-and-print-2 array-borrow-prefix-out slice-aggregate-encode-and-print-3 encode-and-print-requires returns)

@@ -76,24 +76,7 @@ returns c = search needs
 pub answer-word-spec : {M : Type 1} → statement M
 answer-word-spec =
     tie.close
-    (tie.spec
-    field-requires
-    slice-aggregate-parse-symbols
-    parse-symbols-requires
-    smaller-requires
-    field-requires-2
-    parse-number-requires
-    smaller-requires-2
-    field-requires-3
-    parse-number-requires-2
-    smaller-requires-3
-    field-requires-4
-    parse-number-requires-3
-    array-share-prefix-word
-    slice-aggregate-decode-and-print
-    array-borrow-prefix-first
-    slice-aggregate-decode-and-print-2
-    array-borrow-prefix-second
-    slice-aggregate-decode-and-print-3
-    decode-and-print-requires
-    returns)
+    (tie.spec field-requires slice-aggregate-parse-symbols parse-symbols-requires smaller-requires field-requires-2 parse-number-requires
+    smaller-requires-2 field-requires-3 parse-number-requires-2 smaller-requires-3 field-requires-4 parse-number-requires-3
+    array-share-prefix-word slice-aggregate-decode-and-print array-borrow-prefix-first slice-aggregate-decode-and-print-2
+    array-borrow-prefix-second slice-aggregate-decode-and-print-3 decode-and-print-requires returns)

@@ -164,19 +164,5 @@ returns-2 c =
 pub finish-spec : {M : Type 1} → statement M
 finish-spec =
     tie.close
-    (tie.spec
-    smaller-requires
-    smaller-requires-2
-    slice-aggregate-emit
-    emit-requires
-    add-next
-    same-length
-    returns
-    smaller-requires-3
-    slice-aggregate-answer-at-end
-    answer-at-end-requires
-    slice-aggregate-emit-2
-    emit-requires-2
-    add-produced
-    same-length-2
-    returns-2)
+    (tie.spec smaller-requires smaller-requires-2 slice-aggregate-emit emit-requires add-next same-length returns smaller-requires-3
+    slice-aggregate-answer-at-end answer-at-end-requires slice-aggregate-emit-2 emit-requires-2 add-produced same-length-2 returns-2)

@@ -186,29 +186,6 @@ returns-2 c =
 pub step-spec : {M : Type 1} → statement M
 step-spec =
     tie.close
-    (tie.spec
-    Inv-loop
-    μ-loop
-    smaller-requires
-    smaller-requires-2
-    loop-holds
-    slice-aggregate-emit
-    emit-requires
-    add-from
-    add-produced
-    line-end-requires
-    sub-bytes
-    part-bytes-start
-    part-bytes-end
-    slice-aggregate-hold
-    hold-requires
-    slice-aggregate-answer
-    answer-requires
-    add-consumed
-    add-answered
-    loop-less
-    loop-again
-    same-length
-    returns
-    same-length-2
-    returns-2)
+    (tie.spec Inv-loop μ-loop smaller-requires smaller-requires-2 loop-holds slice-aggregate-emit emit-requires add-from add-produced
+    line-end-requires sub-bytes part-bytes-start part-bytes-end slice-aggregate-hold hold-requires slice-aggregate-answer answer-requires
+    add-consumed add-answered loop-less loop-again same-length returns same-length-2 returns-2)

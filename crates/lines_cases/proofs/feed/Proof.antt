@@ -123,25 +123,6 @@ returns-2 c = tt
 pub feed-spec : {M : Type 1} → statement M
 feed-spec =
     tie.close
-    (tie.spec
-    Inv-loop
-    μ-loop
-    loop-holds
-    sub-rest
-    part-rest-start
-    part-rest-end
-    size-requires
-    smaller-requires
-    slice-aggregate-step
-    step-requires
-    add-at
-    slice-reshare-prefix-write-all
-    slice-aggregate-write-all
-    write-all-requires
-    same-length
-    returns
-    sub-turns
-    loop-less
-    loop-again
-    same-length-2
-    returns-2)
+    (tie.spec Inv-loop μ-loop loop-holds sub-rest part-rest-start part-rest-end size-requires smaller-requires slice-aggregate-step
+    step-requires add-at slice-reshare-prefix-write-all slice-aggregate-write-all write-all-requires same-length returns sub-turns loop-less
+    loop-again same-length-2 returns-2)

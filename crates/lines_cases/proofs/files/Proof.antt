@@ -71,22 +71,5 @@ returns-2 c = tt
 pub files-spec : {M : Type 1} → statement M
 files-spec =
     tie.close
-    (tie.spec
-    Inv-loop
-    μ-loop
-    loop-holds
-    add-tens
-    add-ones
-    slice-aggregate-open-read
-    open-read-requires
-    slice-aggregate-fail
-    fail-requires
-    same-length
-    returns
-    run-requires
-    close-requires
-    add-k
-    loop-less
-    loop-again
-    same-length-2
-    returns-2)
+    (tie.spec Inv-loop μ-loop loop-holds add-tens add-ones slice-aggregate-open-read open-read-requires slice-aggregate-fail fail-requires
+    same-length returns run-requires close-requires add-k loop-less loop-again same-length-2 returns-2)

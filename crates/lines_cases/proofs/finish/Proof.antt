@@ -73,18 +73,5 @@ returns-2 c = tt
 pub finish-spec : {M : Type 1} → statement M
 finish-spec =
     tie.close
-    (tie.spec
-    Inv-loop
-    μ-loop
-    loop-holds
-    finish-requires
-    slice-reshare-prefix-write-all
-    slice-aggregate-write-all
-    write-all-requires
-    same-length
-    returns
-    sub-turns
-    loop-less
-    loop-again
-    same-length-2
-    returns-2)
+    (tie.spec Inv-loop μ-loop loop-holds finish-requires slice-reshare-prefix-write-all slice-aggregate-write-all write-all-requires
+    same-length returns sub-turns loop-less loop-again same-length-2 returns-2)

@@ -81,24 +81,6 @@ returns-2 c = tt
 pub run-spec : {M : Type 1} → statement M
 run-spec =
     tie.close
-    (tie.spec
-    Inv-loop
-    μ-loop
-    buffer-requires
-    start-requires
-    loop-holds
-    slice-aggregate-read
-    read-requires
-    slice-aggregate-count
-    count-requires
-    finish-requires
-    same-length
-    returns
-    array-share-prefix-input
-    slice-aggregate-feed
-    feed-requires
-    sub-turns
-    loop-less
-    loop-again
-    same-length-2
-    returns-2)
+    (tie.spec Inv-loop μ-loop buffer-requires start-requires loop-holds slice-aggregate-read read-requires slice-aggregate-count
+    count-requires finish-requires same-length returns array-share-prefix-input slice-aggregate-feed feed-requires sub-turns loop-less
+    loop-again same-length-2 returns-2)

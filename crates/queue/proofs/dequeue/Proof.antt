@@ -84,13 +84,4 @@ returns-2 c =
 pub dequeue-spec : {M : Type 1} → statement M
 dequeue-spec =
     tie.close
-    (tie.spec
-    peek-requires
-    enum-told
-    same-length
-    same-length-2
-    returns
-    release-requires
-    same-length-3
-    same-length-4
-    returns-2)
+    (tie.spec peek-requires enum-told same-length same-length-2 returns release-requires same-length-3 same-length-4 returns-2)

@@ -194,21 +194,5 @@ returns-4 c =
 pub enqueue-spec : {M : Type 1} → statement M
 enqueue-spec =
     tie.close
-    (tie.spec
-    check-requires
-    enum-known-checked
-    refuse-requires
-    same-length
-    returns
-    admit-requires
-    enum-told
-    same-length-2
-    returns-2
-    slice-read-room
-    same-length-3
-    returns-3
-    cast-store
-    cast-store-2
-    store-requires
-    same-length-4
-    returns-4)
+    (tie.spec check-requires enum-known-checked refuse-requires same-length returns admit-requires enum-told same-length-2 returns-2
+    slice-read-room same-length-3 returns-3 cast-store cast-store-2 store-requires same-length-4 returns-4)

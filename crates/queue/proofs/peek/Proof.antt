@@ -159,13 +159,4 @@ returns-4 c =
 pub peek-spec : {M : Type 1} → statement M
 peek-spec =
     tie.close
-    (tie.spec
-    check-requires
-    enum-known-checked
-    refuse-requires
-    returns
-    returns-2
-    show-requires
-    same-length
-    returns-3
-    returns-4)
+    (tie.spec check-requires enum-known-checked refuse-requires returns returns-2 show-requires same-length returns-3 returns-4)

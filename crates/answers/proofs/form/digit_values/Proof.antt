@@ -59,18 +59,5 @@ returns c = taken-all (c .before .loop .inv) (rw length-drop (c .loop-test .left
 pub digit-values-spec : {M : Type 1} → statement M
 digit-values-spec =
     tie.close
-    (tie.spec
-    Inv-loop
-    μ-loop
-    loop-holds
-    sub-loop
-    add-digit-value
-    shared-slice-read-digit-value
-    digit-value-requires
-    slice-write-word
-    higher-requires
-    add-i
-    loop-less
-    loop-again
-    same-length
-    returns)
+    (tie.spec Inv-loop μ-loop loop-holds sub-loop add-digit-value shared-slice-read-digit-value digit-value-requires slice-write-word
+    higher-requires add-i loop-less loop-again same-length returns)

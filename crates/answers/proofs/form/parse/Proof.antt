@@ -97,17 +97,5 @@ returns-5 c =
 pub parse-spec : {M : Type 1} → statement M
 parse-spec =
     tie.close
-    (tie.spec
-    has-length-requires
-    returns
-    shared-slice-read-digit-value
-    digit-value-requires
-    returns-2
-    shared-slice-read-if3
-    returns-3
-    digit-values-requires
-    same-length
-    returns-4
-    cast-t11
-    same-length-2
-    returns-5)
+    (tie.spec has-length-requires returns shared-slice-read-digit-value digit-value-requires returns-2 shared-slice-read-if3 returns-3
+    digit-values-requires same-length returns-4 cast-t11 same-length-2 returns-5)

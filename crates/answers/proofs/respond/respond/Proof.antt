@@ -48,12 +48,5 @@ returns c = search needs
 pub respond-spec : {M : Type 1} → statement M
 respond-spec =
     tie.close
-    (tie.spec
-    message-length-requires
-    array-borrow-prefix-first
-    slice-aggregate-respond-with
-    array-borrow-prefix-second
-    slice-aggregate-respond-with-2
-    respond-with-requires
-    same-length
-    returns)
+    (tie.spec message-length-requires array-borrow-prefix-first slice-aggregate-respond-with array-borrow-prefix-second
+    slice-aggregate-respond-with-2 respond-with-requires same-length returns)

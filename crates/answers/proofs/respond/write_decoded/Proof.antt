@@ -64,20 +64,6 @@ returns-4 c = let written = c .before .before in rw (written .before .before .be
 pub write-decoded-spec : {M : Type 1} → statement M
 write-decoded-spec =
     tie.close
-    (tie.spec
-    enum-told
-    reading-line-requires
-    enum-known-decoded
-    reading-line-requires-2
-    enum-told-2
-    refusal-line-requires
-    enum-known-decoded-2
-    refusal-line-requires-2
-    same-length
-    returns
-    same-length-2
-    returns-2
-    same-length-3
-    returns-3
-    same-length-4
+    (tie.spec enum-told reading-line-requires enum-known-decoded reading-line-requires-2 enum-told-2 refusal-line-requires
+    enum-known-decoded-2 refusal-line-requires-2 same-length returns same-length-2 returns-2 same-length-3 returns-3 same-length-4
     returns-4)

@@ -59,18 +59,5 @@ returns-2 c =
 pub decimal-spec : {M : Type 1} → statement M
 decimal-spec =
     tie.close
-    (tie.spec
-    cast-pair
-    add-pair
-    pair-requires
-    same-length
-    returns
-    cast-out
-    add-out
-    slice-write-out
-    add-pair-2
-    cast-pair-2
-    add-pair-3
-    pair-requires-2
-    same-length-2
-    returns-2)
+    (tie.spec cast-pair add-pair pair-requires same-length returns cast-out add-out slice-write-out add-pair-2 cast-pair-2 add-pair-3
+    pair-requires-2 same-length-2 returns-2)

@@ -45,13 +45,4 @@ returns c =
 pub heading-spec : {M : Type 1} → statement M
 heading-spec =
     tie.close
-    (tie.spec
-    cast-pair
-    add-pair
-    pair-requires
-    pair-requires-2
-    decimal-requires
-    add-pair-2
-    pair-requires-3
-    same-length
-    returns)
+    (tie.spec cast-pair add-pair pair-requires pair-requires-2 decimal-requires add-pair-2 pair-requires-3 same-length returns)

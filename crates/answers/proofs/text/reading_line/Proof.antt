@@ -42,4 +42,5 @@ returns c =
 
 pub reading-line-spec : {M : Type 1} → statement M
 reading-line-spec =
-    tie.close (tie.spec heading-requires word-requires word-requires-2 same-length returns)
+    tie.close
+    (tie.spec heading-requires word-requires word-requires-2 same-length returns)

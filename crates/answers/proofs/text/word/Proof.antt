@@ -74,20 +74,5 @@ returns c = word-end _ _ _ _ _ _ (c .loop-test .left) (omega (arith, c .before .
 pub word-spec : {M : Type 1} → statement M
 word-spec =
     tie.close
-    (tie.spec
-    Inv-loop
-    μ-loop
-    loop-holds
-    shared-slice-read-out
-    add-out
-    add-out-2
-    slice-write-out
-    add-i
-    loop-less
-    loop-again
-    add-out-3
-    slice-write-out-2
-    add-result
-    add-result-2
-    same-length
-    returns)
+    (tie.spec Inv-loop μ-loop loop-holds shared-slice-read-out add-out add-out-2 slice-write-out add-i loop-less loop-again add-out-3
+    slice-write-out-2 add-result add-result-2 same-length returns)

@@ -54,18 +54,5 @@ returns c = search needs
 pub print-word-spec : {M : Type 1} → statement M
 print-word-spec =
     tie.close
-    (tie.spec
-    Inv-loop
-    μ-loop
-    smaller-requires
-    loop-holds
-    shared-slice-read-x
-    add-text
-    array-write-text
-    add-i
-    loop-less
-    loop-again
-    array-share-prefix-text
-    slice-aggregate-write-all
-    write-all-requires
-    returns)
+    (tie.spec Inv-loop μ-loop smaller-requires loop-holds shared-slice-read-x add-text array-write-text add-i loop-less loop-again
+    array-share-prefix-text slice-aggregate-write-all write-all-requires returns)

@@ -44,15 +44,5 @@ returns c = search needs
 pub parse-number-spec : {M : Type 1} → statement M
 parse-number-spec =
     tie.close
-    (tie.spec
-    Inv-loop
-    μ-loop
-    loop-holds
-    mul-value
-    shared-slice-read-digit-value
-    digit-value-requires
-    add-value
-    add-i
-    loop-less
-    loop-again
+    (tie.spec Inv-loop μ-loop loop-holds mul-value shared-slice-read-digit-value digit-value-requires add-value add-i loop-less loop-again
     returns)

@@ -48,15 +48,4 @@ returns c = search needs
 pub parse-symbols-spec : {M : Type 1} → statement M
 parse-symbols-spec =
     tie.close
-    (tie.spec
-    Inv-loop
-    μ-loop
-    loop-holds
-    shared-slice-read-b
-    slice-write-out
-    add-n
-    add-i
-    loop-less
-    loop-again
-    same-length
-    returns)
+    (tie.spec Inv-loop μ-loop loop-holds shared-slice-read-b slice-write-out add-n add-i loop-less loop-again same-length returns)

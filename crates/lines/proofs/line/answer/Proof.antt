@@ -22,6 +22,4 @@ returns c =
     record { text = h .text ∙ ap answerTo (held .hold .ensures); fits = h .fits; long = h .long }
 
 pub answer-spec : {M : Type 1} → statement M
-answer-spec =
-    tie.close
-    (tie.spec hold-requires answer-to-requires same-length returns)
+answer-spec = tie.close (tie.spec hold-requires answer-to-requires same-length returns)

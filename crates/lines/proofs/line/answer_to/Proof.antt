@@ -38,10 +38,4 @@ returns-2 c =
 pub answer-to-spec : {M : Type 1} → statement M
 answer-to-spec =
     tie.close
-    (tie.spec
-    slice-aggregate-answer
-    answer-requires
-    returns
-    slice-aggregate-answer-2
-    answer-requires-2
-    returns-2)
+    (tie.spec slice-aggregate-answer answer-requires returns slice-aggregate-answer-2 answer-requires-2 returns-2)

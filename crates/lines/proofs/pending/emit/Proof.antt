@@ -44,14 +44,5 @@ returns c =
 pub emit-spec : {M : Type 1} → statement M
 emit-spec =
     tie.close
-    (tie.spec
-    sub-smaller
-    sub-smaller-2
-    smaller-requires
-    add-paste
-    sub-paste
-    part-paste-start
-    part-paste-end
-    paste-requires
-    same-length
+    (tie.spec sub-smaller sub-smaller-2 smaller-requires add-paste sub-paste part-paste-start part-paste-end paste-requires same-length
     returns)

@@ -45,15 +45,4 @@ returns c = pasted-all (c .before .before .pre) (c .before .loop .inv) (c .loop-
 pub paste-spec : {M : Type 1} → statement M
 paste-spec =
     tie.close
-    (tie.spec
-    Inv-loop
-    μ-loop
-    loop-holds
-    shared-slice-read-to
-    add-to
-    slice-write-to
-    add-i
-    loop-less
-    loop-again
-    same-length
-    returns)
+    (tie.spec Inv-loop μ-loop loop-holds shared-slice-read-to add-to slice-write-to add-i loop-less loop-again same-length returns)

@@ -60,18 +60,5 @@ returns c = seen-all (c .before .loop .inv) (c .loop-test .left)
 pub in-window-spec : {M : Type 1} → statement M
 in-window-spec =
     tie.close
-    (tie.spec
-    Inv-loop
-    μ-loop
-    loop-holds
-    cast-end-index
-    add-end-index
-    shared-slice-read-end-index
-    end-index-requires
-    earlier-requires
-    add-i
-    loop-less
-    loop-again
-    cast-result
-    add-result
-    returns)
+    (tie.spec Inv-loop μ-loop loop-holds cast-end-index add-end-index shared-slice-read-end-index end-index-requires earlier-requires add-i
+    loop-less loop-again cast-result add-result returns)

@@ -49,15 +49,4 @@ returns-2 c = end-on (c .before .before .loop .inv .0) (c .before .before .loop 
 pub line-end-spec : {M : Type 1} → statement M
 line-end-spec =
     tie.close
-    (tie.spec
-    Inv-loop
-    μ-loop
-    loop-holds
-    sub-loop
-    in-window-requires
-    sub-if1
-    returns
-    loop-less
-    loop-again
-    by-bytes-requires
-    returns-2)
+    (tie.spec Inv-loop μ-loop loop-holds sub-loop in-window-requires sub-if1 returns loop-less loop-again by-bytes-requires returns-2)

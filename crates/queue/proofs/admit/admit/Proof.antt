@@ -128,13 +128,4 @@ returns-5 c =
 pub admit-spec : {M : Type 1} → statement M
 admit-spec =
     tie.close
-    (tie.spec
-    returns
-    row-of-requires
-    enum-known-row
-    enum-told
-    returns-2
-    returns-3
-    symbols-below-requires
-    returns-4
-    returns-5)
+    (tie.spec returns row-of-requires enum-known-row enum-told returns-2 returns-3 symbols-below-requires returns-4 returns-5)

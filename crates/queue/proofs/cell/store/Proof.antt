@@ -141,24 +141,6 @@ returns c =
 pub store-spec : {M : Type 1} → statement M
 store-spec =
     tie.close
-    (tie.spec
-    slice-read-first
-    cast-at
-    mul-at
-    mul-end
-    slice-read-queue
-    slice-write-queue
-    slice-write-queue-2
-    slice-write-queue-3
-    add-queue
-    slice-write-queue-4
-    add-queue-2
-    slice-write-queue-5
-    add-from
-    add-to
-    sub-copy
-    part-copy-start
-    part-copy-end
-    copy-requires
-    same-length
+    (tie.spec slice-read-first cast-at mul-at mul-end slice-read-queue slice-write-queue slice-write-queue-2 slice-write-queue-3 add-queue
+    slice-write-queue-4 add-queue-2 slice-write-queue-5 add-from add-to sub-copy part-copy-start part-copy-end copy-requires same-length
     returns)

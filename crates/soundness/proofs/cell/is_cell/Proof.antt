@@ -100,16 +100,5 @@ returns-3 c =
 pub is-cell-spec : {M : Type 1} → statement M
 is-cell-spec =
     tie.close
-    (tie.spec
-    capacity-requires
-    returns
-    mul-a
-    add-a
-    add-body
-    sub-body
-    part-body-start
-    part-body-end
-    is-record-requires
-    all-zero-requires
-    returns-2
-    returns-3)
+    (tie.spec capacity-requires returns mul-a add-a add-body sub-body part-body-start part-body-end is-record-requires all-zero-requires
+    returns-2 returns-3)

@@ -96,15 +96,5 @@ returns-2 c =
 pub is-padded-spec : {M : Type 1} → statement M
 is-padded-spec =
     tie.close
-    (tie.spec
-    row-of-requires
-    enum-known-row
-    enum-told
-    returns
-    slice-aggregate-symbols-below
-    symbols-below-requires
-    sub-all-zero
-    part-all-zero-start
-    part-all-zero-end
-    all-zero-requires
-    returns-2)
+    (tie.spec row-of-requires enum-known-row enum-told returns slice-aggregate-symbols-below symbols-below-requires sub-all-zero
+    part-all-zero-start part-all-zero-end all-zero-requires returns-2)

@@ -38,11 +38,4 @@ returns c =
 pub is-record-spec : {M : Type 1} → statement M
 is-record-spec =
     tie.close
-    (tie.spec
-    shared-slice-read-boxno
-    sub-is-word
-    part-is-word-start
-    part-is-word-end
-    shared-slice-read-is-word
-    is-word-requires
-    returns)
+    (tie.spec shared-slice-read-boxno sub-is-word part-is-word-start part-is-word-end shared-slice-read-is-word is-word-requires returns)

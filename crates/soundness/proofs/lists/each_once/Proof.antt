@@ -48,13 +48,4 @@ returns c =
 pub each-once-spec : {M : Type 1} → statement M
 each-once-spec =
     tie.close
-    (tie.spec
-    Inv-loop
-    μ-loop
-    loop-holds
-    add-i
-    mul-once
-    element-copy-out-once
-    loop-less
-    loop-again
-    returns)
+    (tie.spec Inv-loop μ-loop loop-holds add-i mul-once element-copy-out-once loop-less loop-again returns)

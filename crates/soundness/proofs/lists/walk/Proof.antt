@@ -124,24 +124,5 @@ returns-3 c = walk-ended (c .before .loop .inv) (c .loop-test .left)
 pub walk-spec : {M : Type 1} → statement M
 walk-spec =
     tie.close
-    (tie.spec
-    Inv-loop
-    μ-loop
-    capacity-requires
-    loop-holds
-    returns
-    is-cell-requires
-    returns-2
-    mul-seen
-    element-copy-out-seen
-    add-seen
-    element-write-seen
-    add-met
-    go-on-requires
-    mul-at
-    shared-slice-read-cell
-    cast-cell
-    sub-left
-    loop-less
-    loop-again
-    returns-3)
+    (tie.spec Inv-loop μ-loop capacity-requires loop-holds returns is-cell-requires returns-2 mul-seen element-copy-out-seen add-seen
+    element-write-seen add-met go-on-requires mul-at shared-slice-read-cell cast-cell sub-left loop-less loop-again returns-3)

@@ -102,15 +102,5 @@ returns-2 c =
 pub walk-both-spec : {M : Type 1} → statement M
 walk-both-spec =
     tie.close
-    (tie.spec
-    shared-slice-read-walk
-    cast-walk
-    walk-requires
-    returns
-    shared-slice-read-walk-2
-    cast-walk-2
-    walk-requires-2
-    is-header-requires
-    capacity-requires
-    each-once-requires
-    returns-2)
+    (tie.spec shared-slice-read-walk cast-walk walk-requires returns shared-slice-read-walk-2 cast-walk-2 walk-requires-2 is-header-requires
+    capacity-requires each-once-requires returns-2)
