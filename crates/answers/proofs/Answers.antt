@@ -17,43 +17,50 @@ use Rattle.code.specs.Reading.{read, unreadable}
 use Rattle.code.specs.Operations.{Answer, refused, answered, decodeAnswer, Report, report, decodeOutput}
 use Rattle.stream.specs.Line.{answerLine, readAnswer, lineAnswer}
 use Rattle.stream.proofs.Order.{line-good}
-use Rattle.stream.proofs.Bounds as Bounds
+use Rattle.stream.proofs.Bounds.{SmallAnswer, decode-small}
 use Rattle.answers.proofs.Forms.{GoodLine}
 use Rattle.answers.specs.Writing.{shownLine, Small}
 
-shown : (i : ℕ) (d : Answer) (out out′ : List ℕ) → shownLine i (report d) (decodeOutput true d out) (decodeOutput false d out′) ≡ answerLine i d
-shown i (refused n) out out′ = refl
-shown i (answered unreadable) out out′ = refl
-shown i (answered (read f a b)) out out′ = refl
+line-shown : (i : ℕ) (d : Answer) (out out′ : List ℕ)
+    → shownLine i (report d) (decodeOutput true d out) (decodeOutput false d out′) ≡ answerLine i d
+line-shown i (refused n) out out′ = refl
+line-shown i (answered unreadable) out out′ = refl
+line-shown i (answered (read f a b)) out out′ = refl
 
-small : (d : Answer) (out out′ : List ℕ) → Bounds.Small d → Small (report d) (decodeOutput true d out) (decodeOutput false d out′)
-small (refused n) out out′ s = s
-small (answered unreadable) out out′ s = tt
-small (answered (read f a b)) out out′ s = s
+small-report : (d : Answer) (out out′ : List ℕ) → SmallAnswer d → Small (report d) (decodeOutput true d out) (decodeOutput false d out′)
+small-report (refused n) out out′ s = s
+small-report (answered unreadable) out out′ s = tt
+small-report (answered (read f a b)) out out′ s = s
 
 -- the outputs a and b are left as a′ and b′, and r is reported
 module _ (i : ℕ) (u a b a′ b′ : List ℕ) (r : Report) (tells : r ≡ report (decodeAnswer i u (length a) (length b)))
     (first : a′ ≡ decodeOutput true (decodeAnswer i u (length a) (length b)) a)
     (second : b′ ≡ decodeOutput false (decodeAnswer i u (length a) (length b)) b) where
-  pub small-shown : Small r a′ b′
-  small-shown = rw (tells, first, second) (small (decodeAnswer i u (length a) (length b)) a b (Bounds.decode-small i u (length a) (length b)))
+  abbrev d : Answer
+  d = decodeAnswer i u (length a) (length b)
 
-  pub shown-answer : length a ≡ messageLength (profile i) → length b ≡ messageLength (profile i) → shownLine i r a′ b′ ≡ answerLine i (readAnswer i u)
+  pub small-shown : Small r a′ b′
+  small-shown = rw (tells, first, second) (small-report d a b (decode-small i u (length a) (length b)))
+
+  pub shown-answer : length a ≡ messageLength (profile i) → length b ≡ messageLength (profile i)
+      → shownLine i r a′ b′ ≡ answerLine i (readAnswer i u)
   unfolding readAnswer
-  shown-answer e f = rw (tells, first, second) (shown i (decodeAnswer i u (length a) (length b)) a b ∙ rw (e, f))
+  shown-answer e f = rw (tells, first, second) (line-shown i d a b ∙ rw (e, f))
 
 -- A message has at most 45 symbols, and none where the number is no profile's.
 
-short : ℕ → Bool
-short i = leb (messageLength (profile i)) 45
+short-message : ℕ → Bool
+short-message i = leb (messageLength (profile i)) 45
 
-all-short : T (allBelow (λ j. short (suc j)) (length profiles))
-unfolding short profile
-all-short = tt
+all-messages-short : T (allBelow (λ j. short-message (suc j)) (length profiles))
+unfolding short-message profile
+all-messages-short = tt
 
 pub message-row : {i : ℕ} {t : Row} → RowOf i t → (t .message ≡ messageLength (profile i)) × (t .message ≤ 45)
-unfolding short
-message-row {i} of = (message-is of, rw (message-is of) (leb→le (messageLength (profile i)) 45 (every-profile short all-short i (of .known))))
+unfolding short-message
+message-row {i} of =
+    let few = leb→le (messageLength (profile i)) 45 (every-profile short-message all-messages-short i (of .known)) in
+    (message-is of, rw (message-is of) few)
 
 pub message-none : (i : ℕ) → isProfile i ≡ false → (0 ≡ messageLength (profile i)) × (0 ≤ 45)
 message-none i e = (ap messageLength (sym (profile-none i e)), zero-le)

@@ -13,17 +13,21 @@ use lib.ListN.{length, getD, take, drop, set, length-set, length-drop}
 use lib.Seq.{take-suc-set, take-suc, getD-drop, take-all}
 use Rattle.modular.proofs.Search.{and-intro, and-left, and-right, and-four, and-parts, eq-test, passes, fails, le-or-lt}
 use Rattle.code.proofs.Merge.{cases}
-use Rattle.stream.specs.Line.{isDigit, digitsOnly, value, symbolsOf, hasForm, isShort, profileOf}
+use Rattle.stream.specs.Line.{isDigit, digitsOnly, digitValue, symbolsOf, hasForm, isShort, profileOf}
 use Rattle.answers.specs.declared.form.Form.{Form}
 use Rattle.answers.specs.declared.form.Form.the-variants.{Good, Bad}
-use Rattle.answers.specs.Forms.{formOf, Valued, Higher, Symbols, Parsed}
+use Rattle.answers.specs.Forms.{formOf, Valued, Higher, DigitValues, Parsed}
 
 -- The value of a byte: 48 less, and round from 0 to 255.
 
 pub valued : (b r : ℕ) → r < 256 → (r + 48) % 256 ≡ b → Valued b r
 valued b r h e =
     record {
-      low = λ t. let l : 48 ≤ b = leb→le 48 b (and-left (leb 48 b) (leb b 57) t) in let k : b ≤ 57 = leb→le b 57 (and-right (leb 48 b) (leb b 57) t) in omega arith;
+      low =
+          λ t.
+          let l : 48 ≤ b = leb→le 48 b (and-left (leb 48 b) (leb b 57) t) in
+          let k : b ≤ 57 = leb→le b 57 (and-right (leb 48 b) (leb b 57) t) in
+          omega arith;
       digit = λ k. and-intro (leb 48 b) (leb b 57) (le→leb 48 b (omega arith)) (le→leb b 57 (omega arith));
       is = λ k. omega arith;
     }
@@ -33,7 +37,8 @@ valued b r h e =
 digits-snoc : (x : List ℕ) (b : ℕ) → T (digitsOnly x) → T (isDigit b) → T (digitsOnly (x ++ b ∷ []))
 digits-snoc [] b h k = and-intro (isDigit b) true k tt
 digits-snoc (c ∷ x) b h k =
-    and-intro (isDigit c) (digitsOnly (x ++ b ∷ [])) (and-left (isDigit c) (digitsOnly x) h) (digits-snoc x b (and-right (isDigit c) (digitsOnly x) h) k)
+    and-intro (isDigit c) (digitsOnly (x ++ b ∷ [])) (and-left (isDigit c) (digitsOnly x) h)
+    (digits-snoc x b (and-right (isDigit c) (digitsOnly x) h) k)
 
 snoc-digits : (x : List ℕ) (b : ℕ) → T (digitsOnly (x ++ b ∷ [])) → T (digitsOnly x) × T (isDigit b)
 snoc-digits [] b h = (tt, and-left (isDigit b) true h)
@@ -51,27 +56,33 @@ pub record Taken (s word₀ word : List ℕ) (highest i : ℕ) : Type 0 where
   pub same : length word ≡ length word₀
   pub low : T (digitsOnly (take i s)) → highest ≤ 9
   pub digits : highest ≤ 9 → T (digitsOnly (take i s))
-  pub text : highest ≤ 9 → take i word ≡ map value (take i s)
+  pub text : highest ≤ 9 → take i word ≡ map digitValue (take i s)
 
-pub taken-more : {s word₀ word : List ℕ} {highest i : ℕ} (v highest′ : ℕ) → Taken s word₀ word highest i → i < length s → length s ≤ length word₀
-    → Valued (getD s i 0) v → Higher highest v highest′ → Taken s word₀ (set word i v) highest′ (i + 1)
+pub taken-more : {s word₀ word : List ℕ} {highest i : ℕ} (v highest′ : ℕ) → Taken s word₀ word highest i → i < length s
+    → length s ≤ length word₀ → Valued (getD s i 0) v → Higher highest v highest′ → Taken s word₀ (set word i v) highest′ (i + 1)
 taken-more {s} {word₀} {word} {highest} {i} v highest′ t h k w m =
-    let e : take (i + 1) s ≡ take i s ++ getD s i 0 ∷ [] = ap (λ (n : ℕ). take n s) (add-one i) ∙ take-suc s i 0 h in
+    let x = take i s in
+    let b = getD s i 0 in
+    let e : take (i + 1) s ≡ x ++ b ∷ [] = ap (λ (n : ℕ). take n s) (add-one i) ∙ take-suc s i 0 h in
     record {
       within = omega arith;
       same = simp length-set (t .same);
-      low = rw e (λ d. let p : T (digitsOnly (take i s)) × T (isDigit (getD s i 0)) = snoc-digits (take i s) (getD s i 0) d in higher-low (t .low (p .0)) (w .low (p .1)));
-      digits = rw e (λ l. digits-snoc (take i s) (getD s i 0) (t .digits (omega (arith, m .left))) (w .digit (omega (arith, m .right))));
-      text = rw (e, map-append value (take i s) (getD s i 0 ∷ []), add-one i) (λ l. take-suc-set word i v (omega (arith, t .same)) ∙ joined (t .text (omega (arith, m .left))) (w .is (omega (arith, m .right))));
+      low = rw e (λ d. let (first, last) = snoc-digits x b d in higher-low (t .low first) (w .low last));
+      digits = rw e (λ l. digits-snoc x b (t .digits (omega (arith, m .left))) (w .digit (omega (arith, m .right))));
+      text =
+          rw (e, map-append digitValue x (b ∷ []), add-one i)
+          (λ l. take-suc-set word i v (omega (arith, t .same))
+          ∙ joined (t .text (omega (arith, m .left))) (w .is (omega (arith, m .right))));
     }
   where
     higher-low : highest ≤ 9 → v ≤ 9 → highest′ ≤ 9
-    higher-low a b = ⊎-elim (λ (n : highest′ ≤ highest). omega arith) (λ (n : highest < highest′). omega (arith, m .is n)) (le-or-lt highest′ highest)
+    higher-low a b =
+        ⊎-elim (λ (n : highest′ ≤ highest). omega arith) (λ (n : highest < highest′). omega (arith, m .is n)) (le-or-lt highest′ highest)
 
-    joined : take i word ≡ map value (take i s) → v ≡ value (getD s i 0) → take i word ++ v ∷ [] ≡ map value (take i s) ++ value (getD s i 0) ∷ []
+    joined : {x : List ℕ} {y : ℕ} → take i word ≡ x → v ≡ y → take i word ++ v ∷ [] ≡ x ++ y ∷ []
     joined a b = rw (a, b)
 
-pub taken-all : {s word₀ word : List ℕ} {highest i : ℕ} → Taken s word₀ word highest i → length s ≤ i → Symbols s word highest
+pub taken-all : {s word₀ word : List ℕ} {highest i : ℕ} → Taken s word₀ word highest i → length s ≤ i → DigitValues s word highest
 taken-all {s} {word₀} {word} {highest} {i} t h =
     let e : i ≡ length s = omega (arith, t .within) in
     let w : take i s ≡ s = take-all i s h in
@@ -82,8 +93,10 @@ taken-all {s} {word₀} {word} {highest} {i} t h =
 tests-passed : (l : List ℕ) → T (isShort l && hasForm l)
     → T (isShort l) × (T (leb 3 (length l)) × T (isDigit (getD l 0 0)) × T (eqb (getD l 1 0) 32) × T (digitsOnly (drop 2 l)))
 unfolding hasForm
-tests-passed l t =
-    (and-left (isShort l) (hasForm l) t, and-parts (leb 3 (length l)) (isDigit (getD l 0 0)) (eqb (getD l 1 0) 32) (digitsOnly (drop 2 l)) (and-right (isShort l) (hasForm l) t))
+tests-passed l t = (
+  and-left (isShort l) (hasForm l) t,
+  and-parts (leb 3 (length l)) (isDigit (getD l 0 0)) (eqb (getD l 1 0) 32) (digitsOnly (drop 2 l)) (and-right (isShort l) (hasForm l) t),
+)
 
 pub has-length : (l : List ℕ) → isShort l && leb 3 (length l) ≡ true → (3 ≤ length l) × (length l ≤ 101)
 has-length l e =
@@ -102,19 +115,20 @@ bad-profile l v w h t = omega (arith, w .low (tests-passed l t .1 .1))
 pub bad-space : (l : List ℕ) → (getD l 1 0 ≡ 32 → ⊥) → T (isShort l && hasForm l) → ⊥
 bad-space l f t = f (eqb→eq (getD l 1 0) 32 (tests-passed l t .1 .2))
 
-pub bad-symbols : (l word : List ℕ) (highest : ℕ) → Symbols (drop 2 l) word highest → 9 < highest → T (isShort l && hasForm l) → ⊥
+pub bad-symbols : (l word : List ℕ) (highest : ℕ) → DigitValues (drop 2 l) word highest → 9 < highest → T (isShort l && hasForm l) → ⊥
 bad-symbols l word highest s h t = omega (arith, s .low (tests-passed l t .1 .3))
 
-pub parsed-good : (l word : List ℕ) (v highest : ℕ) → isShort l && leb 3 (length l) ≡ true → Valued (getD l 0 0) v → v ≤ 9 → getD l 1 0 ≡ 32
-    → Symbols (drop 2 l) word highest → highest ≤ 9 → Parsed l (Good v) word
+pub parsed-good : (l word : List ℕ) (v highest : ℕ) → isShort l && leb 3 (length l) ≡ true → Valued (getD l 0 0) v → v ≤ 9
+    → getD l 1 0 ≡ 32 → DigitValues (drop 2 l) word highest → highest ≤ 9 → Parsed l (Good v) word
 unfolding hasForm
 parsed-good l word v highest e w h f s k =
     let t : T (isShort l && leb 3 (length l)) = subst T (sym e) tt in
     let p : T (isShort l) = and-left (isShort l) (leb 3 (length l)) t in
     let q : T (leb 3 (length l)) = and-right (isShort l) (leb 3 (length l)) t in
-    let g : isShort l && hasForm l ≡ true =
-    passes (and-intro (isShort l) (hasForm l) p (and-four (leb 3 (length l)) (isDigit (getD l 0 0)) (eqb (getD l 1 0) 32) (digitsOnly (drop 2 l)) q (w .digit h) (eq-test f) (s .digits k)))
-    in
+    let four =
+    and-four (leb 3 (length l)) (isDigit (getD l 0 0)) (eqb (getD l 1 0) 32) (digitsOnly (drop 2 l)) q (w .digit h) (eq-test f)
+    (s .digits k) in
+    let g : isShort l && hasForm l ≡ true = passes (and-intro (isShort l) (hasForm l) p four) in
     record { form = rw (g, formOf) (ap Good (w .is h)); text = λ t. rw length-drop at (s .text k) }
 
 -- What a reading says of the line.

@@ -10,7 +10,7 @@ use lib.Dec.{ltb}
 use lib.ListN.{length, getD, take, drop, set, length-append, length-map, length-set, length-drop, take-append-drop}
 use lib.Seq.{take-suc, take-all, take-at, set-split, length-take-le, drop-append-add, drop-drop}
 use borrow.Author.Tests.{lt-ltb, le-ltb}
-use Rattle.stream.specs.Line.{digit, decimalBefore, decimal, refusalLine, readingLine}
+use Rattle.stream.specs.Line.{digitByte, decimalBefore, decimal, refusalLine, readingLine}
 use Rattle.stream.specs.Feed.{overwritten}
 use Rattle.code.proofs.Merge.{cases}
 use Rattle.answers.specs.Writing.{Written, headingOf}
@@ -38,9 +38,9 @@ module _ {a b : List ℕ} {i j : ℕ} {x : List ℕ} (w : Written a b i j x) whe
       ∙ drop-drop m j a
 
 -- one field after another
-infixl 20 _then_
-pub _then_ : {a b c : List ℕ} {i j k : ℕ} {x y : List ℕ} → Written a b i j x → Written b c j k y → Written a c i k (x ++ y)
-_then_ {a} {b} {c} {i} {j} {k} {x} {y} f g =
+infixl 20 _followed-by_
+pub _followed-by_ : {a b c : List ℕ} {i j k : ℕ} {x y : List ℕ} → Written a b i j x → Written b c j k y → Written a c i k (x ++ y)
+_followed-by_ {a} {b} {c} {i} {j} {k} {x} {y} f g =
     let rest : drop k b ≡ drop k a = ap (λ (n : ℕ). drop n b) (g .ends) ∙ back f (length y) ∙ ap (λ (n : ℕ). drop n a) (sym (g .ends)) in
     record {
       text =
@@ -61,7 +61,7 @@ one out at a h = record { text = set-split out at a h; ends = omega arith; fits 
 pub two : (out : List ℕ) (at a b : ℕ) → suc at < length out → Written out (set (set out at a) (at + 1) b) at (at + 2) (a ∷ b ∷ [])
 two out at a b h =
     let e : at + 2 ≡ suc (suc at) = omega arith in
-    rw (add-one at, e) (one out at a (omega arith) then one (set out at a) (suc at) b (rw length-set h))
+    rw (add-one at, e) (one out at a (omega arith) followed-by one (set out at a) (suc at) b (rw length-set h))
 
 -- A number.
 
@@ -75,72 +75,79 @@ decimal-two n after h k =
     let e : n / 10 < 10 = omega arith in
     rw (le-ltb n 10 h, decimalBefore, lt-ltb (n / 10) 10 e, decimalBefore)
 
-pub number-one : {out new : List ℕ} {at end n : ℕ} → n < 10 → Written out new at end ((48 + n) ∷ 32 ∷ []) → Written out new at end (decimal n (32 ∷ []))
+pub number-one : {out new : List ℕ} {at end n : ℕ} → n < 10 → Written out new at end ((48 + n) ∷ 32 ∷ [])
+    → Written out new at end (decimal n (32 ∷ []))
 number-one {n} h w = rw (decimal-one n (32 ∷ []) h) w
 
 -- the first of two digits, and what the function pair writes after it
 pub number-two : (out : List ℕ) {new : List ℕ} {end n : ℕ} (at : ℕ) → at < length out → 10 ≤ n → n ≤ 99
     → Written (set out at (48 + n / 10)) new (at + 1) end ((48 + n % 10) ∷ 32 ∷ []) → Written out new at end (decimal n (32 ∷ []))
-number-two out {n} at h k l w = rw (decimal-two n (32 ∷ []) k l) (one out at (48 + n / 10) h then (rw (add-one at) at w))
+number-two out {n} at h k l w = rw (decimal-two n (32 ∷ []) k l) (one out at (48 + n / 10) h followed-by (rw (add-one at) at w))
 
 -- A word.
 
-pub first-none : (out symbols : List ℕ) (at : ℕ) → at ≤ length out → Written out out at (at + 0) (map digit (take 0 symbols))
+pub first-none : (out symbols : List ℕ) (at : ℕ) → at ≤ length out → Written out out at (at + 0) (map digitByte (take 0 symbols))
 first-none out symbols at h =
     let e : at + 0 ≡ at = omega arith in rw e (record { text = sym (take-append-drop at out); ends = omega arith; fits = h })
 
-pub word-more : (out new symbols : List ℕ) (at i : ℕ) → i < length symbols → at + i < length new → Written out new at (at + i) (map digit (take i symbols))
-    → Written out (set new (at + i) (48 + getD symbols i 0)) at (at + (i + 1)) (map digit (take (i + 1) symbols))
+pub word-more : (out new symbols : List ℕ) (at i : ℕ) → i < length symbols → at + i < length new
+    → Written out new at (at + i) (map digitByte (take i symbols))
+    → Written out (set new (at + i) (48 + getD symbols i 0)) at (at + (i + 1)) (map digitByte (take (i + 1) symbols))
 word-more out new symbols at i h k w =
     let e : at + (i + 1) ≡ suc (at + i) = omega arith in
-    let f : map digit (take (suc i) symbols) ≡ map digit (take i symbols) ++ (48 + getD symbols i 0) ∷ [] =
-    ap (map digit) (take-suc symbols i 0 h) ∙ map-append digit (take i symbols) (getD symbols i 0 ∷ [])
+    let f : map digitByte (take (suc i) symbols) ≡ map digitByte (take i symbols) ++ (48 + getD symbols i 0) ∷ [] =
+    ap (map digitByte) (take-suc symbols i 0 h) ∙ map-append digitByte (take i symbols) (getD symbols i 0 ∷ [])
     in
-    rw (e, add-one i, f) (w then one new (at + i) (48 + getD symbols i 0) k)
+    rw (e, add-one i, f) (w followed-by one new (at + i) (48 + getD symbols i 0) k)
 
 pub word-end : (out new symbols : List ℕ) (at i last : ℕ) → length symbols ≤ i → at + i < length new
-    → Written out new at (at + i) (map digit (take i symbols)) → Written out (set new (at + i) last) at (at + i + 1) (map digit symbols ++ last ∷ [])
-word-end out new symbols at i last h k w = rw add-one ((rw (take-all i symbols h) at w) then one new (at + i) last k)
+    → Written out new at (at + i) (map digitByte (take i symbols))
+    → Written out (set new (at + i) last) at (at + i + 1) (map digitByte symbols ++ last ∷ [])
+word-end out new symbols at i last h k w = rw add-one ((rw (take-all i symbols h) at w) followed-by one new (at + i) last k)
 
-pub words-length : (symbols : List ℕ) (last : ℕ) → length (map digit symbols ++ last ∷ []) ≡ length symbols + 1
-words-length symbols last = length-append (map digit symbols) (last ∷ []) ∙ ap (λ (n : ℕ). n + 1) (length-map symbols digit)
+pub words-length : (symbols : List ℕ) (last : ℕ) → length (map digitByte symbols ++ last ∷ []) ≡ length symbols + 1
+words-length symbols last = length-append (map digitByte symbols) (last ∷ []) ∙ ap (λ (n : ℕ). n + 1) (length-map symbols digitByte)
 
 -- the two lines, from their fields
-pub refusal-written : {a b c : List ℕ} {i j n : ℕ} → n ≤ 9 → Written a b 0 i (82 ∷ 32 ∷ []) → Written b c i j ((48 + n) ∷ 10 ∷ []) → Written a c 0 j (refusalLine n)
+pub refusal-written : {a b c : List ℕ} {i j n : ℕ} → n ≤ 9 → Written a b 0 i (82 ∷ 32 ∷ []) → Written b c i j ((48 + n) ∷ 10 ∷ [])
+    → Written a c 0 j (refusalLine n)
 unfolding refusalLine
-refusal-written {n} h f g = rw (decimal-one n (10 ∷ []) (omega arith)) (f then g)
+refusal-written {n} h f g = rw (decimal-one n (10 ∷ []) (omega arith)) (f followed-by g)
 
 decimal-append : (k n : ℕ) (x y : List ℕ) → decimalBefore k n (x ++ y) ≡ decimalBefore k n x ++ y
 decimal-append zero n x y = refl
 decimal-append (suc k) n x y =
-    cases (ltb n 10) (λ e. rw (e, decimalBefore)) (λ e. rw (e, decimalBefore) (decimal-append k (n / 10) (digit (n % 10) ∷ x) y))
+    cases (ltb n 10) (λ e. rw (e, decimalBefore)) (λ e. rw (e, decimalBefore) (decimal-append k (n / 10) (digitByte (n % 10) ∷ x) y))
 
-pub heading-written : {a b c d e : List ℕ} {i j k l : ℕ} (p v place y : ℕ) → Written a b 0 i ((48 + p) ∷ 32 ∷ []) → Written b c i j (v ∷ 32 ∷ [])
-    → Written c d j k (decimal place (32 ∷ [])) → Written d e k l ((48 + y) ∷ 32 ∷ []) → Written a e 0 l (headingOf p v place y)
+pub heading-written : {a b c d e : List ℕ} {i j k l : ℕ} (p v position y : ℕ) → Written a b 0 i ((48 + p) ∷ 32 ∷ [])
+    → Written b c i j (v ∷ 32 ∷ []) → Written c d j k (decimal position (32 ∷ [])) → Written d e k l ((48 + y) ∷ 32 ∷ [])
+    → Written a e 0 l (headingOf p v position y)
 unfolding headingOf decimal
-heading-written p v place y f g h w =
-    rw (decimal-append 20 place (32 ∷ []) ((48 + y) ∷ 32 ∷ [])) (f then (g then (h then w)))
+heading-written p v position y f g h w =
+    rw (decimal-append 20 position (32 ∷ []) ((48 + y) ∷ 32 ∷ [])) (f followed-by (g followed-by (h followed-by w)))
 
 -- the two words of a reading, as they follow its heading
 abbrev words : List ℕ → List ℕ → List ℕ
-words s t = map digit s ++ 32 ∷ (map digit t ++ 10 ∷ [])
+words s t = map digitByte s ++ 32 ∷ (map digitByte t ++ 10 ∷ [])
 
-place-on : (place y : ℕ) (after : List ℕ) → y ≤ 9 → decimal place (32 ∷ digit y ∷ 32 ∷ []) ++ after ≡ decimal place (32 ∷ decimal y (32 ∷ after))
+position-on : (position y : ℕ) (after : List ℕ) → y ≤ 9
+    → decimal position (32 ∷ digitByte y ∷ 32 ∷ []) ++ after ≡ decimal position (32 ∷ decimal y (32 ∷ after))
 unfolding decimal
-place-on place y after h =
-    sym (decimal-append 20 place (32 ∷ digit y ∷ 32 ∷ []) after)
-    ∙ ap (λ (l : List ℕ). decimal place (32 ∷ l)) (sym (decimal-one y (32 ∷ after) (omega arith)))
+position-on position y after h =
+    sym (decimal-append 20 position (32 ∷ digitByte y ∷ 32 ∷ []) after)
+    ∙ ap (λ (l : List ℕ). decimal position (32 ∷ l)) (sym (decimal-one y (32 ∷ after) (omega arith)))
 
-fields : (p v place y : ℕ) (s t : List ℕ) → y ≤ 9
-    → headingOf p v place y ++ ((map digit s ++ 32 ∷ []) ++ (map digit t ++ 10 ∷ [])) ≡ readingLine p v place y s t
+fields : (p v position y : ℕ) (s t : List ℕ) → y ≤ 9
+    → headingOf p v position y ++ ((map digitByte s ++ 32 ∷ []) ++ (map digitByte t ++ 10 ∷ [])) ≡ readingLine p v position y s t
 unfolding headingOf readingLine
-fields p v place y s t h =
-    ap (λ (l : List ℕ). headingOf p v place y ++ l) (append-assoc (map digit s) (32 ∷ []) (map digit t ++ 10 ∷ []))
-    ∙ ap (λ (l : List ℕ). digit p ∷ 32 ∷ v ∷ 32 ∷ l) (place-on place y (words s t) h)
+fields p v position y s t h =
+    ap (λ (l : List ℕ). headingOf p v position y ++ l) (append-assoc (map digitByte s) (32 ∷ []) (map digitByte t ++ 10 ∷ []))
+    ∙ ap (λ (l : List ℕ). digitByte p ∷ 32 ∷ v ∷ 32 ∷ l) (position-on position y (words s t) h)
 
-pub reading-written : {a b c d : List ℕ} {i j k : ℕ} (p v place y : ℕ) (s t : List ℕ) → y ≤ 9 → Written a b 0 i (headingOf p v place y)
-    → Written b c i j (map digit s ++ 32 ∷ []) → Written c d j k (map digit t ++ 10 ∷ []) → Written a d 0 k (readingLine p v place y s t)
-reading-written p v place y s t small f g h = rw (fields p v place y s t small) at (f then (g then h))
+pub reading-written : {a b c d : List ℕ} {i j k : ℕ} (p v position y : ℕ) (s t : List ℕ) → y ≤ 9
+    → Written a b 0 i (headingOf p v position y) → Written b c i j (map digitByte s ++ 32 ∷ [])
+    → Written c d j k (map digitByte t ++ 10 ∷ []) → Written a d 0 k (readingLine p v position y s t)
+reading-written p v position y s t small f g h = rw (fields p v position y s t small) at (f followed-by (g followed-by h))
 
 pub reworded : {old new x y : List ℕ} {at end : ℕ} → x ≡ y → Written old new at end x → Written old new at end y
 reworded e w = rw e at w

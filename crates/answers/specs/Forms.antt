@@ -6,7 +6,7 @@ use mathlib.Core.List.{List, map}
 use Prim.Native.Nat.{ℕ, _-_, _≤_, _<_}
 use lib.Dec.{T}
 use lib.ListN.{length, take}
-use Rattle.stream.specs.Line.{isDigit, digitsOnly, value, symbolsOf, isShort, hasForm, profileOf}
+use Rattle.stream.specs.Line.{isDigit, digitsOnly, digitValue, symbolsOf, isShort, hasForm, profileOf}
 use Rattle.answers.specs.declared.form.Form.{Form}
 use Rattle.answers.specs.declared.form.Form.the-variants.{Good, Bad}
 
@@ -17,7 +17,7 @@ formOf l = elim (isShort l && hasForm l) [ true ↦ Good (profileOf l) | false �
 pub record Valued (b r : ℕ) : Type 0 where
   pub low : T (isDigit b) → r ≤ 9
   pub digit : r ≤ 9 → T (isDigit b)
-  pub is : r ≤ 9 → r ≡ value b
+  pub is : r ≤ 9 → r ≡ digitValue b
 
 -- r is the higher of a and b
 pub record Higher (a b r : ℕ) : Type 0 where
@@ -26,10 +26,10 @@ pub record Higher (a b r : ℕ) : Type 0 where
   pub is : a < r → r ≡ b
 
 -- the highest value tells whether the bytes s are digits, and then their values stand at the front of a word
-pub record Symbols (s word : List ℕ) (highest : ℕ) : Type 0 where
+pub record DigitValues (s word : List ℕ) (highest : ℕ) : Type 0 where
   pub low : T (digitsOnly s) → highest ≤ 9
   pub digits : highest ≤ 9 → T (digitsOnly s)
-  pub text : highest ≤ 9 → take (length s) word ≡ map value s
+  pub text : highest ≤ 9 → take (length s) word ≡ map digitValue s
 
 -- the form of the line l, and of a good one its symbols at the front of a word
 pub record Parsed (l : List ℕ) (r : Form) (word : List ℕ) : Type 0 where

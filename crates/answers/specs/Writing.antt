@@ -7,7 +7,7 @@ use lib.ListN.{length, take, drop}
 use Rattle.code.specs.Component.{Below}
 use Rattle.code.specs.Reading.{correction}
 use Rattle.code.specs.Operations.{Report, refusal, failure, success}
-use Rattle.stream.specs.Line.{digit, decimal, letter, refusalLine, readingLine}
+use Rattle.stream.specs.Line.{digitByte, decimal, letter, refusalLine, readingLine}
 
 -- bytes stand from index at on, up to end, and all else is as it was
 pub record Written (old new : List ℕ) (at end : ℕ) (bytes : List ℕ) : Type 0 where
@@ -17,7 +17,7 @@ pub record Written (old new : List ℕ) (at end : ℕ) (bytes : List ℕ) : Type
 
 -- the fields of a reading before its words, each with a space: profile, the kind's letter, place, sent symbol
 unfoldable pub headingOf : ℕ → ℕ → ℕ → ℕ → List ℕ
-headingOf i c place y = digit i ∷ 32 ∷ c ∷ 32 ∷ decimal place (32 ∷ digit y ∷ 32 ∷ [])
+headingOf i c position y = digitByte i ∷ 32 ∷ c ∷ 32 ∷ decimal position (32 ∷ digitByte y ∷ 32 ∷ [])
 
 -- the output line from what decoding reports and leaves in its two outputs
 abbrev pub shownLine : ℕ → Report → List ℕ → List ℕ → List ℕ

@@ -5,7 +5,7 @@ ghost use Prim.Native.Nat.{_+_, _≤_};
 ghost use lib.Dec.{leb};
 ghost use lib.ListN.{length, drop};
 ghost use Rattle.stream.specs.Line.{isShort};
-ghost use Rattle.answers.specs.Forms.{Valued, Higher, Symbols, Parsed};
+ghost use Rattle.answers.specs.Forms.{Valued, Higher, DigitValues, Parsed};
 
 // 01: "A line not of this form gives 9". Of the form: its profile.
 pub(crate) enum Form {
@@ -24,7 +24,7 @@ fn has_length(line: &[u8]) -> bool
 }
 
 // The value of a digit. Of any other byte it is more than 9.
-fn value(byte: u8) -> u8
+fn digit_value(byte: u8) -> u8
     ensures { λ r. ⌜ Valued byte r ⌝ }
 {
     std::num::wrapping_sub_u8(byte, b'0')
@@ -38,14 +38,14 @@ fn higher(a: u8, b: u8) -> u8
 
 // The values of the bytes after the first two, at the front of a word, and the highest of them: one pass with no way
 // out, which the compiler does sixteen bytes at a time.
-fn symbols(line: &[u8], word: &mut [u8]) -> u8
+fn digit_values(line: &[u8], word: &mut [u8]) -> u8
     requires { ⌜ (2 ≤ length (now line)) × (length (now line) ≤ length (now word) + 2) ⌝ }
-    ensures { λ r. ⌜ Symbols (drop 2 (now (line .entry))) (now (word .exit)) r ⌝ }
+    ensures { λ r. ⌜ DigitValues (drop 2 (now (line .entry))) (now (word .exit)) r ⌝ }
 {
     let mut highest = 0;
     let mut i = 0;
     while i < line.len() - 2 {
-        let symbol = value(line[i + 2]);
+        let symbol = digit_value(line[i + 2]);
         word[i] = symbol;
         highest = higher(highest, symbol);
         i += 1;
@@ -61,14 +61,14 @@ pub(crate) fn parse(line: &[u8], word: &mut [u8]) -> Form
     if !has_length(line) {
         return Form::Bad;
     }
-    let profile = value(line[0]);
+    let profile = digit_value(line[0]);
     if profile > 9 {
         return Form::Bad;
     }
     if line[1] != b' ' {
         return Form::Bad;
     }
-    if symbols(line, word) > 9 {
+    if digit_values(line, word) > 9 {
         return Form::Bad;
     }
     Form::Good(profile as usize)

@@ -1,6 +1,6 @@
 // The answer to one line (01: The line program).
 mod form;
-mod reply;
+mod respond;
 mod text;
 
 ghost use mathlib.Core.Path.{_≡_};
@@ -22,8 +22,8 @@ pub fn answer(line: &[u8], out: &mut AnswerBuffer) -> usize
 {
     let mut word = [0u8; 99];
     let Form::Good(profile) = form::parse(line, &mut word) else {
-        return text::refusal(out, 9);
+        return text::refusal_line(out, 9);
     };
     let n = line.len() - 2;
-    reply::reply(profile, &word[..n], out)
+    respond::respond(profile, &word[..n], out)
 }

@@ -4,7 +4,7 @@ ghost use mathlib.Core.List.{[], _∷_, _++_, map};
 ghost use Prim.Native.Nat.{_+_, _≤_, _<_};
 ghost use lib.ListN.{length};
 ghost use Rattle.code.specs.Component.{Below};
-ghost use Rattle.stream.specs.Line.{digit, decimal, refusalLine, readingLine};
+ghost use Rattle.stream.specs.Line.{digitByte, decimal, refusalLine, readingLine};
 ghost use Rattle.answers.specs.Writing.{Written, headingOf};
 
 // Two bytes.
@@ -18,7 +18,7 @@ fn pair(out: &mut [u8], at: usize, a: u8, b: u8) -> usize
 }
 
 // A number of at most two digits, and a space.
-fn number(out: &mut [u8], at: usize, n: usize) -> usize
+fn decimal(out: &mut [u8], at: usize, n: usize) -> usize
     requires { ⌜ (at + 2 < length (now out)) × (n ≤ 99) ⌝ }
     ensures text { λ r. ⌜ Written (now (out .entry)) (now (out .exit)) at r (decimal n (32 ∷ [])) ⌝ }
     ensures short { λ r. ⌜ r ≤ at + 3 ⌝ }
@@ -33,7 +33,7 @@ fn number(out: &mut [u8], at: usize, n: usize) -> usize
 // The digits of a word run together, and one more byte.
 fn word(out: &mut [u8], at: usize, symbols: &[u8], last: u8) -> usize
     requires { ⌜ (at + length (now symbols) < length (now out)) × Below 10 (now symbols) ⌝ }
-    ensures { λ r. ⌜ Written (now (out .entry)) (now (out .exit)) at r (map digit (now (symbols .entry)) ++ last ∷ []) ⌝ }
+    ensures { λ r. ⌜ Written (now (out .entry)) (now (out .exit)) at r (map digitByte (now (symbols .entry)) ++ last ∷ []) ⌝ }
 {
     let mut i = 0;
     while i < symbols.len() {
@@ -45,7 +45,7 @@ fn word(out: &mut [u8], at: usize, symbols: &[u8], last: u8) -> usize
 }
 
 // 01: "For a refused one: R, a space and the number."
-pub(crate) fn refusal(out: &mut [u8], n: u8) -> usize
+pub(crate) fn refusal_line(out: &mut [u8], n: u8) -> usize
     requires { ⌜ (n ≤ 9) × (length (now out) ≡ 128) ⌝ }
     ensures { λ r. ⌜ Written (now (out .entry)) (now (out .exit)) 0 r (refusalLine n) ⌝ }
 {
@@ -54,32 +54,33 @@ pub(crate) fn refusal(out: &mut [u8], n: u8) -> usize
 }
 
 // The fields before the words: profile, kind, place and sent symbol, each with a space.
-fn heading(out: &mut [u8], profile: usize, kind: u8, place: usize, symbol: u8) -> usize
-    requires { ⌜ (profile ≤ 9) × (place ≤ 99) × (symbol ≤ 9) × (length (now out) ≡ 128) ⌝ }
-    ensures text { λ r. ⌜ Written (now (out .entry)) (now (out .exit)) 0 r (headingOf profile kind place symbol) ⌝ }
+fn heading(out: &mut [u8], profile: usize, kind: u8, position: usize, symbol: u8) -> usize
+    requires { ⌜ (profile ≤ 9) × (position ≤ 99) × (symbol ≤ 9) × (length (now out) ≡ 128) ⌝ }
+    ensures text { λ r. ⌜ Written (now (out .entry)) (now (out .exit)) 0 r (headingOf profile kind position symbol) ⌝ }
     ensures short { λ r. ⌜ r ≤ 9 ⌝ }
 {
     let a = pair(out, 0, 48 + profile as u8, b' ');
     let b = pair(out, a, kind, b' ');
-    let c = number(out, b, place);
+    let c = decimal(out, b, position);
     pair(out, c, 48 + symbol, b' ')
 }
 
 // 01: "profile, kind C or M, place, sent symbol, first word, second word".
-pub(crate) fn reading(
+pub(crate) fn reading_line(
     out: &mut [u8],
     profile: usize,
     kind: u8,
-    place: usize,
+    position: usize,
     symbol: u8,
     first: &[u8],
     second: &[u8],
 ) -> usize
-    requires { ⌜ (profile ≤ 9) × (place ≤ 99) × (symbol ≤ 9) × (length (now out) ≡ 128) ⌝ }
+    requires { ⌜ (profile ≤ 9) × (position ≤ 99) × (symbol ≤ 9) × (length (now out) ≡ 128) ⌝ }
     requires { ⌜ (length (now first) ≤ 45) × (length (now second) ≤ 45) × Below 10 (now first) × Below 10 (now second) ⌝ }
-    ensures { λ r. ⌜ Written (now (out .entry)) (now (out .exit)) 0 r (readingLine profile kind place symbol (now (first .entry)) (now (second .entry))) ⌝ }
+    ensures { λ r. ⌜ Written (now (out .entry)) (now (out .exit)) 0 r
+        (readingLine profile kind position symbol (now (first .entry)) (now (second .entry))) ⌝ }
 {
-    let a = heading(out, profile, kind, place, symbol);
+    let a = heading(out, profile, kind, position, symbol);
     let b = word(out, a, first, b' ');
     word(out, b, second, b'\n')
 }

@@ -12,7 +12,7 @@ ghost use Rattle.lines.specs.States.{modelOf};
 ghost use Rattle.boxlines.specs.Turns.{AnswersPiece, AnswersEnd, AnswersRead};
 
 // Whether to go on, or how the program ends.
-enum Outcome {
+enum Status {
     More,
     Ended,
     ReadFailed,
@@ -24,13 +24,13 @@ enum Outcome {
 struct Next {
     state: State,
     lines: usize,
-    outcome: Outcome,
+    status: Status,
 }
 
 // Writes what can be answered of a piece of the input, so that nothing is pending.
 fn answer(start: State, input: &[u8], output: &mut [u8]) -> Next
     requires { ⌜ 0 < length (now output) ⌝ }
-    ensures { λ r. ⌜ AnswersPiece (modelOf start) (now (input .entry)) (r .outcome) (modelOf (r .state)) (r .lines) ⌝ }
+    ensures { λ r. ⌜ AnswersPiece (modelOf start) (now (input .entry)) (r .status) (modelOf (r .state)) (r .lines) ⌝ }
 {
     let mut state = start;
     let mut at = 0;
@@ -45,14 +45,14 @@ fn answer(start: State, input: &[u8], output: &mut [u8]) -> Next
             return Next {
                 state,
                 lines: 0,
-                outcome: Outcome::WriteFailed,
+                status: Status::WriteFailed,
             };
         }
         if produced < output.len() {
             return Next {
                 state,
                 lines,
-                outcome: Outcome::More,
+                status: Status::More,
             };
         }
     }
@@ -61,7 +61,7 @@ fn answer(start: State, input: &[u8], output: &mut [u8]) -> Next
 // Writes what is still to come at the end of the input.
 fn finish(start: State, output: &mut [u8]) -> Next
     requires { ⌜ 0 < length (now output) ⌝ }
-    ensures { λ r. ⌜ AnswersEnd (modelOf start) (r .outcome) (r .lines) ⌝ }
+    ensures { λ r. ⌜ AnswersEnd (modelOf start) (r .status) (r .lines) ⌝ }
 {
     let mut state = start;
     let mut lines = 0;
@@ -74,14 +74,14 @@ fn finish(start: State, output: &mut [u8]) -> Next
             return Next {
                 state,
                 lines: 0,
-                outcome: Outcome::WriteFailed,
+                status: Status::WriteFailed,
             };
         }
         if finished.done {
             return Next {
                 state,
                 lines,
-                outcome: Outcome::Ended,
+                status: Status::Ended,
             };
         }
     }
@@ -91,13 +91,13 @@ fn finish(start: State, output: &mut [u8]) -> Next
 // not ended gets no answer.
 fn proceed(state: State, got: isize, input: &[u8], output: &mut [u8]) -> Next
     requires { ⌜ 0 < length (now output) ⌝ }
-    ensures { λ r. ⌜ AnswersRead (modelOf state) got (now (input .entry)) (r .outcome) (modelOf (r .state)) (r .lines) ⌝ }
+    ensures { λ r. ⌜ AnswersRead (modelOf state) got (now (input .entry)) (r .status) (modelOf (r .state)) (r .lines) ⌝ }
 {
     if got < 0 {
         return Next {
             state,
             lines: 0,
-            outcome: Outcome::ReadFailed,
+            status: Status::ReadFailed,
         };
     }
     if got == 0 {
@@ -110,7 +110,7 @@ fn proceed(state: State, got: isize, input: &[u8], output: &mut [u8]) -> Next
 // One read, and what comes of it. No contract says which bytes come, so this one speaks of the buffer after the read.
 fn turn(state: State, input: &mut [u8], output: &mut [u8]) -> Next
     requires { ⌜ 0 < length (now output) ⌝ }
-    ensures { λ r. ⌜ ((got : ℤ) × AnswersRead (modelOf state) got (now (input .exit)) (r .outcome) (modelOf (r .state)) (r .lines)) ⌝ }
+    ensures { λ r. ⌜ ((got : ℤ) × AnswersRead (modelOf state) got (now (input .exit)) (r .status) (modelOf (r .state)) (r .lines)) ⌝ }
 {
     let got = libc::read(STDIN_FILENO, input);
     proceed(state, got, input, output)
@@ -124,12 +124,12 @@ fn tell(before: &[u8], lines: u64, after: &[u8]) {
 }
 
 // How the program ended.
-fn report(outcome: Outcome, lines: u64) {
-    match outcome {
-        Outcome::More => {}
-        Outcome::Ended => tell(b"boxlines: ", lines, b" lines answered\n"),
-        Outcome::ReadFailed => tell(b"boxlines: a read failed after ", lines, b" lines\n"),
-        Outcome::WriteFailed => tell(b"boxlines: a write failed after ", lines, b" lines\n"),
+fn print_status(status: Status, lines: u64) {
+    match status {
+        Status::More => {}
+        Status::Ended => tell(b"boxlines: ", lines, b" lines answered\n"),
+        Status::ReadFailed => tell(b"boxlines: a read failed after ", lines, b" lines\n"),
+        Status::WriteFailed => tell(b"boxlines: a write failed after ", lines, b" lines\n"),
     }
 }
 
@@ -144,9 +144,9 @@ fn main() {
         let next = turn(state, &mut input, &mut output);
         state = next.state;
         lines = std::num::wrapping_add_u64(lines, next.lines as u64);
-        let outcome = next.outcome;
-        let Outcome::More = outcome else {
-            report(outcome, lines);
+        let status = next.status;
+        let Status::More = status else {
+            print_status(status, lines);
             return;
         };
         turns -= 1;

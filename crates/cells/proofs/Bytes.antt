@@ -17,19 +17,20 @@ use Rattle.sheet.specs.Lists.{allZero, zeros}
 use Rattle.cells.specs.Bytes.{copied}
 
 -- a part of n bytes from a on, as a range lends it
-pub part : (s : List ℕ) (a n : ℕ) → take (a + n - a) (drop a s) ≡ take n (drop a s)
-part s a n = let e : a + n - a ≡ n = omega arith in ap (λ (k : ℕ). take k (drop a s)) e
+pub lent-part : (s : List ℕ) (a n : ℕ) → take (a + n - a) (drop a s) ≡ take n (drop a s)
+lent-part s a n = let e : a + n - a ≡ n = omega arith in ap (λ (k : ℕ). take k (drop a s)) e
 
 -- a part from a up to the end
-pub part-rest : (s : List ℕ) (a : ℕ) → take (length s - a) (drop a s) ≡ drop a s
-part-rest s a = take-all (length s - a) (drop a s) (omega (arith, length-drop a s))
+pub lent-rest : (s : List ℕ) (a : ℕ) → take (length s - a) (drop a s) ≡ drop a s
+lent-rest s a = take-all (length s - a) (drop a s) (omega (arith, length-drop a s))
 
 -- both tests of a loop
-pub both : (a b : Bool) → (a && b) ≡ true → T a × T b
-both a b e = (and-left a b (holds (a && b) e), and-right a b (holds (a && b) e))
+pub both-hold : (a b : Bool) → (a && b) ≡ true → T a × T b
+both-hold a b e = (and-left a b (holds (a && b) e), and-right a b (holds (a && b) e))
 
 -- a copy of the first i bytes goes on
-copy-here : (from to : List ℕ) (i : ℕ) → i < length from → i < length to → set (take i from ++ drop i to) i (getD from i 0) ≡ take (suc i) from ++ drop (suc i) to
+copy-here : (from to : List ℕ) (i : ℕ) → i < length from → i < length to
+    → set (take i from ++ drop i to) i (getD from i 0) ≡ take (suc i) from ++ drop (suc i) to
 copy-here [] to i h k = absurd (not-suc-le-zero h)
 copy-here (x ∷ from) [] i h k = absurd (not-suc-le-zero k)
 copy-here (x ∷ from) (y ∷ to) zero h k = refl
@@ -47,7 +48,8 @@ copy-over from to i h k e =
     ⊎-elim
     (λ (l : length to ≤ i).
     let n : i ≡ length to = omega arith in
-    ap₂ (λ (a b : List ℕ). a ++ b) (ap (λ (m : ℕ). take m from) n) (drop-of-length-le to l ∙ sym (let m : length to ≤ length from = omega arith in drop-of-length-le to m)))
+    let m : length to ≤ length from = omega arith in
+    ap₂ (λ (a b : List ℕ). a ++ b) (ap (λ (k : ℕ). take k from) n) (drop-of-length-le to l ∙ sym (drop-of-length-le to m)))
     (λ (l : i < length to).
     let g : length from ≤ i = ltb-false i (length from) (ap (λ (b : Bool). b && ltb i (length from)) (sym (lt-ltb i (length to) l)) ∙ e) in
     let n : i ≡ length from = omega arith in
@@ -58,7 +60,8 @@ copy-over from to i h k e =
 pub copied-same : (to from : List ℕ) → length to ≡ length from → copied to from ≡ from
 unfolding copied
 copied-same to from e =
-    ap₂ (λ (a b : List ℕ). a ++ b) (take-all (length to) from (omega arith)) (let m : length to ≤ length from = omega arith in drop-of-length-le to m) ∙ append-nil from
+    let m : length to ≤ length from = omega arith in
+    ap₂ (λ (a b : List ℕ). a ++ b) (take-all (length to) from (omega arith)) (drop-of-length-le to m) ∙ append-nil from
 
 -- a fill of all bytes
 pub fill-all : (s : List ℕ) (i : ℕ) → i ≡ length s → replicate i 0 ++ drop i s ≡ zeros (length s)

@@ -5,8 +5,8 @@ use mathlib.Core.List.{List}
 use Prim.Native.Nat.{ℕ, _+_, _*_}
 use lib.Dec.{eqb, leb}
 use lib.ListN.{length}
-use Rattle.sheet.specs.Layout.{cellSize, next}
-use Rattle.sheet.specs.Operations.{shown, dequeued}
+use Rattle.sheet.specs.Layout.{cellSize, nextCell}
+use Rattle.sheet.specs.Operations.{shownCell, dequeued}
 
 -- cell i lies in the bytes
 abbrev pub hasCell : List ℕ → ℕ → Bool
@@ -19,8 +19,8 @@ writtenIf false written before = before
 
 -- the output with cell i shown
 unfoldable pub shownAt : List ℕ → ℕ → List ℕ → List ℕ
-shownAt s i out = writtenIf (hasCell s i && eqb (length out) cellSize) (shown s i) out
+shownAt s i out = writtenIf (hasCell s i && eqb (length out) cellSize) (shownCell s i) out
 
 -- the bytes with the first used cell freed
 unfoldable pub released : List ℕ → List ℕ
-released s = writtenIf (hasCell s (next s 0)) (dequeued s) s
+released s = writtenIf (hasCell s (nextCell s 0)) (dequeued s) s

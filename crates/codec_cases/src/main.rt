@@ -1,21 +1,22 @@
-// Runs encode and decode on stored cases (tests/README.md: pairs, words). Pairs come on standard input, a line `profile first second length`
-// each, and the answer is the word. Words are in the file `words`, a line `profile word first_length second_length` each, and the answer is
-// `C 0 0 first second` or `M place symbol first second`. A refusal is `R number`.
-mod show;
+// Runs encode and decode on stored cases (tests/README.md: pairs, words). Pairs come on standard input, a line
+// `profile first second length` each, and the answer is the word. Words are in the file `words`, a line
+// `profile word first_length second_length` each, and the answer is `C 0 0 first second` or `M place symbol first second`. A refusal is
+// `R number`.
+mod print;
 mod text;
 
 use decoder::Decoded;
 use encoder::Encoded;
 use libc::STDIN_FILENO;
 use libc::STDOUT_FILENO;
-use show::FILL;
-use show::is_untouched;
-use show::print_refusal;
-use show::print_word;
+use print::FILL;
+use print::is_untouched;
+use print::print_refusal;
+use print::print_word;
 use text::field;
-use text::least;
-use text::number;
-use text::symbols;
+use text::parse_number;
+use text::parse_symbols;
+use text::smaller;
 use text::until;
 
 // Encodes into the output, and prints the word or the refusal.
@@ -68,23 +69,23 @@ fn decode_and_print(profile: usize, word: &[u8], first: &mut [u8], second: &mut 
 
 fn answer_pair(line: &[u8]) {
     let mut first = [0u8; 64];
-    let a = least(symbols(field(line, 1), &mut first), 64);
+    let a = smaller(parse_symbols(field(line, 1), &mut first), 64);
     let mut second = [0u8; 64];
-    let b = least(symbols(field(line, 2), &mut second), 64);
+    let b = smaller(parse_symbols(field(line, 2), &mut second), 64);
     let mut out = [FILL; 128];
-    let n = least(number(field(line, 3)), 128);
-    let profile = number(field(line, 0));
+    let n = smaller(parse_number(field(line, 3)), 128);
+    let profile = parse_number(field(line, 0));
     encode_and_print(profile, &first[..a], &second[..b], &mut out[..n]);
 }
 
 fn answer_word(line: &[u8]) {
     let mut word = [0u8; 128];
-    let n = least(symbols(field(line, 1), &mut word), 128);
+    let n = smaller(parse_symbols(field(line, 1), &mut word), 128);
     let mut first = [FILL; 64];
-    let k = least(number(field(line, 2)), 64);
+    let k = smaller(parse_number(field(line, 2)), 64);
     let mut second = [FILL; 64];
-    let l = least(number(field(line, 3)), 64);
-    let profile = number(field(line, 0));
+    let l = smaller(parse_number(field(line, 3)), 64);
+    let profile = parse_number(field(line, 0));
     decode_and_print(profile, &word[..n], &mut first[..k], &mut second[..l]);
 }
 

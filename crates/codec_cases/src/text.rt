@@ -2,14 +2,14 @@
 ghost use Prim.Native.Nat.{_≤_};
 ghost use lib.ListN.{length};
 
-pub(crate) fn least(a: usize, b: usize) -> usize
+pub(crate) fn smaller(a: usize, b: usize) -> usize
     ensures { λ r. ⌜ (r ≤ a) × (r ≤ b) ⌝ }
 {
     if a < b { a } else { b }
 }
 
 // The value of a digit; 0 for any other byte.
-fn digit(b: u8) -> usize
+fn digit_value(b: u8) -> usize
     ensures { λ r. ⌜ r ≤ 9 ⌝ }
 {
     if b < b'0' {
@@ -53,12 +53,12 @@ pub(crate) fn field(line: &[u8], k: usize) -> &[u8] {
 }
 
 // A decimal number; the digits after the fourth are passed over.
-pub(crate) fn number(s: &[u8]) -> usize {
+pub(crate) fn parse_number(s: &[u8]) -> usize {
     let mut value: usize = 0;
     let mut i = 0;
     while i < s.len() {
         if value < 1000 {
-            value = value * 10 + digit(s[i]);
+            value = value * 10 + digit_value(s[i]);
         }
         i += 1;
     }
@@ -66,7 +66,7 @@ pub(crate) fn number(s: &[u8]) -> usize {
 }
 
 // The digits of a word, and how many there are; `-` is none.
-pub(crate) fn symbols(s: &[u8], out: &mut [u8]) -> usize {
+pub(crate) fn parse_symbols(s: &[u8], out: &mut [u8]) -> usize {
     let mut n = 0;
     let mut i = 0;
     while i < s.len() {

@@ -8,12 +8,12 @@ use lib.Dec.{lit≤}
 use lib.ListN.{getD}
 use Rattle.code.specs.Reading.{clean, corrected, read, unreadable}
 use Rattle.code.specs.Operations.{Answer, refused, answered, Report, report, decodeAnswer}
-use Rattle.stream.proofs.Bounds.{Small, decode-small}
+use Rattle.stream.proofs.Bounds.{SmallAnswer, decode-small}
 use Rattle.fogzurt.specs.Packed.{Parts, partsOf, joined, byte, bytes, packed, unpacked, Within}
 use Rattle.fogzurt.specs.Claims.{Unpacks}
 
 -- a refusal has one digit, a position two, a symbol one
-within : (a : Answer) → Small a → Within (partsOf (report a))
+within : (a : Answer) → SmallAnswer a → Within (partsOf (report a))
 within (refused k) s = record { number = omega (arith, s); kind = lit≤ tt; position = lit≤ tt; symbol = lit≤ tt }
 within (answered unreadable) s = record { number = lit≤ tt; kind = lit≤ tt; position = lit≤ tt; symbol = lit≤ tt }
 within (answered (read clean a b)) s = record { number = lit≤ tt; kind = lit≤ tt; position = lit≤ tt; symbol = lit≤ tt }

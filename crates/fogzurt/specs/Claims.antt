@@ -19,7 +19,7 @@ use Rattle.fogzurt.specs.Packed.{partsOf, packed, unpacked}
 -- C gets every part of decode's answer back
 abbrev pub Unpacks : Type 0
 Unpacks =
-    (i : ℕ) (u : List ℕ) (k l : ℕ) (r : ℕ) → r ≡ packed (report (decodeAnswer i u k l)) → unpacked r ≡ partsOf (report (decodeAnswer i u k l))
+    (i : ℕ) (u : List ℕ) (k l : ℕ) (r : ℕ) → let told = report (decodeAnswer i u k l) in r ≡ packed told → unpacked r ≡ partsOf told
 
 -- as include/fogzurt.h has the bytes: number, kind, position, symbol
 pub record HeaderBytes : Type 0 where

@@ -1,10 +1,15 @@
--- Decode's answer as one number of eight bytes, the lowest first: 01's number, the kind (1 clean, 2 corrected), the position, the symbol sent
--- there, and four bytes that are 0. And how C takes it apart.
+-- Decode's answer as one number of eight bytes, the lowest first: 01's number, the kind (1 clean, 2 corrected), the position, the symbol
+-- sent there, and four bytes that are 0. And how C takes it apart.
 -- Assumes nothing.
 use mathlib.Core.List.{List, [], _∷_}
 use Prim.Native.Nat.{ℕ, zero, suc, _+_, _*_, _/_, _%_, _≤_}
+use lib.ListN.{length}
 use Rattle.code.specs.Reading.{Finding, clean, corrected, correction}
-use Rattle.code.specs.Operations.{Report, refusal, failure, success, reportNumber}
+use Rattle.code.specs.Operations.{Answer, decodeAnswer, Report, refusal, failure, success}
+
+-- decode's answer to the word u in profile i, with outputs that hold `first` and `second`
+abbrev pub answerInto : ℕ → List ℕ → List ℕ → List ℕ → Answer
+answerInto i u first second = decodeAnswer i u (length first) (length second)
 
 -- what C sees of an answer; a part that it does not have is 0
 pub record Parts : Type 0 where

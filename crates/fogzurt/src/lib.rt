@@ -4,11 +4,11 @@ ghost use mathlib.Core.Bool.{true, false};
 ghost use mathlib.Core.List.{[], _∷_};
 ghost use Prim.Native.Nat.{_≤_};
 ghost use lib.ListN.{length};
-ghost use Rattle.code.specs.Operations.{encodeRefusal, encodeOutput, outcomeNumber, decodeAnswer, decodeOutput, report};
+ghost use Rattle.code.specs.Operations.{encodeRefusal, encodeOutput, outcomeNumber, decodeOutput, report};
 ghost use Rattle.sheet.specs.Allowed.{FormatAllows, EnqueueAllows, PeekAllows, DequeueAllows};
 ghost use Rattle.encoder.specs.Answer.{encodedOutcome};
 ghost use Rattle.decoder.specs.Decode.{decodedReport};
-ghost use Rattle.fogzurt.specs.Packed.{partsOf, joined, packed, Within};
+ghost use Rattle.fogzurt.specs.Packed.{answerInto, partsOf, joined, packed, Within};
 use decoder::Decoded;
 use encoder::Encoded;
 
@@ -43,9 +43,11 @@ pub extern "C" fn fogzurt_decode(
     first: &mut [u8],
     second: &mut [u8],
 ) -> u64
-    ensures { λ r. ⌜ r ≡ packed (report (decodeAnswer profile (now (word .entry)) (length (now (first .entry))) (length (now (second .entry))))) ⌝ }
-    ensures { λ _. ⌜ now (first .exit) ≡ decodeOutput true (decodeAnswer profile (now (word .entry)) (length (now (first .entry))) (length (now (second .entry)))) (now (first .entry)) ⌝ }
-    ensures { λ _. ⌜ now (second .exit) ≡ decodeOutput false (decodeAnswer profile (now (word .entry)) (length (now (first .entry))) (length (now (second .entry)))) (now (second .entry)) ⌝ }
+    ensures { λ r. ⌜ r ≡ packed (report (answerInto profile (now (word .entry)) (now (first .entry)) (now (second .entry)))) ⌝ }
+    ensures { λ _. ⌜ now (first .exit)
+        ≡ decodeOutput true (answerInto profile (now (word .entry)) (now (first .entry)) (now (second .entry))) (now (first .entry)) ⌝ }
+    ensures { λ _. ⌜ now (second .exit)
+        ≡ decodeOutput false (answerInto profile (now (word .entry)) (now (first .entry)) (now (second .entry))) (now (second .entry)) ⌝ }
 {
     pack(decoder::decode(profile, word, first, second))
 }

@@ -14,7 +14,7 @@ use Rattle.modular.proofs.Search.{le-or-lt}
 use Rattle.code.proofs.Merge.{cases}
 use Rattle.stream.specs.Feed.{lineEnds}
 use Rattle.stream.proofs.Counting.{ends-further, ends-none, ends-one}
-use Rattle.lines.specs.Ends.{LineEnd, Placed}
+use Rattle.lines.specs.Ends.{LineEnd, EndIndex}
 
 -- none of the bytes from an index on and before another is byte 10
 abbrev pub None : List ℕ → ℕ → ℕ → Type 0
@@ -39,7 +39,13 @@ module _ {input : List ℕ} {from w first i : ℕ} (s : Seen input from w first 
   -- the next byte is byte 10, and no other was
   seen-hit : w ≤ first → getD input (from + i) 0 ≡ 10 → Seen input from w i (i + 1)
   seen-hit h e =
-      record { within = omega arith; high = omega arith; before = λ k. omega arith; none = λ j l a b. s .none j l b (omega arith); ends = λ k. e }
+      record {
+        within = omega arith;
+        high = omega arith;
+        before = λ k. omega arith;
+        none = λ j l a b. s .none j l b (omega arith);
+        ends = λ k. e;
+      }
 
   -- it is no byte 10, or one was
   seen-miss : (first < i) ⊎ (getD input (from + i) 0 ≡ 10 → ⊥) → Seen input from w first (i + 1)
@@ -49,12 +55,16 @@ module _ {input : List ℕ} {from w first i : ℕ} (s : Seen input from w first 
         high = s .high;
         before = λ k. omega (arith, s .before k);
         none = λ j l a b e.
-            ⊎-elim (λ (k : from + i ≤ j). let q : j ≡ from + i = omega arith in ⊎-elim (λ (f : first < i). omega arith) (λ f. f (rw q at e)) h)
+            ⊎-elim
+            (λ (k : from + i ≤ j).
+            let q : j ≡ from + i = omega arith in
+            ⊎-elim (λ (f : first < i). omega arith) (λ f. f (rw q at e)) h)
             (λ (k : j < from + i). s .none j l k b e) (le-or-lt (from + i) j);
         ends = s .ends;
       }
 
-  pub seen-more : {p first′ : ℕ} → Placed (getD input (from + i) 0) i w p → (first′ ≤ first) × (first′ ≤ p) × (first′ < first → first′ ≡ p) → Seen input from w first′ (i + 1)
+  pub seen-more : {p first′ : ℕ} → EndIndex (getD input (from + i) 0) i w p
+      → (first′ ≤ first) × (first′ ≤ p) × (first′ < first → first′ ≡ p) → Seen input from w first′ (i + 1)
   seen-more {p} {first′} q m =
       ⊎-elim (λ (h : w ≤ first). cases (eqb (getD input (from + i) 0) 10) (λ e. hit h (eqb-true _ _ e)) (λ e. miss (eqb-false _ _ e)))
       (λ (h : first < w). same (kept h) (seen-miss (inl (s .before h)))) (le-or-lt w first)
@@ -62,7 +72,7 @@ module _ {input : List ℕ} {from w first i : ℕ} (s : Seen input from w first 
       same : first′ ≡ first → Seen input from w first (i + 1) → Seen input from w first′ (i + 1)
       same e t = rw e t
 
-      -- the place of a byte in a window of which one was seen lies after it
+      -- the index of a byte in a window of which one was seen lies after it
       kept : first < w → first′ ≡ first
       kept h =
           ⊎-elim (λ (k : first ≤ first′). omega (arith, m .0))
@@ -81,7 +91,8 @@ module _ {input : List ℕ} {from w first i : ℕ} (s : Seen input from w first 
       miss n =
           let a : p ≡ w = q .miss n in
           let b : first′ ≡ first =
-          ⊎-elim (λ (k : first ≤ first′). omega (arith, m .0)) (λ (k : first′ < first). absurd (omega (arith, m .2 k, s .high))) (le-or-lt first first′)
+          ⊎-elim (λ (k : first ≤ first′). omega (arith, m .0)) (λ (k : first′ < first). absurd (omega (arith, m .2 k, s .high)))
+          (le-or-lt first first′)
           in
           same b (seen-miss (inr n))
 
@@ -99,7 +110,8 @@ pub end-on : {input : List ℕ} {from at limit r : ℕ} → from ≤ at → None
 end-on {input} h n e = record { low = omega (arith, e .low); high = e .high; none = none-on input n (e .none); ends = e .ends }
 
 -- an end that was found before a limit is found before a later one
-pub end-within : {input : List ℕ} {from limit longer r : ℕ} → limit ≤ longer → r < limit → LineEnd input from limit r → LineEnd input from longer r
+pub end-within : {input : List ℕ} {from limit longer r : ℕ} → limit ≤ longer → r < limit → LineEnd input from limit r
+    → LineEnd input from longer r
 end-within h k e = record { low = e .low; high = omega arith; none = e .none; ends = λ l. e .ends k }
 
 -- Lines counted: one more where byte 10 came, none where the piece is at its end.
@@ -108,8 +120,9 @@ pub counts-none : {input : List ℕ} {consumed limit end : ℕ} → LineEnd inpu
     → lineEnds (take end input) ≡ lineEnds (take consumed input)
 counts-none {input} {consumed} {limit} {end} e =
     let a : consumed + (end - consumed) ≡ end = omega (arith, e .low) in
-    let none : lineEnds (take (end - consumed) (drop consumed input)) ≡ 0 =
-    ends-none (end - consumed) (drop consumed input) (λ j h. rw (getD-drop consumed input j 0) (e .none (consumed + j) (omega arith) (omega arith)))
+    let rest = drop consumed input in
+    let none : lineEnds (take (end - consumed) rest) ≡ 0 =
+    ends-none (end - consumed) rest (λ j h. rw (getD-drop consumed input j 0) (e .none (consumed + j) (omega arith) (omega arith)))
     in
     ap (λ (n : ℕ). lineEnds (take n input)) (sym a) ∙ ends-further input consumed (end - consumed) ∙ omega (arith, none)
 

@@ -13,15 +13,18 @@ use Rattle.modular.proofs.Search.{le-or-lt}
 use lib.Seq.{take-all, take-nil}
 use Rattle.stream.specs.Feed.{Model, Fed, answerAtEnd, stopped, finishing, isEmpty, isDone, overwritten}
 use Rattle.stream.proofs.Cutting.{finish-on, finish-stop}
-use Rattle.lines.specs.States.{partialOf, pendingOf, Holds}
-use Rattle.lines.proofs.Stepping.{Turn, Done, length-pending, nothing, no-room, no-input, stepped}
+use Rattle.lines.specs.States.{partialOf, pendingOf, BeginsWith}
+use Rattle.lines.proofs.Stepping.{modelFrom, Turn, Done, length-pending, nothing, no-room, no-input, stepped}
 
 module _ {out₀ line : List ℕ} {len : ℕ} {pending : List ℕ} {from′ to n : ℕ} {out : List ℕ} (o : List ℕ)
     (t : Turn (stopped (partialOf line len) o (length out₀)) [] out₀ line len pending from′ to 0 n out) where
-  -- the pending bytes had no room
-  pub finish-stops : length out₀ < length o
-      → stopped (partialOf line len) o (length out₀) ≡ finishing (record { line = partialOf line len; pending = o }) (length out₀)
-  finish-stops h = sym (finish-stop (record { line = partialOf line len; pending = o }) (length out₀) h)
+  -- the line so far, with the bytes o pending
+  abbrev m : Model
+  m = record { line = partialOf line len; pending = o }
+
+  -- they had no room
+  pub finish-stops : length out₀ < length o → stopped (partialOf line len) o (length out₀) ≡ finishing m (length out₀)
+  finish-stops h = sym (finish-stop m (length out₀) h)
 
   module _ (none : to ≤ from′) (room : length o ≤ length out₀) where
     -- the output begins with them
@@ -35,8 +38,8 @@ module _ {out₀ line : List ℕ} {len : ℕ} {pending : List ℕ} {from′ to n
         ∙ append-nil (take n out)
 
     -- the answer at the end is pending
-    pub ended : {pending′ : List ℕ} {end : ℕ} → Holds pending′ end (answerAtEnd (partialOf line len)) → length o ≡ n
-        → Turn (finishing (record { line = partialOf line len; pending = o }) (length out₀)) [] out₀ line 0 pending′ 0 end 0 n out
+    pub ended : {pending′ : List ℕ} {end : ℕ} → BeginsWith pending′ end (answerAtEnd (partialOf line len)) → length o ≡ n
+        → Turn (finishing m (length out₀)) [] out₀ line 0 pending′ 0 end 0 n out
     ended {pending′} {end} w e =
         record {
           long-line = t .long-line;
@@ -47,7 +50,7 @@ module _ {out₀ line : List ℕ} {len : ℕ} {pending : List ℕ} {from′ to n
           put = t .put;
           same = t .same;
           rest = t .rest;
-          left = finish-on (record { line = partialOf line len; pending = o }) (length out₀) room ∙ rw (w .text, ← all-put, e);
+          left = finish-on m (length out₀) room ∙ rw (w .text, ← all-put, e);
         }
 
 -- The contract's five equations.
@@ -72,9 +75,10 @@ module _ (pending : List ℕ) (from to : ℕ) (long : length pending ≡ 128) (e
       eq-eqb from to e ∙ empty-none (pendingOf pending from to) (length-pending pending from to long end ∙ omega arith))
       (λ (k : from < to). ne-eqb from to (λ e. omega arith) ∙ more-pending k) (le-or-lt to from)
 
-pub finished : {goal call : Fed} {line : List ℕ} {len : ℕ} {pending : List ℕ} {from to produced : ℕ} {out₀ out : List ℕ} {answered lines : ℕ} {b : Bool}
-    → Done goal line len pending from to 0 produced out₀ out → goal ≡ call → answered ≡ lines → b ≡ isEmpty (pendingOf pending from to)
-    → (_≡_ {A = Model} (record { line = partialOf line len; pending = pendingOf pending from to }) (call .model))
+pub finished : {goal call : Fed} {line : List ℕ} {len : ℕ} {pending : List ℕ} {from to produced : ℕ} {out₀ out : List ℕ}
+    {answered lines : ℕ} {b : Bool} → Done goal line len pending from to 0 produced out₀ out → goal ≡ call → answered ≡ lines
+    → b ≡ isEmpty (pendingOf pending from to)
+    → (modelFrom line len pending from to ≡ call .model)
     × ((produced ≡ length (call .produced)) × ((answered ≡ lines) × ((b ≡ isDone call) × (out ≡ overwritten (call .produced) out₀))))
 unfolding isDone
 finished d e n b =
@@ -83,5 +87,6 @@ finished d e n b =
 
 -- either way out of the second part
 pub all-done : {goal : Fed} {out₀ line : List ℕ} {len : ℕ} {pending : List ℕ} {k end produced : ℕ} {out : List ℕ}
-    → Turn goal [] out₀ line len pending k end 0 produced out → (k < end → produced ≡ length out₀) → Done goal line len pending k end 0 produced out₀ out
+    → Turn goal [] out₀ line len pending k end 0 produced out → (k < end → produced ≡ length out₀)
+    → Done goal line len pending k end 0 produced out₀ out
 all-done {k} {end} t f = ⊎-elim (λ (h : end ≤ k). no-input t h refl) (λ (h : k < end). no-room t h (f h)) (le-or-lt end k)

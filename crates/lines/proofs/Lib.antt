@@ -1,4 +1,4 @@
-pub mod Copying
+pub mod Pasting
 pub mod Ends
 pub mod Clamping
 pub mod Holding

@@ -7,14 +7,23 @@ use native.Mathlib.Nat.{zero-add}
 use native.Mathlib.Omega.{arith}
 use lib.ListN.{length, take, drop, length-drop, take-append-drop, drop-of-length-le}
 use lib.Seq.{length-take-le, drop-drop, take-take, getD-drop, take-paste, drop-paste, length-paste, take-nil, drop-nil}
-use Rattle.stream.specs.Feed.{Model, Fed, answerTo, feedFrom, overwritten}
+use Rattle.stream.specs.Feed.{Partial, Model, Fed, answerTo, feedFrom, overwritten}
 use Rattle.stream.proofs.Feed.{feed-stop}
-use Rattle.lines.specs.States.{partialOf, pendingOf, extendedBy, Holds, Emitted}
+use Rattle.lines.specs.States.{partialOf, pendingOf, extendedBy, BeginsWith, Emitted}
 use Rattle.lines.specs.Ends.{LineEnd}
 use Rattle.lines.proofs.Turns.{ahead, ahead-ahead, emit-law, piece-law, end-law}
 
+-- the model of what the arrays hold
+abbrev pub modelFrom : List ℕ → ℕ → List ℕ → ℕ → ℕ → Model
+modelFrom line len pending from to = record { line = partialOf line len; pending = pendingOf pending from to }
+
+-- what the call comes to that has taken k bytes of the input and put the bytes x out, from the line so far and the bytes o pending
+abbrev resumed : ℕ → List ℕ → Partial → List ℕ → List ℕ → ℕ → Fed
+resumed k x p o input room = ahead k x (feedFrom p o (drop k input) room)
+
 -- `goal` is what the whole call comes to
-pub record Turn (goal : Fed) (input out₀ line : List ℕ) (len : ℕ) (pending : List ℕ) (from to consumed produced : ℕ) (out : List ℕ) : Type 0 where
+pub record Turn (goal : Fed) (input out₀ line : List ℕ) (len : ℕ) (pending : List ℕ) (from to consumed produced : ℕ) (out : List ℕ)
+    : Type 0 where
   pub long-line : length line ≡ 101
   pub long-pending : length pending ≡ 128
   pub order : from ≤ to
@@ -23,7 +32,7 @@ pub record Turn (goal : Fed) (input out₀ line : List ℕ) (len : ℕ) (pending
   pub put : produced ≤ length out₀
   pub same : length out ≡ length out₀
   pub rest : drop produced out ≡ drop produced out₀
-  pub left : goal ≡ ahead consumed (take produced out) (feedFrom (partialOf line len) (pendingOf pending from to) (drop consumed input) (length out₀ - produced))
+  pub left : goal ≡ resumed consumed (take produced out) (partialOf line len) (pendingOf pending from to) input (length out₀ - produced)
 
 pub length-pending : (pending : List ℕ) (from to : ℕ) → length pending ≡ 128 → to ≤ 128 → length (pendingOf pending from to) ≡ to - from
 length-pending pending from to h k =
@@ -58,15 +67,20 @@ module _ {goal : Fed} {input out₀ line : List ℕ} {len : ℕ} {pending : List
       ∙ ap (drop n) (t .rest)
       ∙ drop-drop n produced out₀
 
-  after : goal ≡ ahead consumed (take (produced + n) new) (feedFrom (partialOf line len) (pendingOf pending (from + n) to) (drop consumed input) (length out₀ - (produced + n)))
+  after : goal
+      ≡ resumed consumed (take (produced + n) new) (partialOf line len) (pendingOf pending (from + n) to) input
+      (length out₀ - (produced + n))
   after =
       let o : List ℕ = pendingOf pending from to in
+      let p = partialOf line len in
+      let room = length out₀ - produced in
+      let rest = drop consumed input in
       let w : length o ≡ to - from = length-pending pending from to (t .long-pending) (t .end) in
       let c : consumed + 0 ≡ consumed = omega arith in
-      let r : length out₀ - produced - n ≡ length out₀ - (produced + n) = omega arith in
+      let r : room - n ≡ length out₀ - (produced + n) = omega arith in
       t .left
-      ∙ ap (ahead consumed (take produced out)) (emit-law (partialOf line len) o (drop consumed input) (length out₀ - produced) n (omega (arith, e .within)) (omega (arith, t .same, e .fits)))
-      ∙ ahead-ahead consumed 0 (take produced out) (take n o) (feedFrom (partialOf line len) (drop n o) (drop consumed input) (length out₀ - produced - n))
+      ∙ ap (ahead consumed (take produced out)) (emit-law p o rest room n (omega (arith, e .within)) (omega (arith, t .same, e .fits)))
+      ∙ ahead-ahead consumed 0 (take produced out) (take n o) (feedFrom p (drop n o) rest (room - n))
       ∙ rw (c, front, drop-drop n from (take to pending), r)
 
   pub emitted : Turn goal input out₀ line len pending (from + n) to consumed (produced + n) new
@@ -98,20 +112,22 @@ module _ {goal : Fed} {input out₀ line : List ℕ} {len : ℕ} {pending : List
     bytes = take (end - consumed) (drop consumed input)
 
     -- what is left to do, after them
-    resumes : goal ≡ ahead end (take produced out) (feedFrom (extendedBy (partialOf line len) bytes) [] (drop end input) (length out₀ - produced))
+    resumes : goal ≡ resumed end (take produced out) (extendedBy (partialOf line len) bytes) [] input (length out₀ - produced)
     unfolding bytes
     resumes =
+        let p = partialOf line len in
+        let x = take produced out in
+        let room = length out₀ - produced in
         let a : consumed + (end - consumed) ≡ end = omega (arith, e .low) in
         t .left
-        ∙ ap (λ (o : List ℕ). ahead consumed (take produced out) (feedFrom (partialOf line len) o (drop consumed input) (length out₀ - produced)))
-        (nothing pending from to (t .long-pending) (t .end) none)
-        ∙ piece-law (drop consumed input) (end - consumed) consumed (partialOf line len) (take produced out) (length out₀ - produced) (rw length-drop (omega (arith, e .high)))
+        ∙ ap (λ (o : List ℕ). resumed consumed x p o input room) (nothing pending from to (t .long-pending) (t .end) none)
+        ∙ piece-law (drop consumed input) (end - consumed) consumed p x room (rw length-drop (omega (arith, e .high)))
         (λ j h. rw (getD-drop consumed input j 0) (e .none (consumed + j) (omega arith) (omega arith)))
         ∙ rw (drop-drop (end - consumed) consumed input, a)
 
     -- byte 10 came: the answer to the line is pending
     pub answered : {line′ pending′ : List ℕ} {to′ : ℕ} → end < length input → length line′ ≡ 101
-        → Holds pending′ to′ (answerTo (extendedBy (partialOf line len) (take (end - consumed) (drop consumed input))))
+        → BeginsWith pending′ to′ (answerTo (extendedBy (partialOf line len) (take (end - consumed) (drop consumed input))))
         → Turn goal input out₀ line′ 0 pending′ 0 to′ (end + 1) produced out
     unfolding bytes
     answered {line′} {pending′} {to′} h l w =
@@ -124,11 +140,15 @@ module _ {goal : Fed} {input out₀ line : List ℕ} {len : ℕ} {pending : List
           put = t .put;
           same = t .same;
           rest = t .rest;
-          left = resumes ∙ end-law input end (extendedBy (partialOf line len) bytes) (take produced out) (length out₀ - produced) h (e .ends h) ∙ rw (w .text);
+          left =
+              resumes
+              ∙ end-law input end (extendedBy (partialOf line len) bytes) (take produced out) (length out₀ - produced) h (e .ends h)
+              ∙ rw (w .text);
         }
 
     -- the piece is at its end
-    pub exhausted : (line′ : List ℕ) (len′ : ℕ) → length line′ ≡ 101 → partialOf line′ len′ ≡ extendedBy (partialOf line len) (take (end - consumed) (drop consumed input))
+    pub exhausted : (line′ : List ℕ) (len′ : ℕ) → length line′ ≡ 101
+        → partialOf line′ len′ ≡ extendedBy (partialOf line len) (take (end - consumed) (drop consumed input))
         → Turn goal input out₀ line′ len′ pending from to end produced out
     unfolding bytes
     exhausted line′ len′ l p =
@@ -148,21 +168,22 @@ module _ {goal : Fed} {input out₀ line : List ℕ} {len : ℕ} {pending : List
 
 -- what the call leaves in the output, in the words of the contract
 pub record Done (goal : Fed) (line : List ℕ) (len : ℕ) (pending : List ℕ) (from to consumed produced : ℕ) (out₀ out : List ℕ) : Type 0 where
-  pub model : _≡_ {A = Model} (record { line = partialOf line len; pending = pendingOf pending from to }) (goal .model)
+  pub model : modelFrom line len pending from to ≡ goal .model
   pub consumed-is : consumed ≡ goal .consumed
   pub produced-is : produced ≡ length (goal .produced)
   pub output : out ≡ overwritten (goal .produced) out₀
 
 module _ {goal : Fed} {input out₀ line : List ℕ} {len : ℕ} {pending : List ℕ} {from to consumed produced : ℕ} {out : List ℕ}
     (t : Turn goal input out₀ line len pending from to consumed produced out) where
-  nothing-more : feedFrom (partialOf line len) (pendingOf pending from to) (drop consumed input) (length out₀ - produced)
-      ≡ record { model = record { line = partialOf line len; pending = pendingOf pending from to }; consumed = 0; produced = [] }
+  -- a call that takes nothing and puts nothing out
+  abbrev idle : Fed
+  idle = record { model = modelFrom line len pending from to; consumed = 0; produced = [] }
+
+  nothing-more : feedFrom (partialOf line len) (pendingOf pending from to) (drop consumed input) (length out₀ - produced) ≡ idle
       → Done goal line len pending from to consumed produced out₀ out
   unfolding overwritten
   nothing-more e =
-      let g : goal ≡ ahead consumed (take produced out) (record { model = record { line = partialOf line len; pending = pendingOf pending from to }; consumed = 0; produced = [] }) =
-      t .left ∙ ap (ahead consumed (take produced out)) e
-      in
+      let g : goal ≡ ahead consumed (take produced out) idle = t .left ∙ ap (ahead consumed (take produced out)) e in
       let k : length (take produced out) ≡ produced = length-take-le produced out (omega (arith, t .same, t .put)) in
       let c : consumed + 0 ≡ consumed = omega arith in
       rw (g, append-nil (take produced out), c)
@@ -190,7 +211,8 @@ module _ {goal : Fed} {input out₀ line : List ℕ} {len : ℕ} {pending : List
 
 -- Where it begins.
 
-pub begins : (input out line : List ℕ) (len : ℕ) (pending : List ℕ) (from to : ℕ) → length line ≡ 101 → length pending ≡ 128 → from ≤ to → to ≤ 128
+pub begins : (input out line : List ℕ) (len : ℕ) (pending : List ℕ) (from to : ℕ) → length line ≡ 101 → length pending ≡ 128
+    → from ≤ to → to ≤ 128
     → Turn (feedFrom (partialOf line len) (pendingOf pending from to) input (length out)) input out line len pending from to 0 0 out
 begins input out line len pending from to a b c d =
     let z : length out - 0 ≡ length out = omega arith in
@@ -207,10 +229,11 @@ begins input out line len pending from to a b c d =
     }
 
 -- the contract's five equations, of the same call by another name
-pub stepped : {goal call : Fed} {line : List ℕ} {len : ℕ} {pending : List ℕ} {from to consumed produced : ℕ} {out₀ out : List ℕ} {answered lines : ℕ}
-    → Done goal line len pending from to consumed produced out₀ out → goal ≡ call → answered ≡ lines
-    → (_≡_ {A = Model} (record { line = partialOf line len; pending = pendingOf pending from to }) (call .model))
-    × ((consumed ≡ call .consumed) × ((produced ≡ length (call .produced)) × ((answered ≡ lines) × (out ≡ overwritten (call .produced) out₀))))
+pub stepped : {goal call : Fed} {line : List ℕ} {len : ℕ} {pending : List ℕ} {from to consumed produced : ℕ} {out₀ out : List ℕ}
+    {answered lines : ℕ} → Done goal line len pending from to consumed produced out₀ out → goal ≡ call → answered ≡ lines
+    → (modelFrom line len pending from to ≡ call .model)
+    × ((consumed ≡ call .consumed)
+    × ((produced ≡ length (call .produced)) × ((answered ≡ lines) × (out ≡ overwritten (call .produced) out₀))))
 stepped {out₀} d e n = (
   d .model ∙ ap (λ (f : Fed). f .model) e,
   (

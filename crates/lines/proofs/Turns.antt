@@ -37,7 +37,8 @@ emit-stopped p o room n h =
 
 emit-onward : (o : List ℕ) (n : ℕ) (f : Fed) → onward o f ≡ ahead 0 (take n o) (onward (drop n o) f)
 emit-onward o n f =
-    fed-same refl (omega arith) (ap (λ (l : List ℕ). l ++ f .produced) (sym (take-append-drop n o)) ∙ append-assoc (take n o) (drop n o) (f .produced))
+    let split = ap (λ (l : List ℕ). l ++ f .produced) (sym (take-append-drop n o)) in
+    fed-same refl (omega arith) (split ∙ append-assoc (take n o) (drop n o) (f .produced))
 
 emit-on : (p : Partial) (o s : List ℕ) (room n : ℕ) → n ≤ length o → length o ≤ room
     → feedFrom p o s room ≡ ahead 0 (take n o) (feedFrom p (drop n o) s (room - n))
@@ -78,13 +79,15 @@ piece-law (b ∷ s) (suc n) at p o room h none =
     let t : eqb b 10 ≡ false = ne-eqb b 10 (none 0 (omega arith)) in
     let e : suc at + n ≡ at + suc n = omega arith in
     take-byte p at b o s room
-    ∙ rw (line-grows p b t .0, line-grows p b t .1) (piece-law s n (suc at) (extended p b) o room (omega arith) (λ j k. none (suc j) (omega arith)))
+    ∙ rw (line-grows p b t .0, line-grows p b t .1)
+    (piece-law s n (suc at) (extended p b) o room (omega arith) (λ j k. none (suc j) (omega arith)))
     ∙ ap (λ (i : ℕ). ahead i o (feedFrom (extendedBy (extended p b) (take n s)) [] (drop n s) room)) e
 
 -- and byte 10
 pub end-law : (input : List ℕ) (at : ℕ) (p : Partial) (o : List ℕ) (room : ℕ) → at < length input → getD input at 0 ≡ 10
     → ahead at o (feedFrom p [] (drop at input) room) ≡ ahead (at + 1) o (feedFrom (held []) (answerTo p) (drop (at + 1) input) room)
 end-law input at p o room h e =
-    let t : eqb (getD input at 0) 10 ≡ true = eq-eqb (getD input at 0) 10 e in
+    let b = getD input at 0 in
+    let t : eqb b 10 ≡ true = eq-eqb b 10 e in
     rw (add-one at, drop-cons input at 0 h)
-    (take-byte p at (getD input at 0) o (drop (suc at) input) room ∙ rw (line-ends p (getD input at 0) t .0, line-ends p (getD input at 0) t .1))
+    (take-byte p at b o (drop (suc at) input) room ∙ rw (line-ends p b t .0, line-ends p b t .1))

@@ -13,6 +13,6 @@ pub record LineEnd (input : List ℕ) (from limit r : ℕ) : Type 0 where
   pub ends : r < limit → getD input r 0 ≡ 10
 
 -- r is the index i of a byte 10, and of any other byte w
-pub record Placed (byte i w r : ℕ) : Type 0 where
+pub record EndIndex (byte i w r : ℕ) : Type 0 where
   pub hit : byte ≡ 10 → r ≡ i
   pub miss : (byte ≡ 10 → ⊥) → r ≡ w

@@ -7,7 +7,7 @@ use Prim.Native.Nat.{ℕ, _+_, _-_, _≤_, _<_}
 use lib.Dec.{leb}
 use lib.ListN.{length, take, drop}
 use lib.Seq.{paste}
-use Rattle.stream.specs.Feed.{Partial, held, tooLong, extended, Model}
+use Rattle.stream.specs.Feed.{Partial, held, tooLong, extended, Model, Fed, feed, finishing}
 use Rattle.lines.specs.declared.State.{State}
 
 -- the line so far: len bytes of its array, or, past 101, that it has run over
@@ -22,13 +22,20 @@ pendingOf answer from to = drop from (take to answer)
 unfoldable pub modelOf : State → Model
 modelOf s = record { line = partialOf (s .line) (s .len); pending = pendingOf (s .answer) (s .from) (s .to) }
 
+-- what a call of step comes to, with a piece of the input and an output, and a call of finish
+abbrev pub stepFed : State → List ℕ → List ℕ → Fed
+stepFed s input output = feed (modelOf s) input (length output)
+
+abbrev pub finishFed : State → List ℕ → Fed
+finishFed s output = finishing (modelOf s) (length output)
+
 -- more bytes of the line, none of them byte 10
 abbrev pub extendedBy : Partial → List ℕ → Partial
 extendedBy p [] = p
 extendedBy p (b ∷ s) = extendedBy (extended p b) s
 
 -- an array of 128 bytes begins with the bytes, up to end
-pub record Holds (new : List ℕ) (end : ℕ) (bytes : List ℕ) : Type 0 where
+pub record BeginsWith (new : List ℕ) (end : ℕ) (bytes : List ℕ) : Type 0 where
   pub text : take end new ≡ bytes
   pub fits : end ≤ 128
   pub long : length new ≡ 128

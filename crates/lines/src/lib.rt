@@ -6,8 +6,8 @@ mod search;
 use answers::AnswerBuffer;
 ghost use mathlib.Core.Path.{_≡_};
 ghost use lib.ListN.{length, take};
-ghost use Rattle.stream.specs.Feed.{begin, feed, overwritten, finishing, isDone, lineEnds, linesFinished};
-ghost use Rattle.lines.specs.States.{modelOf};
+ghost use Rattle.stream.specs.Feed.{begin, overwritten, isDone, lineEnds, linesFinished};
+ghost use Rattle.lines.specs.States.{modelOf, stepFed, finishFed};
 
 // What is kept between calls: the line so far (01: "a zeroed array of 101 bytes holds the line") and its length, and the
 // answer to the last line, of which the bytes from one index to another are not put out yet.
@@ -44,17 +44,18 @@ pub fn start() -> State
 // only while nothing is pending. Where it took less than the piece, the output is full; hand in the rest with the next
 // call.
 pub fn step(state: State, input: &[u8], output: &mut [u8]) -> Stepped
-    ensures state { λ r. ⌜ modelOf (r .state) ≡ feed (modelOf state) (now (input .entry)) (length (now (output .entry))) .model ⌝ }
-    ensures consumed { λ r. ⌜ r .consumed ≡ feed (modelOf state) (now (input .entry)) (length (now (output .entry))) .consumed ⌝ }
-    ensures produced { λ r. ⌜ r .produced ≡ length (feed (modelOf state) (now (input .entry)) (length (now (output .entry))) .produced) ⌝ }
+    ensures state { λ r. ⌜ modelOf (r .state) ≡ stepFed state (now (input .entry)) (now (output .entry)) .model ⌝ }
+    ensures consumed { λ r. ⌜ r .consumed ≡ stepFed state (now (input .entry)) (now (output .entry)) .consumed ⌝ }
+    ensures produced { λ r. ⌜ r .produced ≡ length (stepFed state (now (input .entry)) (now (output .entry)) .produced) ⌝ }
     ensures answered { λ r. ⌜ r .answered ≡ lineEnds (take (r .consumed) (now (input .entry))) ⌝ }
-    ensures output { λ _. ⌜ now (output .exit) ≡ overwritten (feed (modelOf state) (now (input .entry)) (length (now (output .entry))) .produced) (now (output .entry)) ⌝ }
+    ensures output { λ _. ⌜ now (output .exit)
+        ≡ overwritten (stepFed state (now (input .entry)) (now (output .entry)) .produced) (now (output .entry)) ⌝ }
 {
     let mut line = state.line;
     let mut len = state.len;
     let mut pending = state.answer;
-    let mut to = pending::least(state.to, 128);
-    let mut from = pending::least(state.from, to);
+    let mut to = pending::smaller(state.to, 128);
+    let mut from = pending::smaller(state.from, to);
     let mut consumed = 0;
     let mut produced = 0;
     let mut answered = 0;
@@ -104,17 +105,17 @@ pub struct Finished {
 // Puts out, after the last piece of the input, what is still to come: pending bytes, then the answer to a line that no
 // byte 10 ended. To be called until it is done.
 pub fn finish(state: State, output: &mut [u8]) -> Finished
-    ensures state { λ r. ⌜ modelOf (r .state) ≡ finishing (modelOf state) (length (now (output .entry))) .model ⌝ }
-    ensures produced { λ r. ⌜ r .produced ≡ length (finishing (modelOf state) (length (now (output .entry))) .produced) ⌝ }
+    ensures state { λ r. ⌜ modelOf (r .state) ≡ finishFed state (now (output .entry)) .model ⌝ }
+    ensures produced { λ r. ⌜ r .produced ≡ length (finishFed state (now (output .entry)) .produced) ⌝ }
     ensures answered { λ r. ⌜ r .answered ≡ linesFinished (modelOf state) (length (now (output .entry))) ⌝ }
-    ensures done { λ r. ⌜ r .done ≡ isDone (finishing (modelOf state) (length (now (output .entry)))) ⌝ }
-    ensures output { λ _. ⌜ now (output .exit) ≡ overwritten (finishing (modelOf state) (length (now (output .entry))) .produced) (now (output .entry)) ⌝ }
+    ensures done { λ r. ⌜ r .done ≡ isDone (finishFed state (now (output .entry))) ⌝ }
+    ensures output { λ _. ⌜ now (output .exit) ≡ overwritten (finishFed state (now (output .entry)) .produced) (now (output .entry)) ⌝ }
 {
     let line = state.line;
     let len = state.len;
     let mut pending = state.answer;
-    let to = pending::least(state.to, 128);
-    let from = pending::least(state.from, to);
+    let to = pending::smaller(state.to, 128);
+    let from = pending::smaller(state.from, to);
     let n = pending::emit(&pending, from, to, output, 0);
     let next = from + n;
     if next < to {
@@ -132,7 +133,7 @@ pub fn finish(state: State, output: &mut [u8]) -> Finished
             done: false,
         };
     }
-    let answered = pending::least(len, 1);
+    let answered = pending::smaller(len, 1);
     let end = line::answer_at_end(&line, len, &mut pending);
     let k = pending::emit(&pending, 0, end, output, n);
     let produced = n + k;

@@ -2,11 +2,11 @@
 ghost use Prim.Native.Nat.{_+_, _≤_, _<_};
 ghost use mathlib.Core.Path.{_≡_};
 ghost use lib.ListN.{length};
-ghost use Rattle.lines.specs.Ends.{LineEnd, Placed};
+ghost use Rattle.lines.specs.Ends.{LineEnd, EndIndex};
 
 // The index of a byte 10; 128, past every index of a window, for any other byte.
-fn place(byte: u8, i: u8) -> u8
-    ensures { λ r. ⌜ Placed byte i 128 r ⌝ }
+fn end_index(byte: u8, i: u8) -> u8
+    ensures { λ r. ⌜ EndIndex byte i 128 r ⌝ }
 {
     if byte == b'\n' { i } else { 128 }
 }
@@ -26,7 +26,7 @@ fn in_window(input: &[u8], from: usize) -> usize
     let mut first: u8 = 128;
     let mut i: u8 = 0;
     while i < 128 {
-        first = earlier(first, place(input[from + i as usize], i));
+        first = earlier(first, end_index(input[from + i as usize], i));
         i += 1;
     }
     from + first as usize

@@ -4,7 +4,7 @@ use libc::STDOUT_FILENO;
 use lines::State;
 ghost use Prim.Native.Nat.{_≤_};
 
-fn least(a: usize, b: usize) -> usize
+fn smaller(a: usize, b: usize) -> usize
     ensures { λ r. ⌜ (r ≤ a) × (r ≤ b) ⌝ }
 {
     if a < b { a } else { b }
@@ -25,7 +25,7 @@ fn feed(start: State, input: &[u8], piece: usize, output: &mut [u8]) -> State {
     let mut turns = u64::MAX;
     while turns > 0 {
         let rest = &input[at..];
-        let cut = least(size(piece, turns), rest.len());
+        let cut = smaller(size(piece, turns), rest.len());
         let stepped = lines::step(state, &rest[..cut], output);
         state = stepped.state;
         at += stepped.consumed;

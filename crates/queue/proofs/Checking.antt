@@ -24,11 +24,11 @@ use Rattle.sheet.proofs.Laws.{length-records}
 use Rattle.sheet.proofs.Rule.{found-same}
 use Rattle.soundness.specs.declared.Checked.{Checked}
 use Rattle.soundness.specs.declared.Checked.the-variants.{WrongLength, Unsound, Sound}
-use Rattle.soundness.specs.Checked.{reached, CheckReport, checkReport, checkedReport, checked}
+use Rattle.soundness.specs.Checked.{reached, CheckReport, checkReport, checkedReport, checkAnswer}
 use Rattle.soundness.proofs.Checked.{the-type}
 
 -- a sound queue with the cell and the number of records that the check gave
-pub record Told (s : List ℕ) (k cell n : ℕ) : Type 0 where
+pub record SoundAnswer (s : List ℕ) (k cell n : ℕ) : Type 0 where
   pub queue : Queue s
   pub cell-is : cell ≡ reached s k
   pub records-is : n ≡ length (used s)
@@ -53,29 +53,29 @@ module _ (s : List ℕ) (k : ℕ) where
   abbrev report-by : ℕ → CheckReport
   report-by n = checkReport n (onSuccess n (reached s k) 0) (onSuccess n (length (used s)) 0)
 
-  either : (Queue s × (checked s k ≡ found)) ⊎ Refused s (checked s k .number)
-  unfolding checked
+  either : (Queue s × (checkAnswer s k ≡ found)) ⊎ Refused s (checkAnswer s k .number)
+  unfolding checkAnswer
   either = go (firstRefusal (soundTests s)) refl
     where
-      go : (n : ℕ) → firstRefusal (soundTests s) ≡ n → (Queue s × (checked s k ≡ found)) ⊎ Refused s (checked s k .number)
+      go : (n : ℕ) → firstRefusal (soundTests s) ≡ n → (Queue s × (checkAnswer s k ≡ found)) ⊎ Refused s (checkAnswer s k .number)
       go zero e = inl (queue-by s e, ap report-by e)
       go (suc n) e =
           let refuses : firstRefusal (soundTests s) ≢ 0 = λ z. suc-ne-zero n (sym e ∙ z) in
           inr (record { nonzero = refuses; answer = λ own. sym (refused-first (soundTests s) own refuses) })
 
-  pub told-sound : (cell n : ℕ) → checkReport 0 cell n ≡ checked s k → Told s k cell n
+  pub told-sound : (cell n : ℕ) → checkReport 0 cell n ≡ checkAnswer s k → SoundAnswer s k cell n
   told-sound cell n e =
       ⊎-elim
-      (λ (w : Queue s × (checked s k ≡ found)).
+      (λ (w : Queue s × (checkAnswer s k ≡ found)).
       record { queue = w .0; cell-is = ap CheckReport.cell (e ∙ w .1); records-is = ap CheckReport.records (e ∙ w .1) })
-      (λ (r : Refused s (checked s k .number)). absurd (r .nonzero (ap CheckReport.number (sym e)))) either
+      (λ (r : Refused s (checkAnswer s k .number)). absurd (r .nonzero (ap CheckReport.number (sym e)))) either
 
-  pub told-unsound : (x : Checked) → checkedReport x ≡ checked s k → OneOf (0 ∷ 1 ∷ []) (tagOf the-type x)
+  pub told-unsound : (x : Checked) → checkedReport x ≡ checkAnswer s k → OneOf (0 ∷ 1 ∷ []) (tagOf the-type x)
       → Refused s (checkedReport x .number)
   told-unsound x e h =
       ⊎-elim
-      (λ (w : Queue s × (checked s k ≡ found)). absurd (unsound-number x h (ap CheckReport.number (e ∙ w .1))))
-      (λ (r : Refused s (checked s k .number)). subst (λ (y : CheckReport). Refused s (y .number)) (sym e) r) either
+      (λ (w : Queue s × (checkAnswer s k ≡ found)). absurd (unsound-number x h (ap CheckReport.number (e ∙ w .1))))
+      (λ (r : Refused s (checkAnswer s k .number)). subst (λ (y : CheckReport). Refused s (y .number)) (sym e) r) either
 
 -- the cell that the list leads to in k steps is record k's
 at-step : (l : List ℕ) (a k : ℕ) → k ≤ length l → getD (a ∷ l) k 0 ≡ lastOf a (take k l)
@@ -83,7 +83,7 @@ at-step l a zero h = refl
 at-step [] a (suc k) h = absurd (not-suc-le-zero h)
 at-step (b ∷ l) a (suc k) h = at-step l b k (le-of-suc-le-suc h)
 
-module _ (s : List ℕ) (k cell n : ℕ) (t : Told s k cell n) where
+module _ (s : List ℕ) (k cell n : ℕ) (t : SoundAnswer s k cell n) where
   -- there is a record k
   pub found-is : (leb 1 k && leb k n) ≡ not (eqb (cellOf s k) 0)
   found-is = ap (λ (m : ℕ). leb 1 k && leb k m) (t .records-is ∙ sym (length-records s)) ∙ sym (found-same s (t .queue) k)
@@ -93,7 +93,7 @@ module _ (s : List ℕ) (k cell n : ℕ) (t : Told s k cell n) where
   found-at h = t .cell-is ∙ sym (at-step (used s) 0 k (omega (arith, t .records-is)))
 
 -- there are at most 255 used cells
-pub last-at : (s : List ℕ) (cell n : ℕ) → Told s 255 cell n → cell ≡ lastUsed s
+pub last-at : (s : List ℕ) (cell n : ℕ) → SoundAnswer s 255 cell n → cell ≡ lastUsed s
 unfolding lastUsed reached
 last-at s cell n t =
     let ls = lists-of s (t .queue) in

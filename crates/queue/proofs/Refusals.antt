@@ -17,7 +17,8 @@ use Rattle.code.specs.Profiles.{isProfile, profile}
 use Rattle.code.proofs.Refusal.{AllPass, stops, kept}
 use Rattle.sheet.specs.Layout.{cellSize, isQueueLength, firstFree}
 use Rattle.sheet.specs.Sound.{isBox, sound, Queue}
-use Rattle.sheet.specs.Operations.{formatAnswer, formatQueue, enqueueAnswer, enqueueQueue, cellOf, peekAnswer, peekOutput, dequeueAnswer, dequeueQueue, dequeueOutput}
+use Rattle.sheet.specs.Operations.{formatAnswer, formatQueue, enqueueAnswer, enqueueQueue, cellOf, peekAnswer, peekOutput, dequeueAnswer}
+use Rattle.sheet.specs.Operations.{dequeueQueue, dequeueOutput}
 use Rattle.sheet.specs.Allowed.{EnqueueAllows, PeekAllows}
 use Rattle.queue.specs.Claims.{EnqueueRefuses, ShowRefuses, Refusals}
 
@@ -78,7 +79,8 @@ module _ {s : List ℕ} {b p : ℕ} {w : List ℕ} {n : ℕ} {s′ : List ℕ} (
         keeps = λ d. h .queue ∙ sym (kept (enqueueAnswer s b p w) _ s (λ z. d (of ∙ z)));
       }
 
-module _ (s : List ℕ) (k : ℕ) (out : List ℕ) {n : ℕ} {out′ : List ℕ} (answer : n ≡ peekAnswer s k out) (output : out′ ≡ peekOutput s k out) where
+module _ (s : List ℕ) (k : ℕ) (out : List ℕ) {n : ℕ} {out′ : List ℕ} (answer : n ≡ peekAnswer s k out)
+    (output : out′ ≡ peekOutput s k out) where
   abbrev size : Test
   size = asks (eqb (length out) cellSize) 2
 

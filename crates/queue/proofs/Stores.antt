@@ -10,12 +10,12 @@ use lib.ListN.{length, getD, take, drop, set, take-append-drop}
 use lib.Seq.{length-take-le}
 use borrow.Rule.Slice.PartMut.{putMid}
 use Rattle.sheet.specs.Lists.{zeros, count}
-use Rattle.sheet.specs.Layout.{cellSize, bodySize, paddedSize, capacity, next, firstFree, body, setNext, setFirstFree, setBody}
+use Rattle.sheet.specs.Layout.{cellSize, bodySize, paddedSize, capacity, nextCell, firstFree, cellBody, setNext, setFirstFree, setBody}
 use Rattle.sheet.specs.Chains.{used, lastUsed}
 use Rattle.sheet.specs.Sound.{recordOf, Queue}
 use Rattle.sheet.specs.Operations.{cellOf}
 use Rattle.sheet.proofs.Counts.{in-here, in-later}
-use Rattle.sheet.proofs.Writes.{length-body, body-set-next, body-set-free}
+use Rattle.sheet.proofs.Writes.{length-cell-body, body-set-next, body-set-free}
 use Rattle.sheet.proofs.Meaning.{zeros-are}
 use Rattle.sheet.proofs.Lists.{Lists, lists-of, used-in, free-in}
 use Rattle.sheet.proofs.Answers.{Entering}
@@ -58,7 +58,7 @@ module _ (s w : List ℕ) (i b p : ℕ) where
   abbrev put : ℕ → ℕ → ℕ → ℕ → List ℕ → List ℕ
   put j k m n l = putMid m n (set (set l j b) k p) w
 
-  cut : body s i ≡ zeros bodySize → s ≡ front ++ (zeros bodySize ++ back)
+  cut : cellBody s i ≡ zeros bodySize → s ≡ front ++ (zeros bodySize ++ back)
   unfolding front back
   cut free =
       let rest = drop (i * cellSize + 1) s in
@@ -71,7 +71,7 @@ module _ (s w : List ℕ) (i b p : ℕ) where
   long fits = length-take-le (i * cellSize + 1) s (omega arith)
 
   -- a record written into a free cell
-  pub store-put : (i + 1) * cellSize ≤ length s → body s i ≡ zeros bodySize → length w ≤ paddedSize
+  pub store-put : (i + 1) * cellSize ≤ length s → cellBody s i ≡ zeros bodySize → length w ≤ paddedSize
       → putFields s i b p (length w) w ≡ setBody s i (recordOf b p w)
   unfolding front back
   store-put fits free short =
@@ -106,21 +106,21 @@ module _ (s : List ℕ) (b p : ℕ) (w : List ℕ) (e : Entering s b p w) where
       )
 
   -- the cell is zero, also after the links have been written
-  pub cell-zero : (x l y : ℕ) → body (setNext (setNext (setFirstFree s x) (firstFree s) 0) l y) (firstFree s) ≡ zeros bodySize
+  pub cell-zero : (x l y : ℕ) → cellBody (setNext (setNext (setFirstFree s x) (firstFree s) 0) l y) (firstFree s) ≡ zeros bodySize
   cell-zero x l y =
       let c = firstFree s in
-      let z = zeros-are (body s c) (ls .free-cells c (in-here c (parts s b p w e .0)) .good) in
+      let z = zeros-are (cellBody s c) (ls .free-cells c (in-here c (parts s b p w e .0)) .good) in
       body-set-next (setNext (setFirstFree s x) c 0) l y c
       ∙ body-set-next (setFirstFree s x) c 0 c
       ∙ body-set-free s x c (e .room)
       ∙ z
-      ∙ ap zeros (length-body s c cell-fits)
+      ∙ ap zeros (length-cell-body s c cell-fits)
 
 -- Where a dequeue writes.
-pub first-fits : (s : List ℕ) (q : Queue s) → next s 0 ≢ 0 → (next s 0 + 1) * cellSize ≤ length s
+pub first-fits : (s : List ℕ) (q : Queue s) → nextCell s 0 ≢ 0 → (nextCell s 0 + 1) * cellSize ≤ length s
 first-fits s q d =
     let ls = lists-first s q d in
-    omega (arith, used-in ls (next s 0) (in-here (next s 0) (first-parts s q d .0)) .1, ls .size .long)
+    omega (arith, used-in ls (nextCell s 0) (in-here (nextCell s 0) (first-parts s q d .0)) .1, ls .size .long)
 
 -- Where a peek reads.
 getD-in : (l : List ℕ) (k : ℕ) → getD l k 0 ≢ 0 → 1 ≤ count (getD l k 0) l

@@ -10,7 +10,7 @@ use lib.ListN.{length}
 use Rattle.code.specs.Parameters.{codewordLength}
 use Rattle.code.specs.Component.{isReceived}
 use Rattle.code.specs.Profiles.{isProfile, profile}
-use Rattle.sheet.specs.Layout.{isQueueLength, capacity, firstFree}
+use Rattle.sheet.specs.Layout.{cellSize, isQueueLength, capacity, firstFree}
 use Rattle.sheet.specs.Chains.{records}
 use Rattle.sheet.specs.Sound.{isBox, sound, Queue}
 use Rattle.sheet.specs.Operations.{cellOf}
@@ -62,8 +62,8 @@ pub record EnqueueRefuses (s : List ℕ) (b p : ℕ) (w : List ℕ) (n : ℕ) (s
 pub record ShowRefuses (s : List ℕ) (k : ℕ) (out : List ℕ) (n : ℕ) (out′ : List ℕ) : Type 0 where
   pub by-5 : isQueueLength (length s) ≡ false → n ≡ 5
   pub by-6 : T (isQueueLength (length s)) → sound s ≡ false → n ≡ 6
-  pub by-2 : Queue s → eqb (length out) 104 ≡ false → n ≡ 2
-  pub by-10 : Queue s → length out ≡ 104 → cellOf s k ≡ 0 → n ≡ 10
+  pub by-2 : Queue s → eqb (length out) cellSize ≡ false → n ≡ 2
+  pub by-10 : Queue s → length out ≡ cellSize → cellOf s k ≡ 0 → n ≡ 10
   pub keeps : n ≢ 0 → out′ ≡ out
 
 -- of format, of enter, of look, and of take off, which leaves the queue's bytes too

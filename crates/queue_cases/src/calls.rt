@@ -2,13 +2,13 @@
 use crate::text::after;
 use crate::text::digest;
 use crate::text::fill;
-use crate::text::number;
+use crate::text::parse_number;
 use crate::text::print;
 use crate::text::unhex;
 ghost use Prim.Native.Nat.{_≤_};
 
-// The lesser of two.
-fn least(a: usize, b: usize) -> usize
+// The smaller of two.
+fn smaller(a: usize, b: usize) -> usize
     ensures { λ r. ⌜ (r ≤ a) × (r ≤ b) ⌝ }
 {
     if a < b { a } else { b }
@@ -16,7 +16,7 @@ fn least(a: usize, b: usize) -> usize
 
 // A new buffer: answers its size.
 fn renew(line: &[u8], space: &mut [u8]) -> usize {
-    let size = least(number(line, 2).value, space.len());
+    let size = smaller(parse_number(line, 2).value, space.len());
     blank(&mut space[0..size]);
     size
 }
@@ -33,11 +33,11 @@ fn format(queue: &mut [u8]) {
 
 fn enqueue(line: &[u8], queue: &mut [u8]) {
     let mut word = [0u8; 128];
-    let b = number(line, 2);
+    let b = parse_number(line, 2);
     let boxno = b.value;
-    let p = number(line, after(b));
+    let p = parse_number(line, after(b));
     let profile = p.value;
-    let n = least(unhex(line, after(p), &mut word), 128);
+    let n = smaller(unhex(line, after(p), &mut word), 128);
     let a = queue::enqueue(queue, boxno, profile, &word[0..n]);
     print(queue::number(a), digest(queue), 1);
 }
@@ -56,15 +56,15 @@ fn dequeue(queue: &mut [u8], out: &mut [u8]) {
 
 fn peek_line(line: &[u8], queue: &[u8]) {
     let mut space = [0u8; 208];
-    let k = number(line, 2);
+    let k = parse_number(line, 2);
     let record = k.value;
-    let n = least(number(line, after(k)).value, 208);
+    let n = smaller(parse_number(line, after(k)).value, 208);
     peek(queue, record, &mut space[0..n]);
 }
 
 fn dequeue_line(line: &[u8], queue: &mut [u8]) {
     let mut space = [0u8; 208];
-    let n = least(number(line, 2).value, 208);
+    let n = smaller(parse_number(line, 2).value, 208);
     dequeue(queue, &mut space[0..n]);
 }
 
@@ -76,9 +76,9 @@ fn write(queue: &mut [u8], at: usize, value: u8) {
 }
 
 fn poke(line: &[u8], queue: &mut [u8]) {
-    let i = number(line, 2);
+    let i = parse_number(line, 2);
     let at = i.value;
-    let value = number(line, after(i)).value;
+    let value = parse_number(line, after(i)).value;
     write(queue, at, (value % 256) as u8);
     print(0, digest(queue), 1);
 }
@@ -113,7 +113,7 @@ pub(crate) fn run(line: &[u8], space: &mut [u8], size: usize) -> usize {
     if kind == b'N' {
         return renew(line, space);
     }
-    let used = least(size, space.len());
+    let used = smaller(size, space.len());
     call(line, kind, &mut space[0..used]);
     used
 }

@@ -4,26 +4,26 @@ mod calls;
 mod text;
 
 // Where the run stands: the bytes of the line so far, the size of the queue, and whether there may be more input.
-struct State {
+struct Session {
     held: usize,
     size: usize,
     more: bool,
 }
 
 // Takes one byte of input: a line's end runs its call, and any other byte is added to the line, if there is room.
-fn take(byte: u8, line: &mut [u8], queue: &mut [u8], state: State) -> State {
-    let held = state.held;
-    let size = state.size;
+fn take(byte: u8, line: &mut [u8], queue: &mut [u8], session: Session) -> Session {
+    let held = session.held;
+    let size = session.size;
     if byte == 10 {
         if held <= line.len() {
             let next = calls::run(&line[0..held], queue, size);
-            return State {
+            return Session {
                 held: 0,
                 size: next,
                 more: true,
             };
         }
-        return State {
+        return Session {
             held: 0,
             size,
             more: true,
@@ -31,13 +31,13 @@ fn take(byte: u8, line: &mut [u8], queue: &mut [u8], state: State) -> State {
     }
     if held < line.len() {
         line[held] = byte;
-        return State {
+        return Session {
             held: held + 1,
             size,
             more: true,
         };
     }
-    State {
+    Session {
         held,
         size,
         more: true,
@@ -45,8 +45,8 @@ fn take(byte: u8, line: &mut [u8], queue: &mut [u8], state: State) -> State {
 }
 
 // Takes some bytes of input.
-fn feed(bytes: &[u8], line: &mut [u8], queue: &mut [u8], state: State) -> State {
-    let mut now = state;
+fn feed(bytes: &[u8], line: &mut [u8], queue: &mut [u8], session: Session) -> Session {
+    let mut now = session;
     let mut i = 0;
     while i < bytes.len() {
         now = take(bytes[i], line, queue, now);
@@ -56,31 +56,31 @@ fn feed(bytes: &[u8], line: &mut [u8], queue: &mut [u8], state: State) -> State 
 }
 
 // Reads once, and takes what came.
-fn step(line: &mut [u8], queue: &mut [u8], state: State) -> State {
+fn step(line: &mut [u8], queue: &mut [u8], session: Session) -> Session {
     let mut space = io::large_buffer();
     let got = libc::read(0, &mut space);
     let n = io::count(got, &space);
     if n == 0 {
-        return State {
-            held: state.held,
-            size: state.size,
+        return Session {
+            held: session.held,
+            size: session.size,
             more: false,
         };
     }
-    feed(&space[0..n], line, queue, state)
+    feed(&space[0..n], line, queue, session)
 }
 
 // A proved loop has to end, so it counts its turns down, from a number that no run uses up.
 fn run(line: &mut [u8], queue: &mut [u8]) {
-    let mut state = State {
+    let mut session = Session {
         held: 0,
         size: 0,
         more: true,
     };
     let mut turns = u64::MAX;
     while turns > 0 {
-        state = step(line, queue, state);
-        let more = state.more;
+        session = step(line, queue, session);
+        let more = session.more;
         if !more {
             return;
         }

@@ -21,7 +21,7 @@ fn wide64(x: u8) -> u64
 }
 
 // The decimal number from an index on.
-pub(crate) fn number(line: &[u8], at: usize) -> Field {
+pub(crate) fn parse_number(line: &[u8], at: usize) -> Field {
     let mut i = at;
     let mut value: usize = 0;
     while i < line.len() {
@@ -45,7 +45,7 @@ pub(crate) fn after(field: Field) -> usize {
 }
 
 // The value of a hexadecimal digit; 0 for any other byte.
-fn digit(b: u8) -> u8
+fn hex_value(b: u8) -> u8
     ensures { λ r. ⌜ r < 16 ⌝ }
 {
     if b < 48 {
@@ -74,7 +74,7 @@ pub(crate) fn unhex(line: &[u8], at: usize, word: &mut [u8]) -> usize {
         if i > line.len() - 2 {
             return n;
         }
-        word[n] = digit(line[i]) * 16 + digit(line[i + 1]);
+        word[n] = hex_value(line[i]) * 16 + hex_value(line[i + 1]);
         i += 2;
         n += 1;
     }

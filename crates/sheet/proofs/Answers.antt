@@ -43,20 +43,20 @@ pub on-sound : (s : List ℕ) (own : List Test) → Queue s → firstRefusal (so
 on-sound s own q = past (soundTests s) own (q .size, (q .is-sound, tt))
 
 -- what enqueue has tested of a record before it looks for room
-pub record Admitted (b p : ℕ) (w : List ℕ) : Type 0 where
+pub record AdmittedRecord (b p : ℕ) (w : List ℕ) : Type 0 where
   pub box : T (isBox b)
   pub profiled : T (isProfile p)
   pub long : length w ≡ codewordLength (profile p)
   pub symbols : T (isReceived (profile p) w)
 
-admitted : (b p : ℕ) (w : List ℕ) → AllPass (recordTests b p w) → Admitted b p w
+admitted : (b p : ℕ) (w : List ℕ) → AllPass (recordTests b p w) → AdmittedRecord b p w
 admitted b p w (box, (profiled, (long, (symbols, none)))) =
     record { box = box; profiled = profiled; long = eqb→eq (length w) (codewordLength (profile p)) long; symbols = symbols }
 
 -- enqueue succeeds
 pub record Entering (s : List ℕ) (b p : ℕ) (w : List ℕ) : Type 0 where
   pub queue : Queue s
-  pub admits : Admitted b p w
+  pub admits : AdmittedRecord b p w
   pub room : firstFree s ≢ 0
 
 pub entering : (s : List ℕ) (b p : ℕ) (w : List ℕ) → enqueueAnswer s b p w ≡ 0 → Entering s b p w

@@ -10,11 +10,12 @@ use lib.Dec.{T, eqb}
 use lib.ListN.{length, length-set, length-replicate}
 use Rattle.code.proofs.Distance.{equal-or-not}
 use Rattle.sheet.specs.Lists.{allZero, zeros, bit, count}
-use Rattle.sheet.specs.Layout.{cellSize, bodySize, next, firstFree, body, header, setNext, setFirstFree, setBody}
+use Rattle.sheet.specs.Layout.{cellSize, bodySize, nextCell, firstFree, cellBody, header, setNext, setFirstFree, setBody}
 use Rattle.sheet.specs.Chains.{From}
 use Rattle.sheet.specs.Sound.{isBody, isHeader}
 use Rattle.sheet.proofs.Counts.{bit-same, bit-other, count-append}
-use Rattle.sheet.proofs.Writes.{next-set, next-set-other, body-set-next, firstFree-set, next-set-free, body-set-free, header-same, header-set-free, length-set-body, body-set, body-set-other, next-set-body, firstFree-set-body}
+use Rattle.sheet.proofs.Writes.{next-set, next-set-other, body-set-next, firstFree-set, next-set-free, body-set-free, header-same}
+use Rattle.sheet.proofs.Writes.{header-set-free, length-set-body, body-set, body-set-other, next-set-body, firstFree-set-body}
 use Rattle.sheet.proofs.Follow.{from-same, from-nonzero}
 use Rattle.sheet.proofs.Record.{zeros-zero}
 use Rattle.sheet.proofs.Lists.{Cell, Lists, used-in, free-in, at-most-once}
@@ -22,7 +23,7 @@ use Rattle.sheet.proofs.Lists.{Cell, Lists, used-in, free-in, at-most-o
 -- c is the first used cell
 module _ (s : List ℕ) (R c : ℕ) (u f : List ℕ) (ls : Lists s R (c ∷ u) f) where
   abbrev s₁ : List ℕ
-  s₁ = setNext s 0 (next s c)
+  s₁ = setNext s 0 (nextCell s c)
 
   abbrev s₂ : List ℕ
   s₂ = setNext s₁ c (firstFree s)
@@ -59,7 +60,7 @@ module _ (s : List ℕ) (R c : ℕ) (u f : List ℕ) (ls : Lists s R (c ∷ u) f
   long = length-replicate {A = ℕ} bodySize 0
 
   pub length-s₃ : length s₃ ≡ length s
-  length-s₃ = length-set s₂ 1 c ∙ length-set s₁ (c * cellSize) (firstFree s) ∙ length-set s 0 (next s c)
+  length-s₃ = length-set s₂ 1 c ∙ length-set s₁ (c * cellSize) (firstFree s) ∙ length-set s 0 (nextCell s c)
 
   pub fits : (c + 1) * cellSize ≤ length s₃
   fits = omega (arith, cell-in .1, length-s₃, ls .size .long)
@@ -67,23 +68,23 @@ module _ (s : List ℕ) (R c : ℕ) (u f : List ℕ) (ls : Lists s R (c ∷ u) f
   pub length-after : length s′ ≡ length s
   length-after = length-set-body s₃ c (zeros bodySize) fits long ∙ length-s₃
 
-  pub next-other : (x : ℕ) → x ≢ 0 → x ≢ c → next s′ x ≡ next s x
+  pub next-other : (x : ℕ) → x ≢ 0 → x ≢ c → nextCell s′ x ≡ nextCell s x
   next-other x z h =
       next-set-body s₃ c (zeros bodySize) fits long x
       ∙ next-set-free s₂ c x
       ∙ next-set-other s₁ c (firstFree s) x h
-      ∙ next-set-other s 0 (next s c) x z
+      ∙ next-set-other s 0 (nextCell s c) x z
 
-  next-zero : next s′ 0 ≡ next s c
+  next-zero : nextCell s′ 0 ≡ nextCell s c
   next-zero =
       next-set-body s₃ c (zeros bodySize) fits long 0
       ∙ next-set-free s₂ c 0
       ∙ next-set-other s₁ c (firstFree s) 0 (λ e. cell-nonzero (sym e))
-      ∙ next-set s 0 (next s c) (omega (arith, ls .size .long))
+      ∙ next-set s 0 (nextCell s c) (omega (arith, ls .size .long))
 
-  next-cell : next s′ c ≡ firstFree s
+  next-cell : nextCell s′ c ≡ firstFree s
   next-cell =
-      let h : c * cellSize < length s₁ = omega (arith, cell-in .1, length-set s 0 (next s c), ls .size .long) in
+      let h : c * cellSize < length s₁ = omega (arith, cell-in .1, length-set s 0 (nextCell s c), ls .size .long) in
       next-set-body s₃ c (zeros bodySize) fits long c ∙ next-set-free s₂ c c ∙ next-set s₁ c (firstFree s) h
 
   pub free-first : firstFree s′ ≡ c
@@ -91,16 +92,16 @@ module _ (s : List ℕ) (R c : ℕ) (u f : List ℕ) (ls : Lists s R (c ∷ u) f
       firstFree-set-body s₃ c (zeros bodySize) fits long cell-nonzero
       ∙ firstFree-set s₂ c (omega (arith, length-s₃, length-set s₂ 1 c, ls .size .long, ls .size .some))
 
-  pub body-cell : body s′ c ≡ zeros bodySize
+  pub body-cell : cellBody s′ c ≡ zeros bodySize
   body-cell = body-set s₃ c (zeros bodySize) fits long
 
-  to-cell : (j : ℕ) → j ≤ R → j ≢ c → body s′ j ≡ body s₃ j
+  to-cell : (j : ℕ) → j ≤ R → j ≢ c → cellBody s′ j ≡ cellBody s₃ j
   to-cell j h d = body-set-other s₃ c (zeros bodySize) fits long j (omega (arith, length-s₃, ls .size .long)) d
 
-  from-start : (j : ℕ) → body s₂ j ≡ body s j
-  from-start j = body-set-next s₁ c (firstFree s) j ∙ body-set-next s 0 (next s c) j
+  from-start : (j : ℕ) → cellBody s₂ j ≡ cellBody s j
+  from-start j = body-set-next s₁ c (firstFree s) j ∙ body-set-next s 0 (nextCell s c) j
 
-  pub body-other : (j : ℕ) → j ≤ R → j ≢ 0 → j ≢ c → body s′ j ≡ body s j
+  pub body-other : (j : ℕ) → j ≤ R → j ≢ 0 → j ≢ c → cellBody s′ j ≡ cellBody s j
   body-other j h z d = to-cell j h d ∙ body-set-free s₂ c j z ∙ from-start j
 
   header-after : header s′ ≡ header s
@@ -114,11 +115,11 @@ module _ (s : List ℕ) (R c : ℕ) (u f : List ℕ) (ls : Lists s R (c ∷ u) f
         good = subst (λ (b : List ℕ). T (isBody kind b)) (sym (body-other x (k .below) (omega arith) d)) (k .good);
       }
 
-  used-rest : From s′ (next s′ 0) u
+  used-rest : From s′ (nextCell s′ 0) u
   used-rest =
       let from = ls .used-from .2 in
       subst (λ (i : ℕ). From s′ i u) (sym next-zero)
-      (from-same s s′ (next s c) u (λ x h. next-other x (from-nonzero s (next s c) u from x h) (used-other x h)) from)
+      (from-same s s′ (nextCell s c) u (λ x h. next-other x (from-nonzero s (nextCell s c) u from x h) (used-other x h)) from)
 
   free-after : From s′ (firstFree s′) (c ∷ f)
   free-after =

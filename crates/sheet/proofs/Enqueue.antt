@@ -11,11 +11,13 @@ use lib.ListN.{length, length-set}
 use Rattle.modular.proofs.Search.{le-or-lt}
 use Rattle.code.proofs.Distance.{equal-or-not}
 use Rattle.sheet.specs.Lists.{bit, count, lastOf}
-use Rattle.sheet.specs.Layout.{cellSize, bodySize, next, firstFree, body, header, setNext, setFirstFree, setBody}
+use Rattle.sheet.specs.Layout.{cellSize, bodySize, nextCell, firstFree, cellBody, header, setNext, setFirstFree, setBody}
 use Rattle.sheet.specs.Chains.{From}
 use Rattle.sheet.specs.Sound.{isRecord, isBody, isHeader}
 use Rattle.sheet.proofs.Counts.{bit-same, bit-other, count-append, in-last}
-use Rattle.sheet.proofs.Writes.{next-set, next-set-other, firstFree-set-next, body-set-next, firstFree-set, next-set-free, body-set-free, header-same, header-set-free, length-set-body, body-set, body-set-other, next-set-body, firstFree-set-body}
+use Rattle.sheet.proofs.Writes.{next-set, next-set-other, firstFree-set-next, body-set-next, firstFree-set, next-set-free}
+use Rattle.sheet.proofs.Writes.{body-set-free, header-same, header-set-free, length-set-body, body-set, body-set-other}
+use Rattle.sheet.proofs.Writes.{next-set-body, firstFree-set-body}
 use Rattle.sheet.proofs.Follow.{from-same, from-append, from-nonzero}
 use Rattle.sheet.proofs.Lists.{Cell, Lists, used-in, free-in, at-most-once}
 
@@ -25,7 +27,7 @@ module _ (s : List ℕ) (R c : ℕ) (u f : List ℕ) (r : List ℕ) (ls : Lists 
   l = lastOf 0 u
 
   abbrev s₁ : List ℕ
-  s₁ = setFirstFree s (next s c)
+  s₁ = setFirstFree s (nextCell s c)
 
   abbrev s₂ : List ℕ
   s₂ = setNext s₁ c 0
@@ -71,7 +73,7 @@ module _ (s : List ℕ) (R c : ℕ) (u f : List ℕ) (r : List ℕ) (ls : Lists 
   last-not-free x h e = ⊎-elim zero-case used-case last-in
     where
       zero-case : l ≡ 0 → ⊥
-      zero-case z = from-nonzero s (next s c) f (ls .free-from .2) x h (e ∙ z)
+      zero-case z = from-nonzero s (nextCell s c) f (ls .free-from .2) x h (e ∙ z)
 
       used-case : 1 ≤ count l u → ⊥
       used-case k =
@@ -79,7 +81,7 @@ module _ (s : List ℕ) (R c : ℕ) (u f : List ℕ) (r : List ℕ) (ls : Lists 
           omega (arith, at-most-once ls x)
 
   pub length-s₃ : length s₃ ≡ length s
-  length-s₃ = length-set s₂ (l * cellSize) c ∙ length-set s₁ (c * cellSize) 0 ∙ length-set s 1 (next s c)
+  length-s₃ = length-set s₂ (l * cellSize) c ∙ length-set s₁ (c * cellSize) 0 ∙ length-set s 1 (nextCell s c)
 
   pub fits : (c + 1) * cellSize ≤ length s₃
   fits = omega (arith, cell-in .1, length-s₃, ls .size .long)
@@ -87,40 +89,40 @@ module _ (s : List ℕ) (R c : ℕ) (u f : List ℕ) (r : List ℕ) (ls : Lists 
   pub length-after : length s′ ≡ length s
   length-after = length-set-body s₃ c r fits long ∙ length-s₃
 
-  pub next-other : (x : ℕ) → x ≢ c → x ≢ l → next s′ x ≡ next s x
+  pub next-other : (x : ℕ) → x ≢ c → x ≢ l → nextCell s′ x ≡ nextCell s x
   next-other x h k =
-      next-set-body s₃ c r fits long x ∙ next-set-other s₂ l c x k ∙ next-set-other s₁ c 0 x h ∙ next-set-free s (next s c) x
+      next-set-body s₃ c r fits long x ∙ next-set-other s₂ l c x k ∙ next-set-other s₁ c 0 x h ∙ next-set-free s (nextCell s c) x
 
-  next-last : next s′ l ≡ c
+  next-last : nextCell s′ l ≡ c
   next-last =
-      let same : length s₂ ≡ length s = length-set s₁ (c * cellSize) 0 ∙ length-set s 1 (next s c) in
+      let same : length s₂ ≡ length s = length-set s₁ (c * cellSize) 0 ∙ length-set s 1 (nextCell s c) in
       let h : l * cellSize < length s₂ = omega (arith, last-below, ls .size .long) in
       next-set-body s₃ c r fits long l ∙ next-set s₂ l c h
 
-  next-cell : next s′ c ≡ 0
+  next-cell : nextCell s′ c ≡ 0
   next-cell =
-      let h : c * cellSize < length s₁ = omega (arith, cell-in .1, length-set s 1 (next s c), ls .size .long) in
+      let h : c * cellSize < length s₁ = omega (arith, cell-in .1, length-set s 1 (nextCell s c), ls .size .long) in
       next-set-body s₃ c r fits long c ∙ next-set-other s₂ l c c (λ e. last-other (sym e)) ∙ next-set s₁ c 0 h
 
-  pub free-after : firstFree s′ ≡ next s c
+  pub free-after : firstFree s′ ≡ nextCell s c
   free-after =
       firstFree-set-body s₃ c r fits long cell-nonzero
       ∙ firstFree-set-next s₂ l c
       ∙ firstFree-set-next s₁ c 0
-      ∙ firstFree-set s (next s c) (omega (arith, ls .size .long, ls .size .some))
+      ∙ firstFree-set s (nextCell s c) (omega (arith, ls .size .long, ls .size .some))
 
-  pub body-cell : body s′ c ≡ r
+  pub body-cell : cellBody s′ c ≡ r
   body-cell = body-set s₃ c r fits long
 
-  to-cell : (j : ℕ) → j ≤ R → j ≢ c → body s′ j ≡ body s₁ j
+  to-cell : (j : ℕ) → j ≤ R → j ≢ c → cellBody s′ j ≡ cellBody s₁ j
   to-cell j h d =
       body-set-other s₃ c r fits long j (omega (arith, length-s₃, ls .size .long)) d ∙ body-set-next s₂ l c j ∙ body-set-next s₁ c 0 j
 
-  pub body-other : (j : ℕ) → j ≤ R → j ≢ 0 → j ≢ c → body s′ j ≡ body s j
-  body-other j h z d = to-cell j h d ∙ body-set-free s (next s c) j z
+  pub body-other : (j : ℕ) → j ≤ R → j ≢ 0 → j ≢ c → cellBody s′ j ≡ cellBody s j
+  body-other j h z d = to-cell j h d ∙ body-set-free s (nextCell s c) j z
 
   header-after : header s′ ≡ header s
-  header-after = header-same s₁ s′ (to-cell 0 (omega arith) (λ e. cell-nonzero (sym e))) ∙ header-set-free s (next s c)
+  header-after = header-same s₁ s′ (to-cell 0 (omega arith) (λ e. cell-nonzero (sym e))) ∙ header-set-free s (nextCell s c)
 
   still : (kind : Bool) (x : ℕ) → 1 ≤ x → x ≢ c → Cell s R kind x → Cell s′ R kind x
   still kind x h d k =
@@ -136,14 +138,14 @@ module _ (s : List ℕ) (R c : ℕ) (u f : List ℕ) (r : List ℕ) (ls : Lists 
       zero-case : x ≡ 0 → count x (0 ∷ u) ≤ 1
       zero-case e =
           ⊎-elim
-          (λ (h : 1 ≤ count x u). absurd (from-nonzero s (next s 0) u (ls .used-from) x h e))
+          (λ (h : 1 ≤ count x u). absurd (from-nonzero s (nextCell s 0) u (ls .used-from) x h e))
           (λ (k : count x u < 1). omega (arith, bit-same e))
           (le-or-lt 1 (count x u))
 
       other-case : x ≢ 0 → count x (0 ∷ u) ≤ 1
       other-case d = omega (arith, bit-other d, at-most-once ls x)
 
-  used-after : From s′ (next s′ 0) (u ++ (c ∷ []))
+  used-after : From s′ (nextCell s′ 0) (u ++ (c ∷ []))
   used-after =
       from-append s s′ c cell-nonzero next-cell 0 u
       (λ x h d. next-other x (away x h) d)
@@ -157,7 +159,7 @@ module _ (s : List ℕ) (R c : ℕ) (u f : List ℕ) (r : List ℕ) (ls : Lists 
   free-rest : From s′ (firstFree s′) f
   free-rest =
       subst (λ (i : ℕ). From s′ i f) (sym free-after)
-      (from-same s s′ (next s c) f (λ x h. next-other x (not-cell f not-free x h) (last-not-free x h)) (ls .free-from .2))
+      (from-same s s′ (nextCell s c) f (λ x h. next-other x (not-cell f not-free x h) (last-not-free x h)) (ls .free-from .2))
 
   used-good : T (isRecord r) → (x : ℕ) → 1 ≤ count x (u ++ (c ∷ [])) → Cell s′ R true x
   used-good g x h = ⊎-elim new-case old-case (equal-or-not x c)

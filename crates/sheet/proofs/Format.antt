@@ -12,13 +12,15 @@ use lib.ListN.{length, getD, take, drop, length-set, length-replicate}
 use Rattle.modular.proofs.Search.{and-left, and-right, and-intro}
 use Rattle.code.proofs.Distance.{equal-or-not}
 use Rattle.sheet.specs.Lists.{all, allZero, zeros, count, upFrom}
-use Rattle.sheet.specs.Layout.{Size, cellSize, bodySize, headerSize, capacity, next, firstFree, body, header, setNext, setFirstFree}
+use Rattle.sheet.specs.Layout.{Size, cellSize, bodySize, headerSize, capacity, nextCell, firstFree, cellBody, header, setNext}
+use Rattle.sheet.specs.Layout.{setFirstFree}
 use Rattle.sheet.specs.Chains.{From, records}
 use Rattle.sheet.specs.Sound.{isHeader}
 use Rattle.sheet.specs.Operations.{linked, formatted}
 use Rattle.sheet.specs.Claims.{FormatLaw}
 use Rattle.sheet.proofs.Counts.{bit-same, bit-other}
-use Rattle.sheet.proofs.Writes.{next-set, next-set-other, body-set-next, firstFree-set, next-set-free, body-set-free, header-same, header-set-free}
+use Rattle.sheet.proofs.Writes.{next-set, next-set-other, body-set-next, firstFree-set, next-set-free, body-set-free, header-same}
+use Rattle.sheet.proofs.Writes.{header-set-free}
 use Rattle.sheet.proofs.Record.{zeros-zero}
 use Rattle.sheet.proofs.Lists.{size-of, Cell, Lists, used-is, free-is, queue-is}
 
@@ -43,36 +45,36 @@ pub length-linked : (s : List ℕ) (i n : ℕ) → length (linked s i n) ≡ len
 length-linked s i zero = refl
 length-linked s i (suc n) = length-linked (setNext s i (suc i)) (suc i) n ∙ length-set s (i * cellSize) (suc i)
 
-body-linked : (s : List ℕ) (i n j : ℕ) → body (linked s i n) j ≡ body s j
+body-linked : (s : List ℕ) (i n j : ℕ) → cellBody (linked s i n) j ≡ cellBody s j
 body-linked s i zero j = refl
 body-linked s i (suc n) j = body-linked (setNext s i (suc i)) (suc i) n j ∙ body-set-next s i (suc i) j
 
-next-linked-out : (s : List ℕ) (i n j : ℕ) → (j < i) ⊎ (i + n ≤ j) → next (linked s i n) j ≡ next s j
+next-linked-out : (s : List ℕ) (i n j : ℕ) → (j < i) ⊎ (i + n ≤ j) → nextCell (linked s i n) j ≡ nextCell s j
 next-linked-out s i zero j h = refl
 next-linked-out s i (suc n) j h =
     next-linked-out (setNext s i (suc i)) (suc i) n j
     (⊎-elim (λ (k : j < i). inl (omega arith)) (λ (k : i + suc n ≤ j). inr (omega arith)) h)
     ∙ next-set-other s i (suc i) j (⊎-elim (λ (k : j < i). omega arith) (λ (k : i + suc n ≤ j). omega arith) h)
 
-next-linked-in : (s : List ℕ) (i n j : ℕ) → (i + n) * cellSize ≤ length s → i ≤ j → j < i + n → next (linked s i n) j ≡ suc j
+next-linked-in : (s : List ℕ) (i n j : ℕ) → (i + n) * cellSize ≤ length s → i ≤ j → j < i + n → nextCell (linked s i n) j ≡ suc j
 next-linked-in s i zero j f h k = let z : ⊥ = omega arith in absurd z
 next-linked-in s i (suc n) j f h k =
     ⊎-elim
     (λ (e : j ≡ i).
     next-linked-out (setNext s i (suc i)) (suc i) n j (inl (omega arith))
-    ∙ subst (λ (z : ℕ). next (setNext s i (suc i)) z ≡ suc z) (sym e) (next-set s i (suc i) (omega arith)))
+    ∙ subst (λ (z : ℕ). nextCell (setNext s i (suc i)) z ≡ suc z) (sym e) (next-set s i (suc i) (omega arith)))
     (λ (d : j ≢ i).
     next-linked-in (setNext s i (suc i)) (suc i) n j (omega (arith, length-set s (i * cellSize) (suc i))) (omega arith) (omega arith))
     (equal-or-not j i)
 
 -- The numbers from i up.
-from-up : (s : List ℕ) (n i : ℕ) → 1 ≤ i → ((j : ℕ) → i ≤ j → j < i + n → next s j ≡ suc j) → next s (i + n) ≡ 0
+from-up : (s : List ℕ) (n i : ℕ) → 1 ≤ i → ((j : ℕ) → i ≤ j → j < i + n → nextCell s j ≡ suc j) → nextCell s (i + n) ≡ 0
     → From s i (upFrom i (suc n))
-from-up s zero i h f e = (refl, omega arith, subst (λ (k : ℕ). next s k ≡ 0) (omega arith) e)
+from-up s zero i h f e = (refl, omega arith, subst (λ (k : ℕ). nextCell s k ≡ 0) (omega arith) e)
 from-up s (suc n) i h f e =
-    let link : next s i ≡ suc i = f i (omega arith) (omega arith) in
+    let link : nextCell s i ≡ suc i = f i (omega arith) (omega arith) in
     let rest : From s (suc i) (upFrom (suc i) (suc n)) =
-    from-up s n (suc i) (omega arith) (λ j k m. f j (omega arith) (omega arith)) (subst (λ (k : ℕ). next s k ≡ 0) (omega arith) e) in
+    from-up s n (suc i) (omega arith) (λ j k m. f j (omega arith) (omega arith)) (subst (λ (k : ℕ). nextCell s k ≡ 0) (omega arith) e) in
     (refl, omega arith, subst (λ (k : ℕ). From s k (upFrom (suc i) (suc n))) (sym link) rest)
 
 up-in : (n i x : ℕ) → 1 ≤ count x (upFrom i n) → (i ≤ x) × (x < i + n)
@@ -115,7 +117,7 @@ module _ (s : List ℕ) (n : ℕ) (z : Size s (suc n)) where
   zero-part : (n k : ℕ) → T (allZero (take n (drop k s₀)))
   zero-part n k = all-take (λ x. eqb x 0) n (drop k s₀) (all-drop (λ x. eqb x 0) k s₀ (zeros-zero (length s)))
 
-  zero₁ : (j : ℕ) → T (allZero (body s₁ j))
+  zero₁ : (j : ℕ) → T (allZero (cellBody s₁ j))
   zero₁ j = subst (λ (b : List ℕ). T (allZero b)) (sym (body-linked s₀ 1 n j)) (zero-part bodySize (j * cellSize + 1))
 
   header-is : header s′ ≡ header s₀
@@ -125,10 +127,10 @@ module _ (s : List ℕ) (n : ℕ) (z : Size s (suc n)) where
   unfolding isHeader
   header-good = subst (λ (h : List ℕ). T (isHeader h)) (sym header-is) (zero-part headerSize 2)
 
-  next-out : (j : ℕ) → (j < 1) ⊎ (1 + n ≤ j) → next s′ j ≡ 0
+  next-out : (j : ℕ) → (j < 1) ⊎ (1 + n ≤ j) → nextCell s′ j ≡ 0
   next-out j h = next-set-free s₁ 1 j ∙ next-linked-out s₀ 1 n j h ∙ getD-zeros (length s) (j * cellSize)
 
-  next-in : (j : ℕ) → 1 ≤ j → j < 1 + n → next s′ j ≡ suc j
+  next-in : (j : ℕ) → 1 ≤ j → j < 1 + n → nextCell s′ j ≡ suc j
   next-in j h k = next-set-free s₁ 1 j ∙ next-linked-in s₀ 1 n j (omega (arith, long₀, z .long)) h k
 
   first : firstFree s′ ≡ 1
@@ -174,5 +176,5 @@ format-law s h =
       queue = queue-is ls;
       no-used = used-is ls;
       all-free = free-is ls;
-      no-records = ap (map (body (formatted s))) (used-is ls);
+      no-records = ap (map (cellBody (formatted s))) (used-is ls);
     }

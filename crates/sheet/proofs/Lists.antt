@@ -10,7 +10,7 @@ use lib.Dec.{T, eqb, leb, eqb→eq, leb→le, le→leb}
 use lib.ListN.{length, length-append}
 use Rattle.modular.proofs.Search.{and-left, and-right, and-intro, le-or-lt, all-at, all-of}
 use Rattle.sheet.specs.Lists.{all, count}
-use Rattle.sheet.specs.Layout.{cellSize, Size, isQueueLength, capacity, next, firstFree, body, header}
+use Rattle.sheet.specs.Layout.{cellSize, Size, isQueueLength, capacity, nextCell, firstFree, cellBody, header}
 use Rattle.sheet.specs.Chains.{From, chain, ends, used, free}
 use Rattle.sheet.specs.Sound.{isBody, isCell, isHeader, isList, eachOnce, sound, Queue}
 use Rattle.sheet.proofs.Counts.{count-append, all-in, all-from, once-length}
@@ -44,12 +44,12 @@ size-good s R z =
 -- x is a cell, and its body is as the kind has it
 pub record Cell (s : List ℕ) (R : ℕ) (kind : Bool) (x : ℕ) : Type 0 where
   pub below : x ≤ R
-  pub good : T (isBody kind (body s x))
+  pub good : T (isBody kind (cellBody s x))
 
 pub record Lists (s : List ℕ) (R : ℕ) (u f : List ℕ) : Type 0 where
   pub size : Size s R
   pub in-header : T (isHeader (header s))
-  pub used-from : From s (next s 0) u
+  pub used-from : From s (nextCell s 0) u
   pub free-from : From s (firstFree s) f
   pub used-cells : (x : ℕ) → 1 ≤ count x u → Cell s R true x
   pub free-cells : (x : ℕ) → 1 ≤ count x f → Cell s R false x
@@ -58,7 +58,7 @@ pub record Lists (s : List ℕ) (R : ℕ) (u f : List ℕ) : Type 0 where
 module _ {s : List ℕ} {R : ℕ} {u f : List ℕ} (ls : Lists s R u f) where
   pub used-in : (x : ℕ) → 1 ≤ count x u → (1 ≤ x) × (x ≤ R)
   used-in x h =
-      let d : x ≢ 0 = from-nonzero s (next s 0) u (ls .used-from) x h in
+      let d : x ≢ 0 = from-nonzero s (nextCell s 0) u (ls .used-from) x h in
       (omega arith, ls .used-cells x h .below)
 
   pub free-in : (x : ℕ) → 1 ≤ count x f → (1 ≤ x) × (x ≤ R)
@@ -85,8 +85,8 @@ module _ {s : List ℕ} {R : ℕ} {u f : List ℕ} (ls : Lists s R u f) where
   pub fill : length u + length f ≡ R
   fill = omega (arith, length-append u f, once-length R (u ++ f) both-in (ls .once))
 
-  used-met : (chain s R (next s 0) ≡ u) × T (ends s R (next s 0))
-  used-met = chain-from s R (next s 0) u (ls .used-from) (omega (arith, fill))
+  used-met : (chain s R (nextCell s 0) ≡ u) × T (ends s R (nextCell s 0))
+  used-met = chain-from s R (nextCell s 0) u (ls .used-from) (omega (arith, fill))
 
   free-met : (chain s R (firstFree s) ≡ f) × T (ends s R (firstFree s))
   free-met = chain-from s R (firstFree s) f (ls .free-from) (omega (arith, fill))
@@ -96,7 +96,7 @@ module _ {s : List ℕ} {R : ℕ} {u f : List ℕ} (ls : Lists s R u f) where
 
   pub used-is : used s ≡ u
   unfolding used
-  used-is = ap (λ (n : ℕ). chain s n (next s 0)) cap ∙ used-met .0
+  used-is = ap (λ (n : ℕ). chain s n (nextCell s 0)) cap ∙ used-met .0
 
   pub free-is : free s ≡ f
   unfolding free
@@ -105,7 +105,7 @@ module _ {s : List ℕ} {R : ℕ} {u f : List ℕ} (ls : Lists s R u f) where
   cell-test : (kind : Bool) (x : ℕ) → Cell s R kind x → T (isCell s kind x)
   unfolding isCell
   cell-test kind x c =
-      and-intro (leb x (capacity s)) (isBody kind (body s x)) (le→leb x (capacity s) (omega (arith, c .below, cap))) (c .good)
+      and-intro (leb x (capacity s)) (isBody kind (cellBody s x)) (le→leb x (capacity s) (omega (arith, c .below, cap))) (c .good)
 
   list-test : (kind : Bool) (i : ℕ) (l : List ℕ) → chain s R i ≡ l → T (ends s R i) → ((x : ℕ) → 1 ≤ count x l → Cell s R kind x)
       → T (isList s kind (capacity s) i)
@@ -115,8 +115,8 @@ module _ {s : List ℕ} {R : ℕ} {u f : List ℕ} (ls : Lists s R u f) where
       (and-intro (ends s R i) (all (isCell s kind) (chain s R i)) h
       (rw e (all-from (isCell s kind) l (λ x k. cell-test kind x (f x k)))))
 
-  used-test : T (isList s true (capacity s) (next s 0))
-  used-test = list-test true (next s 0) u (used-met .0) (used-met .1) (ls .used-cells)
+  used-test : T (isList s true (capacity s) (nextCell s 0))
+  used-test = list-test true (nextCell s 0) u (used-met .0) (used-met .1) (ls .used-cells)
 
   free-test : T (isList s false (capacity s) (firstFree s))
   free-test = list-test false (firstFree s) f (free-met .0) (free-met .1) (ls .free-cells)
@@ -135,7 +135,7 @@ module _ {s : List ℕ} {R : ℕ} {u f : List ℕ} (ls : Lists s R u f) where
         size = size-good s R (ls .size);
         is-sound =
             and-intro (isHeader (header s)) _ (ls .in-header)
-            (and-intro (isList s true (capacity s) (next s 0)) _ used-test
+            (and-intro (isList s true (capacity s) (nextCell s 0)) _ used-test
             (and-intro (isList s false (capacity s) (firstFree s)) (eachOnce (capacity s) (used s ++ free s)) free-test once-test));
       }
 
@@ -145,8 +145,8 @@ module _ (s : List ℕ) where
   unfolding isCell
   cell-of kind x h =
       record {
-        below = leb→le x (capacity s) (and-left (leb x (capacity s)) (isBody kind (body s x)) h);
-        good = and-right (leb x (capacity s)) (isBody kind (body s x)) h;
+        below = leb→le x (capacity s) (and-left (leb x (capacity s)) (isBody kind (cellBody s x)) h);
+        good = and-right (leb x (capacity s)) (isBody kind (cellBody s x)) h;
       }
 
   list-ends : (kind : Bool) (i : ℕ) → T (isList s kind (capacity s) i) → T (ends s (capacity s) i)
@@ -166,9 +166,9 @@ module _ (s : List ℕ) where
       record {
         size = size-of s (q .size);
         in-header = and-left A B (q .is-sound);
-        used-from = from-chain s (capacity s) (next s 0) (list-ends true (next s 0) l1);
+        used-from = from-chain s (capacity s) (nextCell s 0) (list-ends true (nextCell s 0) l1);
         free-from = from-chain s (capacity s) (firstFree s) (list-ends false (firstFree s) l2);
-        used-cells = list-cells true (next s 0) l1;
+        used-cells = list-cells true (nextCell s 0) l1;
         free-cells = list-cells false (firstFree s) l2;
         once = each;
       }
@@ -177,7 +177,7 @@ module _ (s : List ℕ) where
       A = isHeader (header s)
 
       U : Bool
-      U = isList s true (capacity s) (next s 0)
+      U = isList s true (capacity s) (nextCell s 0)
 
       F : Bool
       F = isList s false (capacity s) (firstFree s)

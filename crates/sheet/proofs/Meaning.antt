@@ -13,13 +13,13 @@ use Rattle.code.specs.Parameters.{codewordLength}
 use Rattle.code.specs.Component.{isReceived}
 use Rattle.code.specs.Profiles.{isProfile, profile}
 use Rattle.sheet.specs.Lists.{allZero, zeros}
-use Rattle.sheet.specs.Layout.{paddedSize, Size, bodySize, headerSize, capacity, body, header}
+use Rattle.sheet.specs.Layout.{paddedSize, Size, bodySize, headerSize, capacity, cellBody, header}
 use Rattle.sheet.specs.Chains.{used, free}
 use Rattle.sheet.specs.Sound.{isBox, recordOf, isPadded, isRecord, isHeader, sound}
 use Rattle.sheet.specs.Meaning.{Record, Header, SoundQueue}
 use Rattle.sheet.specs.Claims.{RecordLaw, SoundLaw}
 use Rattle.sheet.proofs.Counts.{count-append}
-use Rattle.sheet.proofs.Writes.{length-body, length-header}
+use Rattle.sheet.proofs.Writes.{length-cell-body, length-header}
 use Rattle.sheet.proofs.Record.{word-fits, length-record, record-good, zeros-zero}
 use Rattle.sheet.proofs.Lists.{Lists, lists-of, size-of, queue-is}
 
@@ -109,8 +109,8 @@ unfolding isHeader
 from-header h w = rw (w .rest) (zeros-zero headerSize)
 
 module _ (s : List ℕ) (z : Size s (capacity s)) where
-  length-cell : (i : ℕ) → i ≤ capacity s → length (body s i) ≡ bodySize
-  length-cell i h = length-body s i (omega (arith, z .long))
+  length-of-cell : (i : ℕ) → i ≤ capacity s → length (cellBody s i) ≡ bodySize
+  length-of-cell i h = length-cell-body s i (omega (arith, z .long))
 
   to-sound : Lists s (capacity s) (used s) (free s) → SoundQueue s
   to-sound ls =
@@ -122,9 +122,9 @@ module _ (s : List ℕ) (z : Size s (capacity s)) where
         free-ends = ls .free-from;
         used-below = λ i h. ls .used-cells i h .below;
         free-below = λ i h. ls .free-cells i h .below;
-        used-records = λ i h. let c = ls .used-cells i h in to-record (body s i) (length-cell i (c .below)) (c .good);
+        used-records = λ i h. let c = ls .used-cells i h in to-record (cellBody s i) (length-of-cell i (c .below)) (c .good);
         free-zero =
-            λ i h. let c = ls .free-cells i h in zeros-are (body s i) (c .good) ∙ ap zeros (length-cell i (c .below));
+            λ i h. let c = ls .free-cells i h in zeros-are (cellBody s i) (c .good) ∙ ap zeros (length-of-cell i (c .below));
         once = λ i h k. sym (count-append i (used s) (free s)) ∙ ls .once i h k;
       }
 
@@ -135,7 +135,7 @@ module _ (s : List ℕ) (z : Size s (capacity s)) where
         in-header = from-header (header s) (q .in-header);
         used-from = q .used-ends;
         free-from = q .free-ends;
-        used-cells = λ i h. record { below = q .used-below i h; good = from-record (body s i) (q .used-records i h) .1 };
+        used-cells = λ i h. record { below = q .used-below i h; good = from-record (cellBody s i) (q .used-records i h) .1 };
         free-cells = λ i h. record { below = q .free-below i h; good = rw (q .free-zero i h) (zeros-zero bodySize) };
         once = λ i h k. count-append i (q .on-used) (q .on-free) ∙ q .once i h k;
       }

@@ -12,15 +12,18 @@ use lib.ListN.{length, getD, drop}
 use Rattle.modular.proofs.Search.{same-test, and-right, and-intro}
 use Rattle.code.specs.Refusal.{firstRefusal, onSuccess}
 use Rattle.code.proofs.Refusal.{past, wrote}
-use Rattle.sheet.specs.Layout.{isQueueLength, capacity, next, firstFree}
+use Rattle.sheet.specs.Layout.{isQueueLength, capacity, nextCell, firstFree}
 use Rattle.sheet.specs.Chains.{From, used, free, records}
 use Rattle.sheet.specs.Sound.{recordOf, Queue}
-use Rattle.sheet.specs.Operations.{lengthTests, enqueueTests, showTests, formatted, formatAnswer, formatQueue, enqueued, enqueueAnswer, enqueueQueue, cellOf, shown, peekAnswer, peekOutput, dequeued, dequeueAnswer, dequeueQueue, dequeueOutput}
-use Rattle.sheet.specs.Model.{Call, enqueue, peek, dequeue, reply, queueReply, queueAfter, shownRecord, hasRecord, showRecord, listReply, listAfter}
+use Rattle.sheet.specs.Operations.{lengthTests, enqueueTests, showTests, formatted, formatAnswer, formatQueue, enqueued}
+use Rattle.sheet.specs.Operations.{enqueueAnswer, enqueueQueue, cellOf, shownCell, peekAnswer, peekOutput, dequeued, dequeueAnswer}
+use Rattle.sheet.specs.Operations.{dequeueQueue, dequeueOutput}
+use Rattle.sheet.specs.Model.{Call, enqueue, peek, dequeue, reply, queueReply, queueAfter, shownRecord, hasRecord, showRecord}
+use Rattle.sheet.specs.Model.{listReply, listAfter}
 use Rattle.sheet.specs.Claims.{AnswersAsList, ListRule, ListRuleFrom}
 use Rattle.sheet.proofs.Lists.{Lists, lists-of, fill}
 use Rattle.sheet.proofs.Answers.{nonzero, on-sound, showing}
-use Rattle.sheet.proofs.Laws.{split, empty, length-records, getD-within, enqueue-law, shown-record, dequeue-law}
+use Rattle.sheet.proofs.Laws.{starts-at, empty, length-records, getD-within, enqueue-law, shown-record, dequeue-law}
 use Rattle.sheet.proofs.Format.{format-law}
 
 pub same-capacity : (s s′ : List ℕ) → length s′ ≡ length s → capacity s′ ≡ capacity s
@@ -28,7 +31,7 @@ unfolding capacity
 same-capacity s s′ e = rw e
 
 -- a queue, and the records and the capacity that a plain list has
-pub record Holds (R : ℕ) (s : List ℕ) (l : List (List ℕ)) : Type 0 where
+pub record StandsFor (R : ℕ) (s : List ℕ) (l : List (List ℕ)) : Type 0 where
   pub queue : Queue s
   pub same : records s ≡ l
   pub room : capacity s ≡ R
@@ -43,7 +46,7 @@ module _ (s : List ℕ) (q : Queue s) where
     where
       some : T (not (eqb (firstFree s) 0)) → T (ltb (length (records s)) (capacity s))
       some h =
-          let m = split s (firstFree s) (free s) (ls .free-from) (nonzero (firstFree s) h) in
+          let m = starts-at s (firstFree s) (free s) (ls .free-from) (nonzero (firstFree s) h) in
           lt→ltb (length (records s)) (capacity s) (omega (arith, length-records s, fill ls, ap length (m .1)))
 
       none : T (ltb (length (records s)) (capacity s)) → T (not (eqb (firstFree s) 0))
@@ -61,7 +64,7 @@ module _ (s : List ℕ) (q : Queue s) where
       ∙ ap (λ (room : Bool). firstRefusal (enqueueTests room b p w)) room-same
 
   enqueue-step : (b p : ℕ) (w : List ℕ) (n : ℕ) → enqueueAnswer s b p w ≡ n
-      → Holds (capacity s) (onSuccess n (enqueued s (recordOf b p w)) s) (onSuccess n (records s ++ (recordOf b p w ∷ [])) (records s))
+      → StandsFor (capacity s) (onSuccess n (enqueued s (recordOf b p w)) s) (onSuccess n (records s ++ (recordOf b p w ∷ [])) (records s))
   enqueue-step b p w zero h =
       let e = enqueue-law s b p w h in
       record { queue = e .queue; same = e .records-after; room = same-capacity s (enqueued s (recordOf b p w)) (e .kept-length) }
@@ -71,7 +74,7 @@ module _ (s : List ℕ) (q : Queue s) where
   cell-nonzero : (l : List ℕ) (i : ℕ) → From s i l → (k : ℕ) → k < length l → getD l k 0 ≢ 0
   cell-nonzero [] i f k h = let z : ⊥ = omega arith in absurd z
   cell-nonzero (b ∷ l) i f zero h = f .1
-  cell-nonzero (b ∷ l) i f (suc k) h = cell-nonzero l (next s b) (f .2) k (le-of-suc-le-suc h)
+  cell-nonzero (b ∷ l) i f (suc k) h = cell-nonzero l (nextCell s b) (f .2) k (le-of-suc-le-suc h)
 
   pub found-same : (k : ℕ) → not (eqb (cellOf s k) 0) ≡ hasRecord (records s) k
   unfolding cellOf
@@ -88,7 +91,7 @@ module _ (s : List ℕ) (q : Queue s) where
       none h =
           let n = length (records s) in
           let d : suc k ≤ n = leb→le (suc k) n (and-right (leb 1 (suc k)) (leb (suc k) n) h) in
-          let z : getD (used s) k 0 ≢ 0 = cell-nonzero (used s) (next s 0) (ls .used-from) k (omega (arith, length-records s)) in
+          let z : getD (used s) k 0 ≢ 0 = cell-nonzero (used s) (nextCell s 0) (ls .used-from) k (omega (arith, length-records s)) in
           not-T (eqb (getD (used s) k 0) 0) (λ t. z (eqb→eq (getD (used s) k 0) 0 t))
 
   peek-answer : (k : ℕ) (out : List ℕ) → peekAnswer s k out ≡ firstRefusal (showTests (hasRecord (records s) k) out)
@@ -98,7 +101,7 @@ module _ (s : List ℕ) (q : Queue s) where
       ∙ ap (λ (found : Bool). firstRefusal (showTests found out)) (found-same k)
 
   peek-output : (k : ℕ) (out : List ℕ) (n : ℕ) → peekAnswer s k out ≡ n
-      → onSuccess n (shown s (cellOf s k)) out ≡ onSuccess n (shownRecord (records s) k) out
+      → onSuccess n (shownCell s (cellOf s k)) out ≡ onSuccess n (shownRecord (records s) k) out
   peek-output zero out zero h = absurd (unfold cellOf in showing s 0 out h .found refl)
   peek-output (suc k) out zero h =
       shown-record s k (showing s (suc k) out h .found)
@@ -112,7 +115,7 @@ module _ (s : List ℕ) (q : Queue s) where
       ∙ ap (λ (n : ℕ). reply n (onSuccess n (shownRecord (records s) k) out)) (peek-answer k out)
 
   dequeue-step : (out : List ℕ) (n : ℕ) → dequeueAnswer s out ≡ n
-      → Holds (capacity s) (onSuccess n (dequeued s) s) (onSuccess n (drop 1 (records s)) (records s))
+      → StandsFor (capacity s) (onSuccess n (dequeued s) s) (onSuccess n (drop 1 (records s)) (records s))
   dequeue-step out zero h =
       let d = dequeue-law s out h in
       record {
@@ -128,24 +131,24 @@ module _ (s : List ℕ) (q : Queue s) where
   reply-same (peek k out) = peek-reply k out
   reply-same (dequeue out) = unfold dequeueAnswer dequeueOutput in peek-reply 1 out
 
-  after-same : (c : Call) → Holds (capacity s) (queueAfter s c) (listAfter (capacity s) (records s) c)
+  after-same : (c : Call) → StandsFor (capacity s) (queueAfter s c) (listAfter (capacity s) (records s) c)
   unfolding enqueueQueue dequeueQueue dequeueAnswer
   after-same (enqueue b p w) =
-      subst (λ (n : ℕ). Holds (capacity s) (enqueueQueue s b p w) (onSuccess n (records s ++ (recordOf b p w ∷ [])) (records s)))
+      subst (λ (n : ℕ). StandsFor (capacity s) (enqueueQueue s b p w) (onSuccess n (records s ++ (recordOf b p w ∷ [])) (records s)))
       (enqueue-answer b p w) (enqueue-step b p w (enqueueAnswer s b p w) refl)
   after-same (peek k out) = record { queue = q; same = refl; room = refl }
   after-same (dequeue out) =
-      subst (λ (n : ℕ). Holds (capacity s) (dequeueQueue s out) (onSuccess n (drop 1 (records s)) (records s)))
+      subst (λ (n : ℕ). StandsFor (capacity s) (dequeueQueue s out) (onSuccess n (drop 1 (records s)) (records s)))
       (peek-answer 1 out) (dequeue-step out (dequeueAnswer s out) refl)
 
-pub run-same : (R : ℕ) (s : List ℕ) (l : List (List ℕ)) → Holds R s l → (calls : List Call) → AnswersAsList R s l calls
+pub run-same : (R : ℕ) (s : List ℕ) (l : List (List ℕ)) → StandsFor R s l → (calls : List Call) → AnswersAsList R s l calls
 run-same R s l h [] = record { replies-same = refl; queue = h .queue; records-same = h .same }
 run-same R s l h (c ∷ cs) =
     let first : queueReply s c ≡ listReply R l c =
     reply-same s (h .queue) c ∙ ap₂ (λ (n : ℕ) (m : List (List ℕ)). listReply n m c) (h .room) (h .same) in
-    let next-holds : Holds R (queueAfter s c) (listAfter R l c) =
-    subst (λ (n : ℕ). Holds n (queueAfter s c) (listAfter n l c)) (h .room)
-    (subst (λ (m : List (List ℕ)). Holds (capacity s) (queueAfter s c) (listAfter (capacity s) m c)) (h .same)
+    let next-holds : StandsFor R (queueAfter s c) (listAfter R l c) =
+    subst (λ (n : ℕ). StandsFor n (queueAfter s c) (listAfter n l c)) (h .room)
+    (subst (λ (m : List (List ℕ)). StandsFor (capacity s) (queueAfter s c) (listAfter (capacity s) m c)) (h .same)
     (after-same s (h .queue) c)) in
     let rest = run-same R (queueAfter s c) (listAfter R l c) next-holds cs in
     record { replies-same = ap₂ _∷_ first (rest .replies-same); queue = rest .queue; records-same = rest .records-same }
@@ -164,7 +167,7 @@ format-queue s h = sym (wrote (formatAnswer s) (formatted s) s (format-succeeds 
 pub list-rule : ListRule
 list-rule s h calls =
     let f = format-law s h in
-    let empty : Holds (capacity s) (formatted s) [] =
+    let empty : StandsFor (capacity s) (formatted s) [] =
     record { queue = f .queue; same = f .no-records; room = same-capacity s (formatted s) (f .kept-length) } in
     subst (λ (t : List ℕ). AnswersAsList (capacity s) t [] calls) (sym (format-queue s h))
     (run-same (capacity s) (formatted s) [] empty calls)

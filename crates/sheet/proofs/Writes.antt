@@ -6,21 +6,22 @@ use mathlib.Core.List.{List, [], _∷_, _++_}
 use Prim.Native.Nat.{ℕ, _+_, _-_, _*_, _≤_, _<_}
 use native.Mathlib.Omega.{arith}
 use lib.ListN.{length, getD, take, drop, set, length-append, length-drop, List·getD-append}
-use lib.Seq.{getD-set-same, getD-set-other, drop-set-lt, drop-set-add, take-set-le, drop-at, take-at, getD-take, getD-drop, getD-append-add, length-take-le, ext-getD}
+use lib.Seq.{getD-set-same, getD-set-other, drop-set-lt, drop-set-add, take-set-le, drop-at, take-at, getD-take, getD-drop, getD-append-add}
+use lib.Seq.{length-take-le, ext-getD}
 use Rattle.modular.proofs.Search.{le-or-lt}
-use Rattle.sheet.specs.Layout.{cellSize, bodySize, headerSize, next, firstFree, body, header, setNext, setFirstFree, setBody}
+use Rattle.sheet.specs.Layout.{cellSize, bodySize, headerSize, nextCell, firstFree, cellBody, header, setNext, setFirstFree, setBody}
 
-pub length-body : (s : List ℕ) (i : ℕ) → (i + 1) * cellSize ≤ length s → length (body s i) ≡ bodySize
-length-body s i h = length-take-le bodySize (drop (i * cellSize + 1) s) (omega (arith, length-drop (i * cellSize + 1) s))
+pub length-cell-body : (s : List ℕ) (i : ℕ) → (i + 1) * cellSize ≤ length s → length (cellBody s i) ≡ bodySize
+length-cell-body s i h = length-take-le bodySize (drop (i * cellSize + 1) s) (omega (arith, length-drop (i * cellSize + 1) s))
 
 -- cell 0 from byte 2 on
-header-part : (s : List ℕ) → header s ≡ drop 1 (body s 0)
+header-part : (s : List ℕ) → header s ≡ drop 1 (cellBody s 0)
 header-part [] = refl
 header-part (a ∷ []) = refl
 header-part (a ∷ b ∷ s) = refl
 
 -- it stays where the body of cell 0 does
-pub header-same : (s s′ : List ℕ) → body s′ 0 ≡ body s 0 → header s′ ≡ header s
+pub header-same : (s s′ : List ℕ) → cellBody s′ 0 ≡ cellBody s 0 → header s′ ≡ header s
 header-same s s′ e = header-part s′ ∙ ap (drop 1) e ∙ sym (header-part s)
 
 pub length-header : (s : List ℕ) → cellSize ≤ length s → length (header s) ≡ headerSize
@@ -93,16 +94,16 @@ module _ (s b : List ℕ) (n m : ℕ) (fits : n + m ≤ length s) (same : length
 
 -- Writes to byte 0 of cell i.
 module _ (s : List ℕ) (i x : ℕ) where
-  pub next-set : i * cellSize < length s → next (setNext s i x) i ≡ x
+  pub next-set : i * cellSize < length s → nextCell (setNext s i x) i ≡ x
   next-set h = getD-set-same s (i * cellSize) x 0 h
 
-  pub next-set-other : (j : ℕ) → j ≢ i → next (setNext s i x) j ≡ next s j
+  pub next-set-other : (j : ℕ) → j ≢ i → nextCell (setNext s i x) j ≡ nextCell s j
   next-set-other j h = getD-set-other s (i * cellSize) (j * cellSize) x 0 (λ e. h (omega arith))
 
   pub firstFree-set-next : firstFree (setNext s i x) ≡ firstFree s
   firstFree-set-next = getD-set-other s (i * cellSize) 1 x 0 (omega arith)
 
-  pub body-set-next : (j : ℕ) → body (setNext s i x) j ≡ body s j
+  pub body-set-next : (j : ℕ) → cellBody (setNext s i x) j ≡ cellBody s j
   body-set-next j = part-set (j * cellSize + 1) bodySize (i * cellSize) x s (go (le-or-lt i j))
     where
       go : (i ≤ j) ⊎ (j < i) → (i * cellSize < j * cellSize + 1) ⊎ (j * cellSize + 1 + bodySize ≤ i * cellSize)
@@ -114,10 +115,10 @@ module _ (s : List ℕ) (x : ℕ) where
   pub firstFree-set : 1 < length s → firstFree (setFirstFree s x) ≡ x
   firstFree-set h = getD-set-same s 1 x 0 h
 
-  pub next-set-free : (j : ℕ) → next (setFirstFree s x) j ≡ next s j
+  pub next-set-free : (j : ℕ) → nextCell (setFirstFree s x) j ≡ nextCell s j
   next-set-free j = getD-set-other s 1 (j * cellSize) x 0 (omega arith)
 
-  pub body-set-free : (j : ℕ) → j ≢ 0 → body (setFirstFree s x) j ≡ body s j
+  pub body-set-free : (j : ℕ) → j ≢ 0 → cellBody (setFirstFree s x) j ≡ cellBody s j
   body-set-free j h = part-set (j * cellSize + 1) bodySize 1 x s (inl (omega arith))
 
 -- of cell 0 the bytes after it stay
@@ -134,7 +135,7 @@ module _ (s : List ℕ) (i : ℕ) (b : List ℕ) (fits : (i + 1) * cellSize ≤ 
   pub length-set-body : length (setBody s i b) ≡ length s
   length-set-body = length-replaced s b (i * cellSize + 1) bodySize room same
 
-  pub body-set : body (setBody s i b) i ≡ b
+  pub body-set : cellBody (setBody s i b) i ≡ b
   body-set = part-inside s b (i * cellSize + 1) bodySize room same
 
   apart : (j : ℕ) → j ≢ i → (j * cellSize + 1 + bodySize ≤ i * cellSize + 1) ⊎ (i * cellSize + 1 + bodySize ≤ j * cellSize + 1)
@@ -144,10 +145,10 @@ module _ (s : List ℕ) (i : ℕ) (b : List ℕ) (fits : (i + 1) * cellSize ≤ 
       go (inl k) = inr (omega arith)
       go (inr k) = inl (omega arith)
 
-  pub body-set-other : (j : ℕ) → (j + 1) * cellSize ≤ length s → j ≢ i → body (setBody s i b) j ≡ body s j
+  pub body-set-other : (j : ℕ) → (j + 1) * cellSize ≤ length s → j ≢ i → cellBody (setBody s i b) j ≡ cellBody s j
   body-set-other j k h = part-outside s b (i * cellSize + 1) bodySize room same (j * cellSize + 1) (omega arith) (apart j h)
 
-  pub next-set-body : (j : ℕ) → next (setBody s i b) j ≡ next s j
+  pub next-set-body : (j : ℕ) → nextCell (setBody s i b) j ≡ nextCell s j
   next-set-body j = getD-outside s b (i * cellSize + 1) bodySize room same (j * cellSize) (go (le-or-lt j i))
     where
       go : (j ≤ i) ⊎ (i < j) → (j * cellSize < i * cellSize + 1) ⊎ (i * cellSize + 1 + bodySize ≤ j * cellSize)

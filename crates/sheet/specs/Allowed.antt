@@ -1,10 +1,11 @@
--- What the contract of each operation allows, whether it is called from Rattle or from C: of 01's number n of the answer, 0 where it succeeds,
--- and of each buffer at exit, s′ for the queue's bytes s, and out′ for out.
+-- What the contract of each operation allows, whether it is called from Rattle or from C: of 01's number n of the answer, 0 where it
+-- succeeds, and of each buffer at exit, s′ for the queue's bytes s, and out′ for out.
 -- Assumes nothing.
 use mathlib.Core.Path.{_≡_}
 use mathlib.Core.List.{List}
 use Prim.Native.Nat.{ℕ}
-use Rattle.sheet.specs.Operations.{formatAnswer, formatQueue, enqueueAnswer, enqueueQueue, peekAnswer, peekOutput, dequeueAnswer, dequeueQueue, dequeueOutput}
+use Rattle.sheet.specs.Operations.{formatAnswer, formatQueue, enqueueAnswer, enqueueQueue, peekAnswer, peekOutput, dequeueAnswer}
+use Rattle.sheet.specs.Operations.{dequeueQueue, dequeueOutput}
 
 pub record FormatAllows (s : List ℕ) (n : ℕ) (s′ : List ℕ) : Type 0 where
   pub answer : n ≡ formatAnswer s

@@ -7,16 +7,17 @@ use Prim.Native.Nat.{ℕ, _+_, _≤_}
 use lib.Dec.{T}
 use lib.ListN.{length, getD}
 use Rattle.sheet.specs.Lists.{zeros, upFrom}
-use Rattle.sheet.specs.Layout.{bodySize, isQueueLength, capacity, next, firstFree, body}
+use Rattle.sheet.specs.Layout.{bodySize, isQueueLength, capacity, nextCell, firstFree, cellBody}
 use Rattle.sheet.specs.Chains.{used, free, records, lastUsed}
 use Rattle.sheet.specs.Sound.{recordOf, isRecord, sound, Queue}
 use Rattle.sheet.specs.Meaning.{Record, SoundQueue}
-use Rattle.sheet.specs.Operations.{formatted, enqueued, enqueueAnswer, peekAnswer, shown, cellOf, dequeued, dequeueAnswer, formatQueue}
+use Rattle.sheet.specs.Operations.{formatted, enqueued, enqueueAnswer, peekAnswer, shownCell, cellOf, dequeued, dequeueAnswer}
+use Rattle.sheet.specs.Operations.{formatQueue}
 use Rattle.sheet.specs.Model.{Call, queueReply, queueAfter, listReply, listAfter, replies, left}
 
--- 103 bytes pass as a used cell's exactly where they are a record.
+-- Bytes of a body's size pass as a used cell's exactly where they are a record.
 abbrev pub RecordLaw : Type 0
-RecordLaw = (r : List ℕ) → ((length r ≡ 103) × T (isRecord r)) ↔ Record r
+RecordLaw = (r : List ℕ) → ((length r ≡ bodySize) × T (isRecord r)) ↔ Record r
 
 -- Bytes of a queue's length pass as sound exactly where they are what 01 calls sound.
 abbrev pub SoundLaw : Type 0
@@ -24,8 +25,8 @@ SoundLaw = (s : List ℕ) → T (isQueueLength (length s)) → T (sound s) ↔ S
 
 -- cell i is the same in both, byte for byte
 pub record Unchanged (s s′ : List ℕ) (i : ℕ) : Type 0 where
-  pub next-kept : next s′ i ≡ next s i
-  pub body-kept : body s′ i ≡ body s i
+  pub next-kept : nextCell s′ i ≡ nextCell s i
+  pub body-kept : cellBody s′ i ≡ cellBody s i
 
 -- Every cell 1 to R is on one of the lists, so their lengths add up to R.
 abbrev pub ListsFill : Type 0
@@ -52,7 +53,7 @@ pub record Enqueues (s r s′ : List ℕ) : Type 0 where
   -- only the new cell, cell 0 and the former last cell change
   pub others : (i : ℕ) → i ≤ capacity s → i ≢ 0 → i ≢ firstFree s → i ≢ lastUsed s → Unchanged s s′ i
   -- and of the former last cell only the next cell
-  pub last-body : (i : ℕ) → i ≤ capacity s → i ≢ 0 → i ≢ firstFree s → body s′ i ≡ body s i
+  pub last-body : (i : ℕ) → i ≤ capacity s → i ≢ 0 → i ≢ firstFree s → cellBody s′ i ≡ cellBody s i
 
 abbrev pub EnqueueLaw : Type 0
 EnqueueLaw =
@@ -65,19 +66,19 @@ FullLaw = (s : List ℕ) (b p : ℕ) (w : List ℕ) → enqueueAnswer s b p w �
 -- Peek (01: look): record k, counted from 1, and byte 0 as zero.
 abbrev pub PeekLaw : Type 0
 PeekLaw =
-    (s : List ℕ) (k : ℕ) (out : List ℕ) → peekAnswer s (k + 1) out ≡ 0 → shown s (cellOf s (k + 1)) ≡ 0 ∷ getD (records s) k []
+    (s : List ℕ) (k : ℕ) (out : List ℕ) → peekAnswer s (k + 1) out ≡ 0 → shownCell s (cellOf s (k + 1)) ≡ 0 ∷ getD (records s) k []
 
 -- Dequeue (01: take off).
 pub record Dequeues (s s′ : List ℕ) : Type 0 where
   pub kept-length : length s′ ≡ length s
   pub queue : Queue s′
-  pub used-before : used s ≡ next s 0 ∷ used s′
-  pub free-after : free s′ ≡ next s 0 ∷ free s
-  pub records-before : records s ≡ body s (next s 0) ∷ records s′
+  pub used-before : used s ≡ nextCell s 0 ∷ used s′
+  pub free-after : free s′ ≡ nextCell s 0 ∷ free s
+  pub records-before : records s ≡ cellBody s (nextCell s 0) ∷ records s′
   -- the cell is zero after byte 0, and the next one that enqueue takes
-  pub cleared : body s′ (next s 0) ≡ zeros bodySize
-  pub reused : firstFree s′ ≡ next s 0
-  pub others : (i : ℕ) → i ≤ capacity s → i ≢ 0 → i ≢ next s 0 → Unchanged s s′ i
+  pub cleared : cellBody s′ (nextCell s 0) ≡ zeros bodySize
+  pub reused : firstFree s′ ≡ nextCell s 0
+  pub others : (i : ℕ) → i ≤ capacity s → i ≢ 0 → i ≢ nextCell s 0 → Unchanged s s′ i
 
 abbrev pub DequeueLaw : Type 0
 DequeueLaw = (s out : List ℕ) → dequeueAnswer s out ≡ 0 → Dequeues s (dequeued s)

@@ -37,16 +37,16 @@ pub record Size (s : List ℕ) (R : ℕ) : Type 0 where
   pub few : R ≤ 255
 
 -- byte 0 of cell i; of cell 0 it is the first used cell
-abbrev pub next : List ℕ → ℕ → ℕ
-next s i = getD s (i * cellSize) 0
+abbrev pub nextCell : List ℕ → ℕ → ℕ
+nextCell s i = getD s (i * cellSize) 0
 
 -- byte 1 of cell 0
 abbrev pub firstFree : List ℕ → ℕ
 firstFree s = getD s 1 0
 
 -- cell i without byte 0
-abbrev pub body : List ℕ → ℕ → List ℕ
-body s i = take bodySize (drop (i * cellSize + 1) s)
+abbrev pub cellBody : List ℕ → ℕ → List ℕ
+cellBody s i = take bodySize (drop (i * cellSize + 1) s)
 
 -- cell 0 after the first cells of both lists: bytes 2 to 103
 abbrev pub header : List ℕ → List ℕ

@@ -9,7 +9,7 @@ use Rattle.code.specs.Parameters.{codewordLength}
 use Rattle.code.specs.Component.{isReceived}
 use Rattle.code.specs.Profiles.{isProfile, profile}
 use Rattle.sheet.specs.Lists.{zeros, count}
-use Rattle.sheet.specs.Layout.{headerSize, capacity, next, firstFree, body, header}
+use Rattle.sheet.specs.Layout.{bodySize, headerSize, capacity, nextCell, firstFree, cellBody, header}
 use Rattle.sheet.specs.Chains.{From}
 use Rattle.sheet.specs.Sound.{recordOf}
 
@@ -36,13 +36,13 @@ pub record SoundQueue (s : List ℕ) : Type 0 where
   -- both chains end
   pub on-used : List ℕ
   pub on-free : List ℕ
-  pub used-ends : From s (next s 0) on-used
+  pub used-ends : From s (nextCell s 0) on-used
   pub free-ends : From s (firstFree s) on-free
   -- and meet only cells up to R
   pub used-below : (i : ℕ) → 1 ≤ count i on-used → i ≤ capacity s
   pub free-below : (i : ℕ) → 1 ≤ count i on-free → i ≤ capacity s
   -- a used cell has a record, and a free cell is zero after byte 0
-  pub used-records : (i : ℕ) → 1 ≤ count i on-used → Record (body s i)
-  pub free-zero : (i : ℕ) → 1 ≤ count i on-free → body s i ≡ zeros 103
+  pub used-records : (i : ℕ) → 1 ≤ count i on-used → Record (cellBody s i)
+  pub free-zero : (i : ℕ) → 1 ≤ count i on-free → cellBody s i ≡ zeros bodySize
   -- each cell 1 to R is on exactly one chain once
   pub once : (i : ℕ) → 1 ≤ i → i ≤ capacity s → count i on-used + count i on-free ≡ 1

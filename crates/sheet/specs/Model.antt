@@ -7,7 +7,8 @@ use lib.Dec.{leb, ltb}
 use lib.ListN.{length, getD, drop}
 use Rattle.code.specs.Refusal.{firstRefusal, onSuccess}
 use Rattle.sheet.specs.Sound.{recordOf}
-use Rattle.sheet.specs.Operations.{enqueueTests, showTests, enqueueAnswer, enqueueQueue, peekAnswer, peekOutput, dequeueAnswer, dequeueQueue, dequeueOutput}
+use Rattle.sheet.specs.Operations.{enqueueTests, showTests, enqueueAnswer, enqueueQueue, peekAnswer, peekOutput, dequeueAnswer}
+use Rattle.sheet.specs.Operations.{dequeueQueue, dequeueOutput}
 
 -- a call with its arguments: box, profile and word; a record's number and the output's bytes; the output's bytes
 pub data Call : Type 0 where

@@ -11,7 +11,8 @@ use Rattle.code.specs.Parameters.{codewordLength}
 use Rattle.code.specs.Component.{isReceived}
 use Rattle.code.specs.Profiles.{isProfile, profile}
 use Rattle.sheet.specs.Lists.{zeros}
-use Rattle.sheet.specs.Layout.{cellSize, bodySize, isQueueLength, capacity, next, firstFree, body, setNext, setFirstFree, setBody}
+use Rattle.sheet.specs.Layout.{cellSize, bodySize, isQueueLength, capacity, nextCell, firstFree, cellBody, setNext, setFirstFree}
+use Rattle.sheet.specs.Layout.{setBody}
 use Rattle.sheet.specs.Chains.{used, lastUsed}
 use Rattle.sheet.specs.Sound.{isBox, recordOf, sound}
 
@@ -69,7 +70,7 @@ formatQueue s = onSuccess (formatAnswer s) (formatted s) s
 unfoldable pub enqueued : List ℕ → List ℕ → List ℕ
 enqueued s r =
     let c = firstFree s in
-    setBody (setNext (setNext (setFirstFree s (next s c)) c 0) (lastUsed s) c) c r
+    setBody (setNext (setNext (setFirstFree s (nextCell s c)) c 0) (lastUsed s) c) c r
 
 unfoldable pub enqueueAnswer : List ℕ → ℕ → ℕ → List ℕ → ℕ
 enqueueAnswer s b p w = firstRefusal (soundTests s ++ enqueueTests (not (eqb (firstFree s) 0)) b p w)
@@ -84,22 +85,22 @@ unfoldable pub cellOf : List ℕ → ℕ → ℕ
 cellOf s k = getD (0 ∷ used s) k 0
 
 -- a cell as it is shown, with byte 0 as zero
-unfoldable pub shown : List ℕ → ℕ → List ℕ
-shown s i = 0 ∷ body s i
+unfoldable pub shownCell : List ℕ → ℕ → List ℕ
+shownCell s i = 0 ∷ cellBody s i
 
 unfoldable pub peekAnswer : List ℕ → ℕ → List ℕ → ℕ
 peekAnswer s k out = firstRefusal (soundTests s ++ showTests (not (eqb (cellOf s k) 0)) out)
 
 unfoldable pub peekOutput : List ℕ → ℕ → List ℕ → List ℕ
-peekOutput s k out = onSuccess (peekAnswer s k out) (shown s (cellOf s k)) out
+peekOutput s k out = onSuccess (peekAnswer s k out) (shownCell s (cellOf s k)) out
 
 -- 01: take off
 
 -- the first used cell is zeroed, and goes first on the free list
 unfoldable pub dequeued : List ℕ → List ℕ
 dequeued s =
-    let c = next s 0 in
-    setBody (setFirstFree (setNext (setNext s 0 (next s c)) c (firstFree s)) c) c (zeros bodySize)
+    let c = nextCell s 0 in
+    setBody (setFirstFree (setNext (setNext s 0 (nextCell s c)) c (firstFree s)) c) c (zeros bodySize)
 
 unfoldable pub dequeueAnswer : List ℕ → List ℕ → ℕ
 dequeueAnswer s out = peekAnswer s 1 out

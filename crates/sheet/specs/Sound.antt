@@ -10,7 +10,7 @@ use Rattle.code.specs.Parameters.{codewordLength}
 use Rattle.code.specs.Component.{isReceived}
 use Rattle.code.specs.Profiles.{isProfile, profile}
 use Rattle.sheet.specs.Lists.{all, allZero, zeros, count}
-use Rattle.sheet.specs.Layout.{paddedSize, isQueueLength, capacity, next, firstFree, body, header}
+use Rattle.sheet.specs.Layout.{paddedSize, isQueueLength, capacity, nextCell, firstFree, cellBody, header}
 use Rattle.sheet.specs.Chains.{chain, ends, used, free}
 
 -- 01: the box number is 1 to 40
@@ -42,7 +42,7 @@ isBody false r = allZero r
 
 -- the number is a cell's, and the cell is as a used or a free one has to be
 unfoldable pub isCell : List ℕ → Bool → ℕ → Bool
-isCell s kind i = leb i (capacity s) && isBody kind (body s i)
+isCell s kind i = leb i (capacity s) && isBody kind (cellBody s i)
 
 -- the list of used or free cells from cell i ends, and has only such cells
 unfoldable pub isList : List ℕ → Bool → ℕ → ℕ → Bool
@@ -56,7 +56,7 @@ eachOnce n l = allBelow (λ i. eqb (count (suc i) l) 1) n
 unfoldable pub sound : List ℕ → Bool
 sound s =
     isHeader (header s)
-    && (isList s true (capacity s) (next s 0)
+    && (isList s true (capacity s) (nextCell s 0)
     && (isList s false (capacity s) (firstFree s) && eachOnce (capacity s) (used s ++ free s)))
 
 -- the bytes are a sound queue

@@ -2,6 +2,7 @@
 -- Assumes nothing.
 use mathlib.Core.Path.{_≡_, refl, sym, ap, subst, _∙_}
 use mathlib.Core.Logic.{_≢_, ⊎-elim}
+use mathlib.Core.Bool.{Bool}
 use mathlib.Core.List.{List, [], _∷_, _++_}
 use Prim.Native.Nat.{ℕ, zero, suc, _+_, _≤_, _<_}
 use native.Mathlib.Omega.{arith}
@@ -12,7 +13,7 @@ use Rattle.modular.specs.Search.{allBelow}
 use Rattle.modular.proofs.Search.{same-test, all-at, all-of}
 use Rattle.code.proofs.Distance.{equal-or-not}
 use Rattle.sheet.specs.Lists.{zeros, bit, count}
-use Rattle.sheet.specs.Layout.{next}
+use Rattle.sheet.specs.Layout.{nextCell}
 use Rattle.sheet.specs.Chains.{chain}
 use Rattle.sheet.specs.Sound.{eachOnce}
 use Rattle.sheet.proofs.Counts.{bit-same, bit-other, count-append}
@@ -26,8 +27,9 @@ met t c i h =
     ⊎-elim
     (λ (e : i ≡ c).
     let k : c < length t = omega arith in
+    let more = getD t c 0 + 1 in
     let same : getD t c 0 ≡ getD t i 0 = ap (λ (x : ℕ). getD t x 0) (sym e) in
-    let there : getD (set t c (getD t c 0 + 1)) i 0 ≡ getD t c 0 + 1 = ap (λ (x : ℕ). getD (set t c (getD t c 0 + 1)) x 0) e ∙ getD-set-same t c (getD t c 0 + 1) 0 k in
+    let there : getD (set t c more) i 0 ≡ more = ap (λ (x : ℕ). getD (set t c more) x 0) e ∙ getD-set-same t c more 0 k in
     omega (arith, bit-same e))
     (λ (d : i ≢ c). omega (arith, bit-other d, getD-set-other t c i (getD t c 0 + 1) 0 d))
     (equal-or-not i c)
@@ -48,7 +50,7 @@ tally-le (c ∷ l) t i = omega (arith, tally-one t c i, tally-le l (set t c (get
 length-chain : (s : List ℕ) (n i : ℕ) → length (chain s n i) ≤ n
 length-chain s zero i = omega arith
 length-chain s (suc n) zero = omega arith
-length-chain s (suc n) (suc i) = omega (arith, length-chain s n (next s (suc i)))
+length-chain s (suc n) (suc i) = omega (arith, length-chain s n (nextCell s (suc i)))
 
 -- the table before any cell has been met
 unfoldable pub noneSeen : List ℕ
@@ -70,11 +72,21 @@ pub few-seen : (s : List ℕ) (n i : ℕ) → n ≤ 255 → AtMost 255 (tallied 
 few-seen s n i h k = omega (arith, tally-le (chain s n i) noneSeen k, none-at k, length-chain s n i)
 
 -- after both
-pub both-seen : (n : ℕ) (u f : List ℕ) → n ≤ 255 → allBelow (λ i. eqb (getD (tallied (tallied noneSeen u) f) (suc i) 0) 1) n ≡ eachOnce n (u ++ f)
+abbrev bothSeen : List ℕ → List ℕ → List ℕ
+bothSeen u f = tallied (tallied noneSeen u) f
+
+-- cell i + 1 has been met once, by the table and by the lists
+abbrev once-seen : List ℕ → List ℕ → ℕ → Bool
+once-seen u f i = eqb (getD (bothSeen u f) (suc i) 0) 1
+
+abbrev once-listed : List ℕ → List ℕ → ℕ → Bool
+once-listed u f i = eqb (count (suc i) (u ++ f)) 1
+
+pub both-seen : (n : ℕ) (u f : List ℕ) → n ≤ 255 → allBelow (once-seen u f) n ≡ eachOnce n (u ++ f)
 unfolding eachOnce
 both-seen n u f h = same-test _ _ there back
   where
-    same : (i : ℕ) → i < n → getD (tallied (tallied noneSeen u) f) (suc i) 0 ≡ count (suc i) (u ++ f)
+    same : (i : ℕ) → i < n → getD (bothSeen u f) (suc i) 0 ≡ count (suc i) (u ++ f)
     same i k =
         omega (
           arith,
@@ -84,12 +96,8 @@ both-seen n u f h = same-test _ _ there back
           count-append (suc i) u f,
         )
 
-    there : T (allBelow (λ i. eqb (getD (tallied (tallied noneSeen u) f) (suc i) 0) 1) n) → T (allBelow (λ i. eqb (count (suc i) (u ++ f)) 1) n)
-    there a =
-        all-of (λ i. eqb (count (suc i) (u ++ f)) 1) n
-        (λ i k. subst (λ (x : ℕ). T (eqb x 1)) (same i k) (all-at (λ i. eqb (getD (tallied (tallied noneSeen u) f) (suc i) 0) 1) n a i k))
+    there : T (allBelow (once-seen u f) n) → T (allBelow (once-listed u f) n)
+    there a = all-of (once-listed u f) n (λ i k. subst (λ (x : ℕ). T (eqb x 1)) (same i k) (all-at (once-seen u f) n a i k))
 
-    back : T (allBelow (λ i. eqb (count (suc i) (u ++ f)) 1) n) → T (allBelow (λ i. eqb (getD (tallied (tallied noneSeen u) f) (suc i) 0) 1) n)
-    back a =
-        all-of (λ i. eqb (getD (tallied (tallied noneSeen u) f) (suc i) 0) 1) n
-        (λ i k. subst (λ (x : ℕ). T (eqb x 1)) (sym (same i k)) (all-at (λ i. eqb (count (suc i) (u ++ f)) 1) n a i k))
+    back : T (allBelow (once-listed u f) n) → T (allBelow (once-seen u f) n)
+    back a = all-of (once-seen u f) n (λ i k. subst (λ (x : ℕ). T (eqb x 1)) (sym (same i k)) (all-at (once-listed u f) n a i k))

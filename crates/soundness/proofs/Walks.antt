@@ -13,7 +13,7 @@ use borrow.Author.Tests.{ne-eqb, le-leb, lt-leb}
 use Rattle.modular.specs.Search.{allBelow}
 use Rattle.modular.proofs.Search.{and-left, and-right, and-intro, same-test, all-at, all-of, le-or-lt, holds}
 use Rattle.sheet.specs.Lists.{all, lastOf}
-use Rattle.sheet.specs.Layout.{capacity, next, body}
+use Rattle.sheet.specs.Layout.{capacity, nextCell, cellBody}
 use Rattle.sheet.specs.Chains.{chain, ends}
 use Rattle.sheet.specs.Sound.{isBody, isCell, isList}
 use Rattle.soundness.specs.declared.lists.Walked.{Walked}
@@ -27,15 +27,15 @@ chain-stop s zero i e = refl
 chain-stop s (suc n) zero e = refl
 chain-stop s (suc n) (suc i) e = let z : ⊥ = omega arith in absurd z
 
-chain-step : (s : List ℕ) (n i : ℕ) → n ≢ 0 → i ≢ 0 → chain s n i ≡ i ∷ chain s (n - 1) (next s i)
+chain-step : (s : List ℕ) (n i : ℕ) → n ≢ 0 → i ≢ 0 → chain s n i ≡ i ∷ chain s (n - 1) (nextCell s i)
 chain-step s zero i h d = absurd (h refl)
 chain-step s (suc n) zero h d = absurd (d refl)
-chain-step s (suc n) (suc i) h d = let e : n ≡ suc n - 1 = omega arith in ap (λ (m : ℕ). suc i ∷ chain s m (next s (suc i))) e
+chain-step s (suc n) (suc i) h d = let e : n ≡ suc n - 1 = omega arith in ap (λ (m : ℕ). suc i ∷ chain s m (nextCell s (suc i))) e
 
-ends-step : (s : List ℕ) (n i : ℕ) → n ≢ 0 → i ≢ 0 → ends s n i ≡ ends s (n - 1) (next s i)
+ends-step : (s : List ℕ) (n i : ℕ) → n ≢ 0 → i ≢ 0 → ends s n i ≡ ends s (n - 1) (nextCell s i)
 ends-step s zero i h d = absurd (h refl)
 ends-step s (suc n) zero h d = absurd (d refl)
-ends-step s (suc n) (suc i) h d = let e : n ≡ suc n - 1 = omega arith in ap (λ (m : ℕ). ends s m (next s (suc i))) e
+ends-step s (suc n) (suc i) h d = let e : n ≡ suc n - 1 = omega arith in ap (λ (m : ℕ). ends s m (nextCell s (suc i))) e
 
 module _ (s : List ℕ) (kind : Bool) where
   list-stop : (n i : ℕ) → i ≡ 0 → isList s kind n i ≡ true
@@ -44,11 +44,11 @@ module _ (s : List ℕ) (kind : Bool) where
   list-stop (suc n) zero e = refl
   list-stop (suc n) (suc i) e = let z : ⊥ = omega arith in absurd z
 
-  list-step : (n i : ℕ) → n ≢ 0 → i ≢ 0 → isList s kind n i ≡ (isCell s kind i && isList s kind (n - 1) (next s i))
+  list-step : (n i : ℕ) → n ≢ 0 → i ≢ 0 → isList s kind n i ≡ (isCell s kind i && isList s kind (n - 1) (nextCell s i))
   unfolding isList
   list-step n i h d =
       ap₂ (λ (b : Bool) (l : List ℕ). b && all (isCell s kind) l) (ends-step s n i h d) (chain-step s n i h d)
-      ∙ swapped (ends s (n - 1) (next s i)) (isCell s kind i) (all (isCell s kind) (chain s (n - 1) (next s i)))
+      ∙ swapped (ends s (n - 1) (nextCell s i)) (isCell s kind i) (all (isCell s kind) (chain s (n - 1) (nextCell s i)))
 
   list-over : (n i : ℕ) → n ≡ 0 → i ≢ 0 → isList s kind n i ≡ false
   unfolding isList
@@ -56,7 +56,7 @@ module _ (s : List ℕ) (kind : Bool) where
 
   pub cell-below : (i : ℕ) → isCell s kind i ≡ true → i ≤ capacity s
   unfolding isCell
-  cell-below i e = leb→le i (capacity s) (and-left (leb i (capacity s)) (isBody kind (body s i)) (holds _ e))
+  cell-below i e = leb→le i (capacity s) (and-left (leb i (capacity s)) (isBody kind (cellBody s i)) (holds _ e))
 
 -- a cell is counted at most once more
 pub tally-one : (t : List ℕ) (c k : ℕ) → getD (set t c (getD t c 0 + 1)) k 0 ≤ getD t k 0 + 1
@@ -134,17 +134,18 @@ module _ {s : List ℕ} {kind : Bool} {first k : ℕ} {t₀ t : List ℕ} {n i c
   walk-over e d r g = fails r g (list-over s kind n i e d)
 
   pub walk-fails : n ≢ 0 → i ≢ 0 → isCell s kind i ≡ false → (r : Walked) → r .good ≡ false → Walks s kind first k t₀ t r
-  walk-fails h d e r g = fails r g (list-step s kind n i h d ∙ ap (λ (b : Bool). b && isList s kind (n - 1) (next s i)) e)
+  walk-fails h d e r g = fails r g (list-step s kind n i h d ∙ ap (λ (b : Bool). b && isList s kind (n - 1) (nextCell s i)) e)
 
-  pub walk-on : n ≢ 0 → i ≢ 0 → isCell s kind i ≡ true → (j c : ℕ) → j ≡ next s i → c ≡ goOn i cell (met + 1) k
+  pub walk-on : n ≢ 0 → i ≢ 0 → isCell s kind i ≡ true → (j c : ℕ) → j ≡ nextCell s i → c ≡ goOn i cell (met + 1) k
       → Walk s kind first k t₀ (set t i (getD t i 0 + 1)) (n - 1) j c (met + 1)
   walk-on h d e j c q g =
       let step = chain-step s n i h d in
+      let rest = chain s (n - 1) (nextCell s i) in
       rw (q, g)
       (record {
-        list = w .list ∙ list-step s kind n i h d ∙ ap (λ (b : Bool). b && isList s kind (n - 1) (next s i)) e;
+        list = w .list ∙ list-step s kind n i h d ∙ ap (λ (b : Bool). b && isList s kind (n - 1) (nextCell s i)) e;
         seen = w .seen ∙ ap (tallied t) step;
-        cell-is = w .cell-is ∙ ap (λ (l : List ℕ). lastOf cell (take (k - met) l)) step ∙ go-on i cell met k (chain s (n - 1) (next s i));
+        cell-is = w .cell-is ∙ ap (λ (l : List ℕ). lastOf cell (take (k - met) l)) step ∙ go-on i cell met k rest;
         records-is = omega (arith, w .records-is, ap length step);
         bound = λ x. omega (arith, tally-one t i x, w .bound x);
         steps = omega (arith, w .steps);

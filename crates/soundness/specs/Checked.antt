@@ -29,7 +29,7 @@ checkedReport Unsound = checkReport 6 0 0
 checkedReport (Sound cell records) = checkReport 0 cell records
 
 -- 5, then 6, and otherwise the cell of record k, or the last used one, and the number of records
-unfoldable pub checked : List ℕ → ℕ → CheckReport
-checked s k =
+unfoldable pub checkAnswer : List ℕ → ℕ → CheckReport
+checkAnswer s k =
     let n = firstRefusal (soundTests s) in
     checkReport n (onSuccess n (reached s k) 0) (onSuccess n (length (used s)) 0)

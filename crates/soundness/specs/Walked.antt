@@ -23,16 +23,16 @@ abbrev pub goOn : ℕ → ℕ → ℕ → ℕ → ℕ
 goOn cell reached met k = choose (leb met k) cell reached
 
 -- a list of cells has been walked: the table t became t′, the walk asked for cell k, or the last one, and met n cells
-pub record Found (l t t′ : List ℕ) (k cell n : ℕ) : Type 0 where
+pub record Traversed (l t t′ : List ℕ) (k cell n : ℕ) : Type 0 where
   pub seen : t′ ≡ tallied t l
   pub cell-is : cell ≡ lastOf 0 (take k l)
   pub records-is : n ≡ length l
 
 pub record Walks (s : List ℕ) (kind : Bool) (first k : ℕ) (t t′ : List ℕ) (r : Walked) : Type 0 where
   pub good-is : r .good ≡ isList s kind (capacity s) first
-  pub found : r .good ≡ true → Found (chain s (capacity s) first) t t′ k (r .cell) (r .records)
+  pub found : r .good ≡ true → Traversed (chain s (capacity s) first) t t′ k (r .cell) (r .records)
 
-pub record Checks (s : List ℕ) (k : ℕ) (r : Walked) : Type 0 where
+pub record WalksBoth (s : List ℕ) (k : ℕ) (r : Walked) : Type 0 where
   pub good-is : r .good ≡ sound s
   pub cell-is : r .good ≡ true → r .cell ≡ reached s k
   pub records-is : r .good ≡ true → r .records ≡ length (used s)

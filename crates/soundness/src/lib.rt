@@ -4,7 +4,7 @@ mod lists;
 
 use cells::is_length;
 ghost use mathlib.Core.Path.{_≡_};
-ghost use Rattle.soundness.specs.Checked.{checkedReport, checked};
+ghost use Rattle.soundness.specs.Checked.{checkedReport, checkAnswer};
 
 pub enum Checked {
     // 01, number 5: the length is not a queue's
@@ -17,7 +17,7 @@ pub enum Checked {
 
 // Checks a queue, and finds the cell of a record, counted from 1.
 pub fn check(queue: &[u8], number: usize) -> Checked
-    ensures { λ r. ⌜ checkedReport r ≡ checked (now (queue .entry)) number ⌝ }
+    ensures { λ r. ⌜ checkedReport r ≡ checkAnswer (now (queue .entry)) number ⌝ }
 {
     if !is_length(queue.len()) {
         return Checked::WrongLength;

@@ -10,7 +10,7 @@ ghost use lib.ListN.{length, getD};
 ghost use Rattle.modular.specs.Search.{allBelow};
 ghost use Rattle.sheet.specs.Layout.{isQueueLength};
 ghost use Rattle.soundness.specs.Tally.{AtMost};
-ghost use Rattle.soundness.specs.Walked.{goOn, Walks, Checks};
+ghost use Rattle.soundness.specs.Walked.{goOn, Walks, WalksBoth};
 
 // What a walk found: whether the list is good and, if so, the cell that was asked for or the last one, and how many cells there are.
 pub(crate) struct Walked {
@@ -82,7 +82,7 @@ fn each_once(seen: &[u16; 256], n: usize) -> bool
 // Walks both lists of a queue of the right length: whether it is sound and, if so, what its used list leads to.
 pub(crate) fn walk_both(queue: &[u8], number: usize) -> Walked
     requires { ⌜ T (isQueueLength (length (now queue))) ⌝ }
-    ensures { λ r. ⌜ Checks (now (queue .entry)) number r ⌝ }
+    ensures { λ r. ⌜ WalksBoth (now (queue .entry)) number r ⌝ }
 {
     let mut seen = [0u16; 256];
     let used = walk(queue, true, queue[0] as usize, number, &mut seen);

@@ -17,7 +17,8 @@ use Rattle.code.specs.Refusal.{Test, firstRefusal}
 use Rattle.code.specs.Component.{Below, message, inCode}
 use Rattle.code.specs.Balance.{differences}
 use Rattle.code.specs.Codeword.{alternate, received, restored, carried, codeword, body}
-use Rattle.code.specs.Reading.{Finding, correctionAt, clean, corrected, correction, Reading, read, unreadable, readAs, reading, nearReading, mends, changedAt, sentAt}
+use Rattle.code.specs.Reading.{Finding, correctionAt, clean, corrected, correction, Reading, read, unreadable, readAs, reading, nearReading}
+use Rattle.code.specs.Reading.{mends, changedAt, sentAt}
 use Rattle.code.specs.Profiles.{profiles, isProfile, profile}
 use Rattle.code.specs.Operations.{Answer, refused, answered, decodeTests, readUnless, decodeAnswer}
 use Rattle.code.proofs.Refusal.{AllPass, passed-every, number-most}
@@ -58,18 +59,21 @@ SmallReading : ℕ → ℕ → Reading → Type 0
 SmallReading n q (read f a b) = (correction f .position ≤ n) × (correction f .symbol ≤ q) × Below q a × Below q b
 SmallReading n q unreadable = Unit {0}
 
-read-as : (p : Parameters) → 1 ≤ p .q → (f : Finding) (n : ℕ) (u : List ℕ) → correction f .position ≤ n → correction f .symbol ≤ p .q → SmallReading n (p .q) (readAs p f u)
+read-as : (p : Parameters) → 1 ≤ p .q → (f : Finding) (n : ℕ) (u : List ℕ) → correction f .position ≤ n → correction f .symbol ≤ p .q
+    → SmallReading n (p .q) (readAs p f u)
 unfolding SmallReading
 read-as p h f n u a b = (a, b, below-carried p h true u, below-carried p h false u)
 
 near-small : (p : Parameters) → 1 ≤ p .q → (u : List ℕ) → SmallReading (length u) (p .q) (nearReading p u)
 unfolding nearReading SmallReading sentAt
 near-small p h u =
-    cases (ltb (changedAt p u) (length u))
+    let i = changedAt p u in
+    let found = corrected (correctionAt i (getD u i 0) (sentAt p u i)) in
+    cases (ltb i (length u))
     (λ e.
     rw (e, nearReading)
-    (read-as p h (corrected (correctionAt (changedAt p u) (getD u (changedAt p u) 0) (sentAt p u (changedAt p u)))) (length u) _ (rw add-one (ltb-true (changedAt p u) (length u) e))
-    (least-le (mends p u (changedAt p u)) (p .q)))) (λ e. rw (e, nearReading) tt)
+    (read-as p h found (length u) _ (rw add-one (ltb-true i (length u) e)) (least-le (mends p u i) (p .q))))
+    (λ e. rw (e, nearReading) tt)
 
 reading-small : (p : Parameters) → 1 ≤ p .q → (u : List ℕ) → SmallReading (length u) (p .q) (reading p u)
 unfolding reading
@@ -78,10 +82,10 @@ reading-small p h u =
 
 -- An answer.
 
-abbrev pub Small : Answer → Type 0
-Small (refused n) = n ≤ 9
-Small (answered unreadable) = Unit {0}
-Small (answered (read f a b)) = (correction f .position ≤ 99) × (correction f .symbol ≤ 9) × Below 10 a × Below 10 b
+abbrev pub SmallAnswer : Answer → Type 0
+SmallAnswer (refused n) = n ≤ 9
+SmallAnswer (answered unreadable) = Unit {0}
+SmallAnswer (answered (read f a b)) = (correction f .position ≤ 99) × (correction f .symbol ≤ 9) × Below 10 a × Below 10 b
 
 -- the numbers of a profile
 smallRow : ℕ → Bool
@@ -101,20 +105,20 @@ small-row i h =
       leb→le _ _ (and-right (leb 1 (profile i .q)) _ g),
     )
 
-small-reading : (n q : ℕ) (r : Reading) → n ≤ 99 → q ≤ 9 → SmallReading n q r → Small (answered r)
+small-reading : (n q : ℕ) (r : Reading) → n ≤ 99 → q ≤ 9 → SmallReading n q r → SmallAnswer (answered r)
 unfolding SmallReading
 small-reading n q (read f a b) h g s =
     (le-trans (s .0) h, le-trans (s .1) g, (λ i. le-trans (s .2 i) (le-trans g (lit≤ tt))), (λ i. le-trans (s .3 i) (le-trans g (lit≤ tt))))
 small-reading n q unreadable h g s = tt
 
-pub decode-small : (i : ℕ) (u : List ℕ) (k l : ℕ) → Small (decodeAnswer i u k l)
+pub decode-small : (i : ℕ) (u : List ℕ) (k l : ℕ) → SmallAnswer (decodeAnswer i u k l)
 unfolding decodeAnswer
 decode-small i u k l = go (firstRefusal tests) refl
   where
     tests : List Test
     tests = decodeTests i u k l
 
-    full : AllPass (decodeTests i u k l) → Small (answered (reading (profile i) u))
+    full : AllPass (decodeTests i u k l) → SmallAnswer (answered (reading (profile i) u))
     full (known, (lengths, rest)) =
         let n = codewordLength (profile i) in
         let (few, some, low) = small-row i known in
@@ -122,6 +126,6 @@ decode-small i u k l = go (firstRefusal tests) refl
         let long : length u ≡ n = eqb→eq _ _ (and-left (eqb (length u) n) _ (and-left two _ lengths)) in
         small-reading (length u) (profile i .q) (reading (profile i) u) (rw long few) low (reading-small (profile i) some u)
 
-    go : (n : ℕ) → firstRefusal tests ≡ n → Small (readUnless n (reading (profile i) u))
+    go : (n : ℕ) → firstRefusal tests ≡ n → SmallAnswer (readUnless n (reading (profile i) u))
     go zero e = full (passed-every tests tt e)
     go (suc n) e = subst (λ (m : ℕ). m ≤ 9) e (number-most 9 tests tt)

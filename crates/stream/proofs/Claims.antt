@@ -4,7 +4,7 @@ use Rattle.stream.specs.Claims.{Claims}
 use Rattle.stream.proofs.Whole.{long-line}
 use Rattle.stream.proofs.Feed.{feed-stops, feed-fits}
 use Rattle.stream.proofs.Cutting.{any-cutting, finish-fits, finish-stops}
-use Rattle.stream.proofs.Cases.{cases-print}
+use Rattle.stream.proofs.Examples.{examples-print}
 use Rattle.stream.proofs.OneAnswer.{one-answer-each}
 
 pub claims : Claims
@@ -17,5 +17,5 @@ claims =
       finish-stops = finish-stops;
       long-line = long-line;
       one-answer-each = one-answer-each;
-      cases-print = cases-print;
+      examples-print = examples-print;
     }

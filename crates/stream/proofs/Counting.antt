@@ -13,7 +13,8 @@ use lib.Seq.{take-add}
 use borrow.Author.Tests.{le-leb, lt-leb, eq-eqb, ne-eqb}
 use Rattle.modular.proofs.Search.{le-or-lt}
 use Rattle.code.proofs.Merge.{cases}
-use Rattle.stream.specs.Feed.{Partial, held, tooLong, Model, lineAfter, answerAfter, feedFrom, feed, finishing, isDone, lineAfterAll, lineEnds, lastLines, linesFinished}
+use Rattle.stream.specs.Feed.{Partial, held, tooLong, Model, lineAfter, answerAfter, feedFrom, feed, finishing, isDone, lineAfterAll}
+use Rattle.stream.specs.Feed.{lineEnds, lastLines, linesFinished}
 use Rattle.stream.proofs.Feed.{feed-on, feed-stop}
 use Rattle.stream.proofs.Cutting.{finish-on, finish-stop, done-reaches}
 
@@ -33,7 +34,8 @@ pub line-further : (p : Partial) (input : List ℕ) (at n : ℕ)
     → lineAfterAll p (take (at + n) input) ≡ lineAfterAll (lineAfterAll p (take at input)) (take n (drop at input))
 line-further p input at n = ap (lineAfterAll p) (take-add at n input) ∙ line-append p (take at input) (take n (drop at input))
 
-pub ends-further : (input : List ℕ) (at n : ℕ) → lineEnds (take (at + n) input) ≡ lineEnds (take at input) + lineEnds (take n (drop at input))
+pub ends-further : (input : List ℕ) (at n : ℕ)
+    → lineEnds (take (at + n) input) ≡ lineEnds (take at input) + lineEnds (take n (drop at input))
 ends-further input at n = ap lineEnds (take-add at n input) ∙ ends-append (take at input) (take n (drop at input))
 
 -- no more lines than bytes

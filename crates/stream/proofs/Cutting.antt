@@ -19,15 +19,15 @@ use Rattle.stream.proofs.Feed.{still, stops-conserves, drop-nonempty, c
 -- The calls at the end.
 
 -- the pending bytes have room
-abbrev finished : Model → ℕ → Fed
-finished m r =
+abbrev fedAtEnd : Model → ℕ → Fed
+fedAtEnd m r =
     record {
       model = record { line = held []; pending = drop r (answerAtEnd (m .line)) };
       consumed = 0;
       produced = m .pending ++ take r (answerAtEnd (m .line));
     }
 
-pub finish-on : (m : Model) (room : ℕ) → length (m .pending) ≤ room → finishing m room ≡ finished m (room - length (m .pending))
+pub finish-on : (m : Model) (room : ℕ) → length (m .pending) ≤ room → finishing m room ≡ fedAtEnd m (room - length (m .pending))
 unfolding finishing
 finish-on m room h = rw (le-leb (length (m .pending)) room h, finishing)
 
@@ -73,15 +73,18 @@ done-leaves m room d =
     rw e (append-nil (drop (room - length (m .pending)) (answerAtEnd (m .line))) ∙ empty-is _ (rw e at d))
 
 ending-gives : {m : Model} {o : List ℕ} → Ending m o → o ≡ still m []
-ending-gives {m} (done room d) = sym (append-nil _) ∙ ap (λ (l : List ℕ). finishing m room .produced ++ l) (sym (done-leaves m room d)) ∙ finish-conserves m room
+ending-gives {m} (done room d) =
+    let none = ap (λ (l : List ℕ). finishing m room .produced ++ l) (sym (done-leaves m room d)) in
+    sym (append-nil _) ∙ none ∙ finish-conserves m room
 ending-gives {m} (more room e) = ap (λ (l : List ℕ). finishing m room .produced ++ l) (ending-gives e) ∙ finish-conserves m room
 
 pub finish-fits : FinishFits
 finish-fits m room =
     ⊎-elim
     (λ (h : length (m .pending) ≤ room).
-    rw (finish-on m room h, length-append, length-take)
-    (let z : min (room - length (m .pending)) (length (answerAtEnd (m .line))) ≤ room - length (m .pending) = min-le-left _ _ in omega arith))
+    let left = room - length (m .pending) in
+    let z : min left (length (answerAtEnd (m .line))) ≤ left = min-le-left _ _ in
+    rw (finish-on m room h, length-append, length-take) (omega arith))
     (λ (h : room < length (m .pending)). rw (finish-stop m room h, length-take) (min-le-left room (length (m .pending))))
     (le-or-lt (length (m .pending)) room)
 
@@ -92,8 +95,9 @@ finish-stops m room =
     (λ (h : length (m .pending) ≤ room).
     rw (finish-on m room h)
     (⊎-elim (λ (k : length end ≤ left). inl (rw (drop-of-length-le end k) tt))
-    (λ (k : left < length end). inr (length-append (m .pending) (take left end) ∙ (let z : length (take left end) ≡ left = length-take-le left end (le-of-lt k) in omega arith)))
-    (le-or-lt (length end) left)))
+    (λ (k : left < length end).
+    let z : length (take left end) ≡ left = length-take-le left end (le-of-lt k) in
+    inr (length-append (m .pending) (take left end) ∙ omega arith)) (le-or-lt (length end) left)))
     (λ (h : room < length (m .pending)). rw (finish-stop m room h) (inr (length-take-le room (m .pending) (le-of-lt h))))
     (le-or-lt (length (m .pending)) room)
   where
@@ -115,4 +119,7 @@ calls-give {m} {m′} (call {i} {o} s room cs) t =
 
 pub any-cutting : AnyCutting
 any-cutting i o o′ m cs e =
-    ap (λ (l : List ℕ). o ++ l) (ending-gives e) ∙ calls-give cs [] ∙ ap (λ (l : List ℕ). outputFrom (held []) l) (append-nil i) ∙ output-whole i
+    ap (λ (l : List ℕ). o ++ l) (ending-gives e)
+    ∙ calls-give cs []
+    ∙ ap (λ (l : List ℕ). outputFrom (held []) l) (append-nil i)
+    ∙ output-whole i

@@ -22,7 +22,8 @@ still m s = m .pending ++ outputFrom (m .line) s
 Conserves : Partial → List ℕ → List ℕ → Fed → Type 0
 Conserves p o s f = (t : List ℕ) → f .produced ++ still (f .model) t ≡ o ++ outputFrom p (take (f .consumed) s ++ t)
 
-pub stops-conserves : (p : Partial) (o : List ℕ) (room : ℕ) (t : List ℕ) → take room o ++ (drop room o ++ outputFrom p t) ≡ o ++ outputFrom p t
+pub stops-conserves : (p : Partial) (o : List ℕ) (room : ℕ) (t : List ℕ)
+    → take room o ++ (drop room o ++ outputFrom p t) ≡ o ++ outputFrom p t
 stops-conserves p o room t = sym (append-assoc (take room o) (drop room o) (outputFrom p t)) ∙ rw (take-append-drop room o)
 
 -- the two cases of a call with at least one byte of input
@@ -41,7 +42,8 @@ feed-conserves p o (b ∷ s) room =
     let f : Fed = feedFrom (lineAfter p b) (answerAfter p b) s (room - length o) in
     let next : Conserves (lineAfter p b) (answerAfter p b) s f = feed-conserves (lineAfter p b) (answerAfter p b) s (room - length o) in
     ⊎-elim
-    (λ (h : length o ≤ room). rw (feed-on p o b s room h) (λ t. append-assoc o (f .produced) (still (f .model) t) ∙ ap (λ (l : List ℕ). o ++ l) (next t)))
+    (λ (h : length o ≤ room).
+    rw (feed-on p o b s room h) (λ t. append-assoc o (f .produced) (still (f .model) t) ∙ ap (λ (l : List ℕ). o ++ l) (next t)))
     (λ (h : room < length o). rw (feed-stop p o (b ∷ s) room h) (λ t. stops-conserves p o room t)) (le-or-lt (length o) room)
 
 pub conserved : (m : Model) (s : List ℕ) (room : ℕ) (t : List ℕ)
@@ -65,7 +67,8 @@ stopped-full p o s room h = inr (length-take-le room o (le-of-lt h), drop-nonemp
 feed-stops-from : (p : Partial) (o s : List ℕ) (room : ℕ) → Stops s room (feedFrom p o s room)
 unfolding Stops
 feed-stops-from p o [] room =
-    ⊎-elim (λ (h : length o ≤ room). inl (refl, drop-of-length-le o h)) (λ (h : room < length o). stopped-full p o [] room h) (le-or-lt (length o) room)
+    ⊎-elim (λ (h : length o ≤ room). inl (refl, drop-of-length-le o h)) (λ (h : room < length o). stopped-full p o [] room h)
+    (le-or-lt (length o) room)
 feed-stops-from p o (b ∷ s) room =
     let f : Fed = feedFrom (lineAfter p b) (answerAfter p b) s (room - length o) in
     let next : Stops s (room - length o) f = feed-stops-from (lineAfter p b) (answerAfter p b) s (room - length o) in

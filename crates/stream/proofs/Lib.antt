@@ -4,7 +4,7 @@ pub mod Feed
 pub mod Cutting
 pub mod Progress
 pub mod Counting
-pub mod Cases
+pub mod Examples
 pub mod OneAnswer
 pub mod Bounds
 pub mod Claims

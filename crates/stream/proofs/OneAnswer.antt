@@ -12,25 +12,26 @@ use Rattle.code.specs.Profiles.{profile}
 use Rattle.code.specs.Refusal.{firstRefusal}
 use Rattle.code.specs.Operations.{Answer, refused, answered, readUnless}
 use Rattle.code.proofs.Merge.{cases}
-use Rattle.stream.specs.Line.{digit, decimalBefore, decimal, letter, refusalLine, readingLine, answerLine, profileOf, symbolsOf, lineTests, lineAnswer}
+use Rattle.stream.specs.Line.{digitByte, decimalBefore, decimal, letter, refusalLine, readingLine, answerLine, profileOf, symbolsOf}
+use Rattle.stream.specs.Line.{lineTests, lineAnswer}
 use Rattle.stream.specs.Feed.{Partial, held, tooLong, answerTo, answerAtEnd, lineAfterAll, lineEnds, lastLines}
 use Rattle.stream.specs.Claims.{OneAnswerEach}
 use Rattle.stream.proofs.Whole.{outputFrom, output-whole, line-ends, line-grows}
 use Rattle.stream.proofs.Counting.{ends-append}
 
 -- digits are no byte 10
-ends-digit : (d : ℕ) (t : List ℕ) → lineEnds (digit d ∷ t) ≡ lineEnds t
+ends-digit : (d : ℕ) (t : List ℕ) → lineEnds (digitByte d ∷ t) ≡ lineEnds t
 ends-digit d t = let e : eqb (48 + d) 10 ≡ false = ne-eqb (48 + d) 10 (λ h. omega arith) in rw (e, lineEnds)
 
-ends-digits : (a t : List ℕ) → lineEnds (map digit a ++ t) ≡ lineEnds t
+ends-digits : (a t : List ℕ) → lineEnds (map digitByte a ++ t) ≡ lineEnds t
 ends-digits [] t = refl
-ends-digits (d ∷ a) t = ends-digit d (map digit a ++ t) ∙ ends-digits a t
+ends-digits (d ∷ a) t = ends-digit d (map digitByte a ++ t) ∙ ends-digits a t
 
 ends-decimal-before : (k n : ℕ) (t : List ℕ) → lineEnds (decimalBefore k n t) ≡ lineEnds t
 ends-decimal-before zero n t = refl
 ends-decimal-before (suc k) n t =
     cases (ltb n 10) (λ e. rw (e, decimalBefore) (ends-digit n t))
-    (λ e. rw (e, decimalBefore) (ends-decimal-before k (n / 10) (digit (n % 10) ∷ t) ∙ ends-digit (n % 10) t))
+    (λ e. rw (e, decimalBefore) (ends-decimal-before k (n / 10) (digitByte (n % 10) ∷ t) ∙ ends-digit (n % 10) t))
 
 ends-decimal : (n : ℕ) (t : List ℕ) → lineEnds (decimal n t) ≡ lineEnds t
 unfolding decimal
@@ -42,21 +43,21 @@ ends-refusal : (n : ℕ) → lineEnds (refusalLine n) ≡ 1
 unfolding refusalLine
 ends-refusal n = ends-decimal n (10 ∷ [])
 
-ends-words : (a b : List ℕ) → lineEnds (map digit a ++ 32 ∷ (map digit b ++ 10 ∷ [])) ≡ 1
-ends-words a b = ends-digits a (32 ∷ (map digit b ++ 10 ∷ [])) ∙ ends-digits b (10 ∷ [])
+ends-words : (a b : List ℕ) → lineEnds (map digitByte a ++ 32 ∷ (map digitByte b ++ 10 ∷ [])) ≡ 1
+ends-words a b = ends-digits a (32 ∷ (map digitByte b ++ 10 ∷ [])) ∙ ends-digits b (10 ∷ [])
 
 ends-letter : (f : Finding) (t : List ℕ) → lineEnds (letter f ∷ t) ≡ lineEnds t
 ends-letter clean t = refl
 ends-letter (corrected c) t = refl
 
-ends-reading : (i : ℕ) (k : Finding) (place y : ℕ) (a b : List ℕ) → lineEnds (readingLine i (letter k) place y a b) ≡ 1
+ends-reading : (i : ℕ) (k : Finding) (position y : ℕ) (a b : List ℕ) → lineEnds (readingLine i (letter k) position y a b) ≡ 1
 unfolding readingLine
-ends-reading i k place y a b =
-    let words : List ℕ = 32 ∷ (map digit a ++ 32 ∷ (map digit b ++ 10 ∷ [])) in
+ends-reading i k position y a b =
+    let words : List ℕ = 32 ∷ (map digitByte a ++ 32 ∷ (map digitByte b ++ 10 ∷ [])) in
     let rest : List ℕ = 32 ∷ decimal y words in
-    ends-digit i (32 ∷ letter k ∷ 32 ∷ decimal place rest)
-    ∙ ends-letter k (32 ∷ decimal place rest)
-    ∙ ends-decimal place rest
+    ends-digit i (32 ∷ letter k ∷ 32 ∷ decimal position rest)
+    ∙ ends-letter k (32 ∷ decimal position rest)
+    ∙ ends-decimal position rest
     ∙ ends-decimal y words
     ∙ ends-words a b
 

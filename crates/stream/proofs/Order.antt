@@ -8,7 +8,8 @@ use Rattle.modular.proofs.Search.{holds}
 use Rattle.code.specs.Refusal.{Test, asks}
 use Rattle.code.specs.Operations.{decodeAnswer}
 use Rattle.code.proofs.Refusal.{past, stops}
-use Rattle.stream.specs.Line.{isShort, hasForm, profileOf, symbolsOf, refusalLine, answerLine, readTests, readAnswer, lineUnless, lineAnswer}
+use Rattle.stream.specs.Line.{isShort, hasForm, profileOf, symbolsOf, refusalLine, answerLine, readTests, readAnswer, lineUnless}
+use Rattle.stream.specs.Line.{lineAnswer}
 
 module _ (l : List ℕ) where
   abbrev form : Test

@@ -11,7 +11,7 @@ use lib.Dec.{T}
 use lib.ListN.{length, take, drop, length-append, length-drop, take-append-drop}
 use lib.Seq.{take-all, take-length, drop-drop}
 use Rattle.modular.proofs.Search.{le-or-lt}
-use Rattle.stream.specs.Feed.{Model, feed, finishing, isDone, lineEnds, linesFinished}
+use Rattle.stream.specs.Feed.{Model, Fed, feed, finishing, isDone, lineEnds, linesFinished}
 use Rattle.stream.proofs.Feed.{still, conserved, feed-fits, feed-stops}
 use Rattle.stream.proofs.Cutting.{finish-conserves, finish-stops, finish-fits}
 
@@ -41,16 +41,20 @@ pub piece-length : (input : List ℕ) (at : ℕ) → length (piece input at) ≡
 piece-length input at = ap length (piece-is input at) ∙ length-drop at input
 
 -- a call with any piece
-pub call-fits : (m : Model) (s : List ℕ) (room consumed produced : ℕ) → consumed ≡ feed m s room .consumed → produced ≡ length (feed m s room .produced)
-    → (consumed ≤ length s) × (produced ≤ room)
+pub call-fits : (m : Model) (s : List ℕ) (room consumed produced : ℕ) → consumed ≡ feed m s room .consumed
+    → produced ≡ length (feed m s room .produced) → (consumed ≤ length s) × (produced ≤ room)
 call-fits m s room consumed produced e f = rw (e, f) (feed-fits m s room)
 
--- What the contract of `lines::step` says of a call with the input from an index on: the models before and after it, the bytes that it took
--- and put out, and the lines that it answered.
+-- a call with the input from an index on
+abbrev pub fedAt : Model → List ℕ → ℕ → ℕ → Fed
+fedAt m input at room = feed m (piece input at) room
+
+-- What the contract of `lines::step` says of such a call: the models before and after it, the bytes that it took and put out, and the lines
+-- that it answered.
 pub record StepCall (input : List ℕ) (at room : ℕ) (m m′ : Model) (consumed produced answered : ℕ) : Type 0 where
-  pub model : m′ ≡ feed m (piece input at) room .model
-  pub taken : consumed ≡ feed m (piece input at) room .consumed
-  pub put : produced ≡ length (feed m (piece input at) room .produced)
+  pub model : m′ ≡ fedAt m input at room .model
+  pub taken : consumed ≡ fedAt m input at room .consumed
+  pub put : produced ≡ length (fedAt m input at room .produced)
   pub counted : answered ≡ lineEnds (take consumed (piece input at))
 
 module _ {input : List ℕ} {at room : ℕ} {m m′ : Model} {consumed produced answered : ℕ}
@@ -62,9 +66,10 @@ module _ {input : List ℕ} {at room : ℕ} {m m′ : Model} {consumed produced 
   step-fits = call-fits m (piece input at) room consumed produced (c .taken) (c .put) .1
 
   -- a call that does not fill its output takes the whole piece and leaves nothing pending
-  step-rests : produced < room → (feed m (piece input at) room .consumed ≡ length (piece input at)) × (feed m (piece input at) room .model .pending ≡ [])
+  step-rests : produced < room
+      → (fedAt m input at room .consumed ≡ length (piece input at)) × (fedAt m input at room .model .pending ≡ [])
   step-rests h =
-      ⊎-elim (λ k. k) (λ k. absurd (let e : length (feed m (piece input at) room .produced) ≡ room = k .0 in omega (arith, c .put)))
+      ⊎-elim (λ k. k) (λ k. absurd (let e : length (fedAt m input at room .produced) ≡ room = k .0 in omega (arith, c .put)))
       (feed-stops m (piece input at) room)
 
   pub step-empties : produced < room → m′ .pending ≡ []
@@ -84,7 +89,8 @@ pub record FinishCall (room : ℕ) (m m′ : Model) (produced answered : ℕ) : 
   pub put : produced ≡ length (finishing m room .produced)
   pub counted : answered ≡ linesFinished m room
 
-finish-less : (m : Model) (room : ℕ) → 0 < length (finishing m room .produced) → length (still (finishing m room .model) []) < length (still m [])
+finish-less : (m : Model) (room : ℕ) → 0 < length (finishing m room .produced)
+    → length (still (finishing m room .model) []) < length (still m [])
 finish-less m room h =
     omega (arith, ap length (finish-conserves m room), length-append (finishing m room .produced) (still (finishing m room .model) []))
 
@@ -94,5 +100,6 @@ module _ {room : ℕ} {m m′ : Model} {produced answered : ℕ} (c : FinishCall
 
   pub finish-goes-on : false ≡ isDone (finishing m room) → 0 < room → length (still m′ []) < length (still m [])
   finish-goes-on d h =
-      rw (c .model)
-      (finish-less m room (⊎-elim (λ (t : T (isDone (finishing m room))). absurd (rw (sym d) at t)) (λ e. omega arith) (finish-stops m room)))
+      let some : 0 < length (finishing m room .produced) =
+      ⊎-elim (λ (t : T (isDone (finishing m room))). absurd (rw (sym d) at t)) (λ e. omega arith) (finish-stops m room) in
+      rw (c .model) (finish-less m room some)

@@ -42,8 +42,8 @@ extended-full l b h = rw (le-ltb (length l) 101 h, extended)
 
 pub answer-clip : (l : List ℕ) → answerTo (clip l) ≡ lineAnswer l
 answer-clip l =
-    ⊎-elim (λ (h : length l ≤ 101). ap answerTo (clip-short l h)) (λ (h : 101 < length l). ap answerTo (clip-long l h) ∙ sym (long-line l h))
-    (le-or-lt (length l) 101)
+    ⊎-elim (λ (h : length l ≤ 101). ap answerTo (clip-short l h))
+    (λ (h : 101 < length l). ap answerTo (clip-long l h) ∙ sym (long-line l h)) (le-or-lt (length l) 101)
 
 last-clip : (l : List ℕ) → answerAtEnd (clip l) ≡ lastAnswer l
 last-clip [] = refl
@@ -54,7 +54,11 @@ last-clip (b ∷ l) =
 
 pub extended-clip : (l : List ℕ) (b : ℕ) → extended (clip l) b ≡ clip (l ++ b ∷ [])
 extended-clip l b =
-    ⊎-elim (λ (h : length l ≤ 100). ap (λ (p : Partial). extended p b) (clip-short l (omega arith)) ∙ extended-room l b (omega arith) ∙ sym (clip-short (l ++ b ∷ []) (omega (arith, longer))))
+    ⊎-elim
+    (λ (h : length l ≤ 100).
+    ap (λ (p : Partial). extended p b) (clip-short l (omega arith))
+    ∙ extended-room l b (omega arith)
+    ∙ sym (clip-short (l ++ b ∷ []) (omega (arith, longer))))
     (λ (h : 100 < length l). full h ∙ sym (clip-long (l ++ b ∷ []) (omega (arith, longer)))) (le-or-lt (length l) 100)
   where
     longer : length (l ++ b ∷ []) ≡ length l + 1

@@ -8,7 +8,7 @@ use lib.Dec.{T}
 use lib.ListN.{length, take}
 use Rattle.stream.specs.Line.{refusalLine, lineAnswer}
 use Rattle.stream.specs.Stream.{streamOutput}
-use Rattle.stream.specs.Cases.{AllPrint, cases}
+use Rattle.stream.specs.Examples.{AllPrint, examples}
 use Rattle.stream.specs.Feed.{held, Model, begin, feed, finishing, isDone, lineAfterAll, lineEnds, lastLines}
 
 -- Calls over an input cut anywhere, into outputs of any size.
@@ -56,8 +56,8 @@ abbrev pub OneAnswerEach : Type 0
 OneAnswerEach = (i : List ℕ) → lineEnds (streamOutput i) ≡ lineEnds i + lastLines (lineAfterAll (held []) i)
 
 -- 01's example, whole, and short inputs
-abbrev pub CasesPrint : Type 0
-CasesPrint = AllPrint cases
+abbrev pub ExamplesPrint : Type 0
+ExamplesPrint = AllPrint examples
 
 pub record Claims : Type 0 where
   pub any-cutting : AnyCutting
@@ -67,4 +67,4 @@ pub record Claims : Type 0 where
   pub finish-stops : FinishStops
   pub long-line : LongLine
   pub one-answer-each : OneAnswerEach
-  pub cases-print : CasesPrint
+  pub examples-print : ExamplesPrint

@@ -1,5 +1,5 @@
 pub mod Line
 pub mod Stream
 pub mod Feed
-pub mod Cases
+pub mod Examples
 pub mod Claims

@@ -30,26 +30,26 @@ abbrev pub isShort : List ℕ → Bool
 isShort l = leb (length l) 101
 
 -- the value of a digit
-abbrev pub value : ℕ → ℕ
-value b = b - 48
+abbrev pub digitValue : ℕ → ℕ
+digitValue b = b - 48
 
 -- the profile of a line, and its symbols
 abbrev pub profileOf : List ℕ → ℕ
-profileOf l = value (getD l 0 0)
+profileOf l = digitValue (getD l 0 0)
 
 abbrev pub symbolsOf : List ℕ → List ℕ
-symbolsOf l = map value (drop 2 l)
+symbolsOf l = map digitValue (drop 2 l)
 
 -- What comes out.
 
-abbrev pub digit : ℕ → ℕ
-digit d = 48 + d
+abbrev pub digitByte : ℕ → ℕ
+digitByte d = 48 + d
 
 -- n in decimal, with no leading zero and at most k digits, before what follows it
 abbrev pub decimalBefore : ℕ → ℕ → List ℕ → List ℕ
 decimalBefore zero n after = after
 decimalBefore (suc k) n after =
-    elim (ltb n 10) [ true ↦ digit n ∷ after | false ↦ decimalBefore k (n / 10) (digit (n % 10) ∷ after) ]
+    elim (ltb n 10) [ true ↦ digitByte n ∷ after | false ↦ decimalBefore k (n / 10) (digitByte (n % 10) ∷ after) ]
 
 -- a number of up to 20 digits, as 64 bits hold, with what follows it
 unfoldable pub decimal : ℕ → List ℕ → List ℕ
@@ -66,8 +66,8 @@ refusalLine n = 82 ∷ 32 ∷ decimal n (10 ∷ [])
 
 -- profile, the kind's letter, place, sent symbol, first word, second word
 unfoldable pub readingLine : ℕ → ℕ → ℕ → ℕ → List ℕ → List ℕ → List ℕ
-readingLine i c place y a b =
-    digit i ∷ 32 ∷ c ∷ 32 ∷ decimal place (32 ∷ decimal y (32 ∷ (map digit a ++ 32 ∷ (map digit b ++ 10 ∷ []))))
+readingLine i c position y a b =
+    digitByte i ∷ 32 ∷ c ∷ 32 ∷ decimal position (32 ∷ decimal y (32 ∷ (map digitByte a ++ 32 ∷ (map digitByte b ++ 10 ∷ []))))
 
 -- the output for what Read answers of a word of profile i
 abbrev pub answerLine : ℕ → Answer → List ℕ

@@ -24,7 +24,7 @@ Inv-loop input output₀ state₀ at₀ lines₀ output state at lines =
 abbrev μ-loop : tie.MeasureT-loop
 μ-loop input output₀ state₀ at₀ lines₀ output state at lines = length (still (modelOf state) (drop at input))
 
--- the places before a place: the call of step, the loop's head, the start
+-- the moments before a moment: the call of step, the loop's head, the start
 abbrev called : tie.After-write-all Inv-loop μ-loop → tie.After-step Inv-loop μ-loop
 called c = c .before .before .before .before .before .before .before
 
@@ -63,69 +63,56 @@ step-requires : tie.Need-step-requires Inv-loop μ-loop
 step-requires c κs = tt
 
 add-at : tie.Need-add-at Inv-loop μ-loop
-add-at c = let st = c .before .before .before .before in omega (arith, after st .within)
+add-at c = let stepped = c .before .before .before .before in omega (arith, after stepped .within)
 
 add-lines : tie.Need-add-lines Inv-loop μ-loop
 add-lines c =
-    let st = c .before .before .before .before .before in
-    let s = after st in
-    omega (arith, s .within, s .counted, ends-few (head st .loop .at + st .step .result .consumed) (now (started (head st) .args .input)))
+    let stepped = c .before .before .before .before .before in
+    let s = after stepped in
+    let l = head stepped in
+    omega (arith, s .within, s .counted, ends-few (l .loop .at + stepped .step .result .consumed) (now (started l .args .input)))
 
 slice-reshare-prefix-write-all : tie.Need-slice-reshare-prefix-write-all Inv-loop μ-loop
-slice-reshare-prefix-write-all c = let st = c .before .before .before .before .before in omega (arith, step-fits (call st), kept st)
+slice-reshare-prefix-write-all c =
+    let stepped = c .before .before .before .before .before in
+    omega (arith, step-fits (call stepped), kept stepped)
 
 slice-aggregate-write-all : tie.Need-slice-aggregate-write-all Inv-loop μ-loop
 slice-aggregate-write-all c =
-    let st = c .before .before .before .before .before .before in
-    sym (length-take-le _ _ (omega (arith, step-fits (call st), kept st)))
+    let stepped = c .before .before .before .before .before .before in
+    sym (length-take-le _ _ (omega (arith, step-fits (call stepped), kept stepped)))
 
 write-all-requires : tie.Need-write-all-requires Inv-loop μ-loop
 write-all-requires c κs = tt
 
 same-length : tie.Need-same-length Inv-loop μ-loop
-same-length c = let st = called (c .before) in kept st ∙ head st .loop .inv .1
+same-length c = let stepped = called (c .before) in kept stepped ∙ head stepped .loop .inv .1
 
 returns : tie.Need-returns Inv-loop μ-loop
 unfolding AnswersPiece
 returns c = refl
 
 same-length-2 : tie.Need-same-length-2 Inv-loop μ-loop
-same-length-2 c = let st = called (c .before .before) in kept st ∙ head st .loop .inv .1
+same-length-2 c = let stepped = called (c .before .before) in kept stepped ∙ head stepped .loop .inv .1
 
 returns-2 : tie.Need-returns-2 Inv-loop μ-loop
 unfolding AnswersPiece
 returns-2 c =
-    let st = called (c .before .before) in
-    settles (call st) (head st .loop .inv .0) (omega (arith, kept st, c .if2 .taken))
+    let stepped = called (c .before .before) in
+    settles (call stepped) (head stepped .loop .inv .0) (omega (arith, kept stepped, c .if2 .taken))
 
 loop-less : tie.Need-loop-less Inv-loop μ-loop
 loop-less c =
-    let st = called (c .before .before) in
-    let l = head st in
-    step-less (call st) (omega (arith, started l .pre, l .loop .inv .1, kept st, c .if2 .left))
+    let stepped = called (c .before .before) in
+    let l = head stepped in
+    step-less (call stepped) (omega (arith, started l .pre, l .loop .inv .1, kept stepped, c .if2 .left))
 
 loop-again : tie.Need-loop-again Inv-loop μ-loop
-loop-again c = let st = called (c .before .before) in (after st, kept st ∙ head st .loop .inv .1)
+loop-again c = let stepped = called (c .before .before) in (after stepped, kept stepped ∙ head stepped .loop .inv .1)
 
 pub answer-spec : {M : Type 1} → statement M
 answer-spec =
     tie.close
-    (tie.spec
-    Inv-loop
-    μ-loop
-    loop-holds
-    sub-step
-    part-step-start
-    part-step-end
-    step-requires
-    add-at
-    add-lines
-    slice-reshare-prefix-write-all
-    slice-aggregate-write-all
-    write-all-requires
-    same-length
-    returns
-    same-length-2
-    returns-2
-    loop-less
+    (tie.spec Inv-loop μ-loop loop-holds sub-step part-step-start part-step-end step-requires add-at add-lines
+    slice-reshare-prefix-write-all slice-aggregate-write-all write-all-requires same-length returns same-length-2 returns-2 loop-less
     loop-again)

@@ -20,7 +20,7 @@ Inv-loop output₀ state₀ lines₀ output state lines =
 abbrev μ-loop : tie.MeasureT-loop
 μ-loop output₀ state₀ lines₀ output state lines = length (still (modelOf state) [])
 
--- the places before a place: the call of finish, the loop's head, the start
+-- the moments before a moment: the call of finish, the loop's head, the start
 abbrev called : tie.After-write-all Inv-loop μ-loop → tie.After-finish Inv-loop μ-loop
 called c = c .before .before .before .before .before .before
 
@@ -45,61 +45,51 @@ finish-requires : tie.Need-finish-requires Inv-loop μ-loop
 finish-requires c κs = tt
 
 add-lines : tie.Need-add-lines Inv-loop μ-loop
-add-lines c = let st = c .before .before .before .before in omega (arith, last-few (call st) (head st .loop .inv .1))
+add-lines c = let finished = c .before .before .before .before in omega (arith, last-few (call finished) (head finished .loop .inv .1))
 
 slice-reshare-prefix-write-all : tie.Need-slice-reshare-prefix-write-all Inv-loop μ-loop
-slice-reshare-prefix-write-all c = let st = c .before .before .before .before in omega (arith, finish-within (call st), kept st)
+slice-reshare-prefix-write-all c =
+    let finished = c .before .before .before .before in
+    omega (arith, finish-within (call finished), kept finished)
 
 slice-aggregate-write-all : tie.Need-slice-aggregate-write-all Inv-loop μ-loop
 slice-aggregate-write-all c =
-    let st = c .before .before .before .before .before in
-    sym (length-take-le _ _ (omega (arith, finish-within (call st), kept st)))
+    let finished = c .before .before .before .before .before in
+    sym (length-take-le _ _ (omega (arith, finish-within (call finished), kept finished)))
 
 write-all-requires : tie.Need-write-all-requires Inv-loop μ-loop
 write-all-requires c κs = tt
 
 same-length : tie.Need-same-length Inv-loop μ-loop
-same-length c = let st = called (c .before) in kept st ∙ head st .loop .inv .0
+same-length c = let finished = called (c .before) in kept finished ∙ head finished .loop .inv .0
 
 returns : tie.Need-returns Inv-loop μ-loop
 unfolding AnswersEnd
 returns c = refl
 
 same-length-2 : tie.Need-same-length-2 Inv-loop μ-loop
-same-length-2 c = let st = called (c .before .before) in kept st ∙ head st .loop .inv .0
+same-length-2 c = let finished = called (c .before .before) in kept finished ∙ head finished .loop .inv .0
 
 returns-2 : tie.Need-returns-2 Inv-loop μ-loop
 unfolding AnswersEnd
 returns-2 c =
-    let st = called (c .before .before) in
-    last-done (call st) (head st .loop .inv .1) (sym (c .if2 .taken) ∙ st .finish .ensures .1 .1 .1 .0)
+    let finished = called (c .before .before) in
+    last-done (call finished) (head finished .loop .inv .1) (sym (c .if2 .taken) ∙ finished .finish .ensures .1 .1 .1 .0)
 
 loop-less : tie.Need-loop-less Inv-loop μ-loop
 loop-less c =
-    let st = called (c .before .before) in
-    let l = head st in
-    finish-goes-on (call st) (sym (c .if2 .left) ∙ st .finish .ensures .1 .1 .1 .0) (omega (arith, started l .pre, l .loop .inv .0))
+    let finished = called (c .before .before) in
+    let l = head finished in
+    let more = sym (c .if2 .left) ∙ finished .finish .ensures .1 .1 .1 .0 in
+    finish-goes-on (call finished) more (omega (arith, started l .pre, l .loop .inv .0))
 
 loop-again : tie.Need-loop-again Inv-loop μ-loop
 loop-again c =
-    let st = called (c .before .before) in
-    (kept st ∙ head st .loop .inv .0, last-further (call st) (head st .loop .inv .1))
+    let finished = called (c .before .before) in
+    (kept finished ∙ head finished .loop .inv .0, last-further (call finished) (head finished .loop .inv .1))
 
 pub finish-spec : {M : Type 1} → statement M
 finish-spec =
     tie.close
-    (tie.spec
-    Inv-loop
-    μ-loop
-    loop-holds
-    finish-requires
-    add-lines
-    slice-reshare-prefix-write-all
-    slice-aggregate-write-all
-    write-all-requires
-    same-length
-    returns
-    same-length-2
-    returns-2
-    loop-less
-    loop-again)
+    (tie.spec Inv-loop μ-loop loop-holds finish-requires add-lines slice-reshare-prefix-write-all slice-aggregate-write-all
+    write-all-requires same-length returns same-length-2 returns-2 loop-less loop-again)

@@ -29,10 +29,10 @@ slice-aggregate-turn : tie.Need-slice-aggregate-turn Inv-loop μ-loop
 slice-aggregate-turn c = sym (c .before .before .loop .inv .0)
 
 slice-aggregate-turn-2 : tie.Need-slice-aggregate-turn-2 Inv-loop μ-loop
-slice-aggregate-turn-2 c = sym (c .before .before .before .loop .inv .1)
+slice-aggregate-turn-2 c = let head = c .before .before .before in sym (head .loop .inv .1)
 
 turn-requires : tie.Need-turn-requires Inv-loop μ-loop
-turn-requires c κs = omega (arith, c .before .before .before .loop .inv .1)
+turn-requires c κs = let head = c .before .before .before in omega (arith, head .loop .inv .1)
 
 wrapping-add-u64-requires : tie.Need-wrapping-add-u64-requires Inv-loop μ-loop
 wrapping-add-u64-requires c κs = tt
@@ -40,8 +40,8 @@ wrapping-add-u64-requires c κs = tt
 enum-told : tie.Need-enum-told Inv-loop μ-loop
 enum-told c = search needs
 
-report-requires : tie.Need-report-requires Inv-loop μ-loop
-report-requires c κs = tt
+print-status-requires : tie.Need-print-status-requires Inv-loop μ-loop
+print-status-requires c κs = tt
 
 returns : tie.Need-returns Inv-loop μ-loop
 returns c = tt
@@ -54,9 +54,9 @@ loop-less c = omega arith
 
 loop-again : tie.Need-loop-again Inv-loop μ-loop
 loop-again c =
-    let t = c .before .before .before .before .before .before in
-    let l = t .before .before .before .before in
-    (t .turn .kept .1 .0 ∙ l .loop .inv .0, t .turn .kept .1 .1 .0 ∙ l .loop .inv .1)
+    let turned = c .before .before .before .before .before .before in
+    let head = turned .before .before .before .before in
+    (turned .turn .kept .1 .0 ∙ head .loop .inv .0, turned .turn .kept .1 .1 .0 ∙ head .loop .inv .1)
 
 returns-2 : tie.Need-returns-2 Inv-loop μ-loop
 returns-2 c = tt
@@ -64,21 +64,6 @@ returns-2 c = tt
 pub main-spec : {M : Type 1} → statement M
 main-spec =
     tie.close
-    (tie.spec
-    Inv-loop
-    μ-loop
-    large-buffer-requires
-    large-buffer-requires-2
-    start-requires
-    loop-holds
-    slice-aggregate-turn
-    slice-aggregate-turn-2
-    turn-requires
-    wrapping-add-u64-requires
-    enum-told
-    report-requires
-    returns
-    sub-turns
-    loop-less
-    loop-again
+    (tie.spec Inv-loop μ-loop large-buffer-requires large-buffer-requires-2 start-requires loop-holds slice-aggregate-turn
+    slice-aggregate-turn-2 turn-requires wrapping-add-u64-requires enum-told print-status-requires returns sub-turns loop-less loop-again
     returns-2)

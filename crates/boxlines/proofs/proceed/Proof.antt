@@ -35,13 +35,4 @@ returns-3 c = search (needs, read-some)
 pub proceed-spec : {M : Type 1} → statement M
 proceed-spec =
     tie.close
-    (tie.spec
-    returns
-    finish-requires
-    same-length
-    returns-2
-    count-requires
-    slice-aggregate-answer
-    answer-requires
-    same-length-2
-    returns-3)
+    (tie.spec returns finish-requires same-length returns-2 count-requires slice-aggregate-answer answer-requires same-length-2 returns-3)

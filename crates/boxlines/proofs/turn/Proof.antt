@@ -19,7 +19,10 @@ same-length-2 : tie.Need-same-length-2
 same-length-2 c = search needs
 
 returns : tie.Need-returns
-returns c = (toZ w64 (ofZ w64 (c .before .before .before .before .before .before .before .read .result)), c .before .before .proceed .ensures)
+returns c =
+    let proceeded = c .before .before in
+    let got = proceeded .before .before .before .before .before in
+    (toZ w64 (ofZ w64 (got .read .result)), proceeded .proceed .ensures)
 
 pub turn-spec : {M : Type 1} → statement M
 turn-spec = tie.close (tie.spec read-requires proceed-requires same-length same-length-2 returns)

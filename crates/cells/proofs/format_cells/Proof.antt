@@ -26,13 +26,24 @@ Q c = now (c .before .before .args .queue)
 length-ok : (c : tie.Else1) → isQueueLength (length (Q (c .before))) ≡ true
 length-ok c = sym (c .before .is-length .ensures) ∙ not-false _ (c .if1 .left)
 
-cleared : (c : tie.After-clear) → length (c .clear .last .0) ≡ length (Q (c .before .before .before))
-cleared c = ap length (c .clear .ensures) ∙ length-replicate {A = ℕ} (length (Q (c .before .before .before))) 0
+-- the moment after `clear`, seen from after `link`, and where the length was tested, seen from after `clear`
+abbrev cleared : tie.After-link → tie.After-clear
+cleared c = c .before .before .before .before
 
-linked-length : (c : tie.After-link) → length (c .link .last .0) ≡ length (Q (c .before .before .before .before .before .before .before))
+abbrev tested : tie.After-clear → tie.Else1
+tested c = c .before .before
+
+-- the queue's bytes at the start
+abbrev Q₀ : tie.After-clear → List ℕ
+Q₀ c = Q (tested c .before)
+
+cleared-length : (c : tie.After-clear) → length (c .clear .last .0) ≡ length (Q₀ c)
+cleared-length c = ap length (c .clear .ensures) ∙ length-replicate {A = ℕ} (length (Q₀ c)) 0
+
+linked-length : (c : tie.After-link) → length (c .link .last .0) ≡ length (Q₀ (cleared c))
 linked-length c =
-    let k = c .before .before .before .before in
-    ap length (c .link .ensures) ∙ length-linked (k .clear .last .0) 1 (capacity (k .clear .last .0) - 1) ∙ cleared k
+    let s = cleared c .clear .last .0 in
+    ap length (c .link .ensures) ∙ length-linked s 1 (capacity s - 1) ∙ cleared-length (cleared c)
 
 is-length-requires : tie.Need-is-length-requires
 is-length-requires c κs = search needs
@@ -48,14 +59,14 @@ clear-requires c κs = search needs
 
 link-requires : tie.Need-link-requires
 link-requires c κs =
-    let k = c .before .before .before in
-    subst (λ (n : ℕ). T (isQueueLength n)) (sym (cleared k)) (holds _ (length-ok (k .before .before)))
+    let clear = c .before .before .before in
+    subst (λ (n : ℕ). T (isQueueLength n)) (sym (cleared-length clear)) (holds _ (length-ok (tested clear)))
 
 slice-write-queue : tie.Need-slice-write-queue
 slice-write-queue c =
-    let k = c .before .before .before .before .before .before in
-    let z = size-of (Q (k .before .before .before)) (holds _ (length-ok (k .before .before))) in
-    omega (arith, linked-length (c .before .before), z .long)
+    let link = c .before .before in
+    let z = size-of (Q₀ (cleared link)) (holds _ (length-ok (tested (cleared link)))) in
+    omega (arith, linked-length link, z .long)
 
 same-length : tie.Need-same-length
 same-length c = simp length-set (linked-length (c .before .before))
@@ -63,24 +74,17 @@ same-length c = simp length-set (linked-length (c .before .before))
 returns-2 : tie.Need-returns-2
 unfolding formatAnswer formatQueue formatted
 returns-2 c =
-    let l = c .before .before in
-    let k = l .before .before .before .before in
-    let s = Q (k .before .before .before) in
-    let e : isQueueLength (length s) ≡ true = length-ok (k .before .before) in
-    let same : l .link .last .0 ≡ linked (zeros (length s)) 1 (capacity s - 1) =
-    l .link .ensures
-    ∙ ap (λ (n : ℕ). linked (k .clear .last .0) 1 (n - 1)) (same-capacity s (k .clear .last .0) (cleared k))
-    ∙ ap (λ (t : List ℕ). linked t 1 (capacity s - 1)) (k .clear .ensures) in
+    let link = c .before .before in
+    let clear = cleared link in
+    let s = Q₀ clear in
+    let e : isQueueLength (length s) ≡ true = length-ok (tested clear) in
+    let same : link .link .last .0 ≡ linked (zeros (length s)) 1 (capacity s - 1) =
+    link .link .ensures
+    ∙ ap (λ (n : ℕ). linked (clear .clear .last .0) 1 (n - 1)) (same-capacity s (clear .clear .last .0) (cleared-length clear))
+    ∙ ap (λ (t : List ℕ). linked t 1 (capacity s - 1)) (clear .clear .ensures) in
     (sym e, rw e (ap (λ (t : List ℕ). set t 1 1) same))
 
 pub format-cells-spec : {M : Type 1} → statement M
 format-cells-spec =
     tie.close
-    (tie.spec
-    is-length-requires
-    returns
-    clear-requires
-    link-requires
-    slice-write-queue
-    same-length
-    returns-2)
+    (tie.spec is-length-requires returns clear-requires link-requires slice-write-queue same-length returns-2)

@@ -1,6 +1,7 @@
 -- `link` meets its contract. The invariant: what is left to link makes of the queue what all links make of it at the start.
 -- Assumes nothing.
 use mathlib.Core.Path.{_≡_, refl, sym, ap, subst, _∙_}
+use mathlib.Core.List.{List}
 use Prim.Native.Nat.{ℕ, _+_, _-_, _*_, _≤_}
 use native.Mathlib.Omega.{arith}
 use lib.ListN.{length, length-set}
@@ -19,10 +20,17 @@ Inv-loop queue₀ cells i₀ queue i = (linked queue₀ 1 (cells - 1) ≡ linked
 abbrev μ-loop : tie.MeasureT-loop
 μ-loop queue₀ cells i₀ queue i = cells - i
 
-size : (c : tie.In-loop Inv-loop μ-loop) → Size (now (c .before .before .before .before .before .args .queue)) (c .before .before .capacity .result)
+-- the start, and the queue's bytes then, seen from after `capacity`
+abbrev start : tie.After-capacity Inv-loop μ-loop → tie.Start Inv-loop μ-loop
+start c = c .before .before .before
+
+abbrev S : tie.After-capacity Inv-loop μ-loop → List ℕ
+S c = now (start c .args .queue)
+
+size : (c : tie.In-loop Inv-loop μ-loop) → Size (S (c .before .before)) (c .before .before .capacity .result)
 size c =
-    let s = c .before .before .before .before .before in
-    subst (Size (now (s .args .queue))) (sym (c .before .before .capacity .ensures)) (size-of (now (s .args .queue)) (s .pre))
+    let counted = c .before .before in
+    subst (Size (S counted)) (sym (counted .capacity .ensures)) (size-of (S counted) (start counted .pre))
 
 capacity-requires : tie.Need-capacity-requires Inv-loop μ-loop
 capacity-requires c κs = search needs
@@ -62,24 +70,12 @@ same-length c = c .before .loop .inv .1
 returns : tie.Need-returns Inv-loop μ-loop
 returns c =
     let l = c .before .loop in
-    let k = c .before .before in
-    let s = now (k .before .before .before .args .queue) in
-    sym (ap (λ (n : ℕ). linked s 1 (n - 1)) (sym (k .capacity .ensures)) ∙ l .inv .0 ∙ link-over (l .queue) (l .i) (k .capacity .result) (c .loop-test .left))
+    let counted = c .before .before in
+    let over = link-over (l .queue) (l .i) (counted .capacity .result) (c .loop-test .left) in
+    sym (ap (λ (n : ℕ). linked (S counted) 1 (n - 1)) (sym (counted .capacity .ensures)) ∙ l .inv .0 ∙ over)
 
 pub link-spec : {M : Type 1} → statement M
 link-spec =
     tie.close
-    (tie.spec
-    Inv-loop
-    μ-loop
-    capacity-requires
-    loop-holds
-    mul-at
-    add-queue
-    cast-queue
-    slice-write-queue
-    add-i
-    loop-less
-    loop-again
-    same-length
-    returns)
+    (tie.spec Inv-loop μ-loop capacity-requires loop-holds mul-at add-queue cast-queue slice-write-queue add-i loop-less loop-again
+    same-length returns)

@@ -8,16 +8,20 @@ use lib.ListN.{length, length-set}
 use lib.Seq.{getD-set-other}
 use denote.Ref.{now}
 use Rattle.sheet.specs.Lists.{zeros}
-use Rattle.sheet.specs.Layout.{cellSize, bodySize, next}
+use Rattle.sheet.specs.Layout.{cellSize, bodySize, nextCell}
 use Rattle.cells.proofs.Cells.{freed, stays}
 use borrow.Author.Needs.{needs}
 use Rattle.cells.proofs.release.Statement.{statement}
 use Rattle.cells.proofs.release.Tie as tie
 
-abbrev S : tie.After-slice-known2 → List ℕ
-S c = now (c .before .before .before .args .queue)
+abbrev start : tie.After-slice-known2 → tie.Start
+start c = c .before .before .before
 
-fit : (c : tie.Else2) → (next (S (c .before)) 0 + 1) * cellSize ≤ length (S (c .before))
+-- the bytes then
+abbrev S : tie.After-slice-known2 → List ℕ
+S c = now (start c .args .queue)
+
+fit : (c : tie.Else2) → (nextCell (S (c .before)) 0 + 1) * cellSize ≤ length (S (c .before))
 fit c = omega arith
 
 returns : tie.Need-returns
@@ -54,7 +58,7 @@ slice-write-queue-3 : tie.Need-slice-write-queue-3
 slice-write-queue-3 c = simp length-set (omega (arith, fit (c .before .before)))
 
 add-clear : tie.Need-add-clear
-add-clear c = omega (arith, c .before .before .before .slice-known2 .given 0)
+add-clear c = let fits = c .before .before in omega (arith, fits .before .slice-known2 .given 0)
 
 sub-clear : tie.Need-sub-clear
 sub-clear c = search needs
@@ -73,32 +77,17 @@ same-length c = c .before .queue .given .1 ∙ simp length-set
 
 returns-3 : tie.Need-returns-3
 returns-3 c =
-    let e = c .before .before .before .before .before .before in
-    let s = S (e .before) in
-    let z = c .before .before .clear .last .0 in
+    let cleared = c .before .before in
+    let fits = cleared .before .before .before .before in
+    let s = S (fits .before) in
+    let z = cleared .clear .last .0 in
     let same = c .before .queue .given .0 in
-    let long : length z ≡ bodySize = omega (arith, same, c .before .before .before .clear-arg .given .2) in
-    freed s z _ (fit e) (getD-set-other s 0 1 _ 0 (omega arith)) (subst (λ (n : ℕ). z ≡ zeros n) (sym same ∙ long) (c .before .before .clear .ensures))
+    let long : length z ≡ bodySize = omega (arith, same, cleared .before .clear-arg .given .2) in
+    let zero : z ≡ zeros bodySize = subst (λ (n : ℕ). z ≡ zeros n) (sym same ∙ long) (cleared .clear .ensures) in
+    freed s z _ (fit fits) (getD-set-other s 0 1 _ 0 (omega arith)) zero
 
 pub release-spec : {M : Type 1} → statement M
 release-spec =
     tie.close
-    (tie.spec
-    returns
-    slice-read-first
-    cast-at
-    mul-at
-    add-e
-    returns-2
-    slice-read-queue
-    slice-write-queue
-    slice-read-queue-2
-    slice-write-queue-2
-    slice-write-queue-3
-    add-clear
-    sub-clear
-    part-clear-start
-    part-clear-end
-    clear-requires
-    same-length
-    returns-3)
+    (tie.spec returns slice-read-first cast-at mul-at add-e returns-2 slice-read-queue slice-write-queue slice-read-queue-2
+    slice-write-queue-2 slice-write-queue-3 add-clear sub-clear part-clear-start part-clear-end clear-requires same-length returns-3)

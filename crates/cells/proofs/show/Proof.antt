@@ -6,8 +6,8 @@ use Prim.Native.Nat.{ℕ, _+_, _-_, _*_, _≤_}
 use native.Mathlib.Omega.{arith}
 use lib.ListN.{length, set}
 use denote.Ref.{now}
-use Rattle.sheet.specs.Operations.{shown}
-use Rattle.cells.proofs.Bytes.{part, copied-same}
+use Rattle.sheet.specs.Operations.{shownCell}
+use Rattle.cells.proofs.Bytes.{lent-part, copied-same}
 use Rattle.cells.proofs.Cells.{fits, fits-both, shows, keeps, cell-shown}
 use borrow.Author.Needs.{needs}
 use Rattle.modular.proofs.Search.{holds}
@@ -48,40 +48,34 @@ copy-requires : tie.Need-copy-requires
 copy-requires c κs = search needs
 
 slice-write-out : tie.Need-slice-write-out
-slice-write-out c = omega (arith, c .before .out .given, fit (c .before .before .before .before .before))
+slice-write-out c =
+    let copied = c .before .before in
+    omega (arith, c .before .out .given, fit (copied .before .before .before))
 
 same-length : tie.Need-same-length
 same-length c = search needs
 
 returns : tie.Need-returns
-unfolding shown
+unfolding shownCell
 returns c =
-    let k = c .before .before in
-    let e = k .before .before .before in
-    let s = S e in
-    let i = start e .args .cell in
-    let long = k .before .copy-arg2 .given .2 in
-    let fills : length (O e) ≡ i * cellSize + cellSize - i * cellSize = omega (arith, fit e) in
-    ap (λ (l : List ℕ). set l 0 0) (k .copy .ensures ∙ copied-same (O e) _ (fills ∙ sym long) ∙ part s (i * cellSize) cellSize)
-    ∙ cell-shown s i (fit e .0)
-    ∙ sym (shows s (O e) i (fit e .0) (fit e .1))
+    let copied = c .before .before in
+    let inside = copied .before .before .before in
+    let s = S inside in
+    let out = O inside in
+    let i = start inside .args .cell in
+    let (in-queue, fills) = fit inside in
+    let long = copied .before .copy-arg2 .given .2 in
+    let same : length out ≡ i * cellSize + cellSize - i * cellSize = omega arith in
+    ap (λ (l : List ℕ). set l 0 0) (copied .copy .ensures ∙ copied-same out _ (same ∙ sym long) ∙ lent-part s (i * cellSize) cellSize)
+    ∙ cell-shown s i in-queue
+    ∙ sym (shows s out i in-queue fills)
 
 returns-2 : tie.Need-returns-2
 returns-2 c =
-    let a = c .before .before .before .args in
-    keeps (now (a .queue)) (now (a .out)) (a .cell) (c .if1 .left)
+    let start = c .before .before .before in
+    keeps (now (start .args .queue)) (now (start .args .out)) (start .args .cell) (c .if1 .left)
 
 pub show-spec : {M : Type 1} → statement M
 show-spec =
     tie.close
-    (tie.spec
-    mul-a
-    add-copy
-    sub-copy
-    part-copy-start
-    part-copy-end
-    copy-requires
-    slice-write-out
-    same-length
-    returns
-    returns-2)
+    (tie.spec mul-a add-copy sub-copy part-copy-start part-copy-end copy-requires slice-write-out same-length returns returns-2)

@@ -45,16 +45,5 @@ returns c = search needs
 pub answer-all-spec : {M : Type 1} → statement M
 answer-all-spec =
     tie.close
-    (tie.spec
-    Inv-loop
-    μ-loop
-    loop-holds
-    until-requires
-    sub-answer
-    part-answer-start
-    part-answer-end
-    answer-requires
-    add-from
-    loop-less
-    loop-again
-    returns)
+    (tie.spec Inv-loop μ-loop loop-holds until-requires sub-answer part-answer-start part-answer-end answer-requires add-from loop-less
+    loop-again returns)

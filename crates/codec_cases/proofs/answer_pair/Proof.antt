@@ -9,59 +9,67 @@ use Rattle.codec_cases.proofs.answer_pair.Tie as tie
 field-requires : tie.Need-field-requires
 field-requires c κs = search needs
 
-slice-aggregate-symbols : tie.Need-slice-aggregate-symbols
-slice-aggregate-symbols c = search needs
+slice-aggregate-parse-symbols : tie.Need-slice-aggregate-parse-symbols
+slice-aggregate-parse-symbols c = search needs
 
-symbols-requires : tie.Need-symbols-requires
-symbols-requires c κs = search needs
+parse-symbols-requires : tie.Need-parse-symbols-requires
+parse-symbols-requires c κs = search needs
 
-least-requires : tie.Need-least-requires
-least-requires c κs = search needs
+smaller-requires : tie.Need-smaller-requires
+smaller-requires c κs = search needs
 
 field-requires-2 : tie.Need-field-requires-2
 field-requires-2 c κs = search needs
 
-slice-aggregate-symbols-2 : tie.Need-slice-aggregate-symbols-2
-slice-aggregate-symbols-2 c = search needs
+slice-aggregate-parse-symbols-2 : tie.Need-slice-aggregate-parse-symbols-2
+slice-aggregate-parse-symbols-2 c = search needs
 
-symbols-requires-2 : tie.Need-symbols-requires-2
-symbols-requires-2 c κs = search needs
+parse-symbols-requires-2 : tie.Need-parse-symbols-requires-2
+parse-symbols-requires-2 c κs = search needs
 
-least-requires-2 : tie.Need-least-requires-2
-least-requires-2 c κs = search needs
+smaller-requires-2 : tie.Need-smaller-requires-2
+smaller-requires-2 c κs = search needs
 
 field-requires-3 : tie.Need-field-requires-3
 field-requires-3 c κs = search needs
 
-number-requires : tie.Need-number-requires
-number-requires c κs = search needs
+parse-number-requires : tie.Need-parse-number-requires
+parse-number-requires c κs = search needs
 
-least-requires-3 : tie.Need-least-requires-3
-least-requires-3 c κs = search needs
+smaller-requires-3 : tie.Need-smaller-requires-3
+smaller-requires-3 c κs = search needs
 
 field-requires-4 : tie.Need-field-requires-4
 field-requires-4 c κs = search needs
 
-number-requires-2 : tie.Need-number-requires-2
-number-requires-2 c κs = search needs
+parse-number-requires-2 : tie.Need-parse-number-requires-2
+parse-number-requires-2 c κs = search needs
 
 array-share-prefix-first : tie.Need-array-share-prefix-first
 array-share-prefix-first c = search needs
 
 slice-aggregate-encode-and-print : tie.Need-slice-aggregate-encode-and-print
-slice-aggregate-encode-and-print c = sym (length-take-le _ _ (rw (c .before .before .before .before .before .before .before .before .before .before .before .before .before .symbols .kept .1 .0) (c .before .before .before .before .before .before .before .before .before .before .before .least .ensures .1)))
+slice-aggregate-encode-and-print c =
+    let measured = c .before .before .before .before .before .before .before .before .before .before .before in
+    let parsed = measured .before .before in
+    sym (length-take-le _ _ (rw (parsed .parse-symbols .kept .1 .0) (measured .smaller .ensures .1)))
 
 array-share-prefix-second : tie.Need-array-share-prefix-second
 array-share-prefix-second c = search needs
 
 slice-aggregate-encode-and-print-2 : tie.Need-slice-aggregate-encode-and-print-2
-slice-aggregate-encode-and-print-2 c = sym (length-take-le _ _ (rw (c .before .before .before .before .before .before .before .before .before .symbols2 .kept .1 .0) (c .before .before .before .before .before .before .before .least2 .ensures .1)))
+slice-aggregate-encode-and-print-2 c =
+    let measured = c .before .before .before .before .before .before .before in
+    let parsed = measured .before .before in
+    sym (length-take-le _ _ (rw (parsed .parse-symbols2 .kept .1 .0) (measured .smaller2 .ensures .1)))
 
 array-borrow-prefix-out : tie.Need-array-borrow-prefix-out
 array-borrow-prefix-out c = search needs
 
 slice-aggregate-encode-and-print-3 : tie.Need-slice-aggregate-encode-and-print-3
-slice-aggregate-encode-and-print-3 c = sym (length-take-le _ _ (c .before .before .before .before .before .least3 .ensures .1))
+slice-aggregate-encode-and-print-3 c =
+    let measured = c .before .before .before .before .before in
+    sym (length-take-le _ _ (measured .smaller3 .ensures .1))
 
 encode-and-print-requires : tie.Need-encode-and-print-requires
 encode-and-print-requires c κs = search needs
@@ -72,25 +80,7 @@ returns c = search needs
 pub answer-pair-spec : {M : Type 1} → statement M
 answer-pair-spec =
     tie.close
-    (tie.spec
-    field-requires
-    slice-aggregate-symbols
-    symbols-requires
-    least-requires
-    field-requires-2
-    slice-aggregate-symbols-2
-    symbols-requires-2
-    least-requires-2
-    field-requires-3
-    number-requires
-    least-requires-3
-    field-requires-4
-    number-requires-2
-    array-share-prefix-first
-    slice-aggregate-encode-and-print
-    array-share-prefix-second
-    slice-aggregate-encode-and-print-2
-    array-borrow-prefix-out
-    slice-aggregate-encode-and-print-3
-    encode-and-print-requires
-    returns)
+    (tie.spec field-requires slice-aggregate-parse-symbols parse-symbols-requires smaller-requires field-requires-2
+    slice-aggregate-parse-symbols-2 parse-symbols-requires-2 smaller-requires-2 field-requires-3 parse-number-requires smaller-requires-3
+    field-requires-4 parse-number-requires-2 array-share-prefix-first slice-aggregate-encode-and-print array-share-prefix-second
+    slice-aggregate-encode-and-print-2 array-borrow-prefix-out slice-aggregate-encode-and-print-3 encode-and-print-requires returns)

@@ -28,10 +28,4 @@ returns c = tt
 pub run-spec : {M : Type 1} → statement M
 run-spec =
     tie.close
-    (tie.spec
-    slice-aggregate-read-full
-    read-full-requires
-    array-share-prefix-input
-    slice-aggregate-answer-all
-    answer-all-requires
-    returns)
+    (tie.spec slice-aggregate-read-full read-full-requires array-share-prefix-input slice-aggregate-answer-all answer-all-requires returns)

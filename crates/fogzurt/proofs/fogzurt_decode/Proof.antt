@@ -15,10 +15,10 @@ decode-requires c κs = search needs
 
 pack-requires : tie.Need-pack-requires
 pack-requires c κs =
-    let d = c .before .before .before .before .decode in
-    let s = c .before .before .before .before .before .before .before .before .before .before in
-    subst (λ (a : Report). Within (partsOf a)) (sym (d .ensures .answer))
-    (within-answer (s .args .profile) (now (s .args .word)) (length (now (s .args .first))) (length (now (s .args .second))))
+    let decoded = c .before .before .before .before in
+    let a = (decoded .before .before .before .before .before .before) .args in
+    subst (λ (r : Report). Within (partsOf r)) (sym (decoded .decode .ensures .answer))
+    (within-answer (a .profile) (now (a .word)) (length (now (a .first))) (length (now (a .second))))
 
 same-length : tie.Need-same-length
 same-length c = search needs
@@ -28,8 +28,9 @@ same-length-2 c = search needs
 
 returns : tie.Need-returns
 returns c =
-    let d = c .before .before .before .before .before .decode in
-    (c .pack .ensures ∙ ap packed (d .ensures .answer), (d .ensures .first-out, d .ensures .second-out))
+    let decoded = c .before .before .before .before .before in
+    let told = decoded .decode .ensures in
+    (c .pack .ensures ∙ ap packed (told .answer), (told .first-out, told .second-out))
 
 pub fogzurt-decode-spec : {M : Type 1} → statement M
 fogzurt-decode-spec =

@@ -23,8 +23,9 @@ same-length c = search needs
 
 returns : tie.Need-returns
 returns c =
-    let made = c .before .before .before .encode in
-    (c .encode-number .ensures ∙ ap outcomeNumber (made .ensures .answer) ∙ number-back _, made .ensures .output)
+    let encoded = c .before .before .before in
+    let made = encoded .encode .ensures in
+    (c .encode-number .ensures ∙ ap outcomeNumber (made .answer) ∙ number-back _, made .output)
 
 pub fogzurt-encode-spec : {M : Type 1} → statement M
 fogzurt-encode-spec = tie.close (tie.spec encode-requires encode-number-requires same-length returns)

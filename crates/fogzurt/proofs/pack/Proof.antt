@@ -42,7 +42,7 @@ returns c = rw (c .before .enum-told .given .1) (c .join .ensures)
 
 returns-2 : tie.Need-returns-2
 unfolding packed
-returns-2 c = rw (c .before .before .before .answer .given .1) (c .join2 .ensures)
+returns-2 c = let matched = c .before .before .before in rw (matched .answer .given .1) (c .join2 .ensures)
 
 returns-3 : tie.Need-returns-3
 unfolding packed

@@ -19,27 +19,31 @@ Inv-loop input size output₀ state₀ at₀ turns₀ output state at turns = (a
 abbrev μ-loop : tie.MeasureT-loop
 μ-loop input size output₀ state₀ at₀ turns₀ output state at turns = turns
 
--- the places before a place: the call of step, the size of a piece is known, the loop's head, the start
+-- the moments before a moment: the call of step, the size of a piece is known, the loop's head, the start
 abbrev called : tie.After-write-all Inv-loop μ-loop → tie.After-step Inv-loop μ-loop
 called c = c .before .before .before .before .before .before
 
-abbrev sized : tie.After-step Inv-loop μ-loop → tie.After-least Inv-loop μ-loop
+abbrev sized : tie.After-step Inv-loop μ-loop → tie.After-smaller Inv-loop μ-loop
 sized c = c .before .before .before
 
-abbrev head : tie.After-least Inv-loop μ-loop → tie.At-loop Inv-loop μ-loop
-head c = c .before .before .before .before
+abbrev entered : tie.After-smaller Inv-loop μ-loop → tie.In-loop Inv-loop μ-loop
+entered c = c .before .before .before
+
+abbrev head : tie.After-smaller Inv-loop μ-loop → tie.At-loop Inv-loop μ-loop
+head c = entered c .before
 
 abbrev started : tie.At-loop Inv-loop μ-loop → tie.Start Inv-loop μ-loop
 started c = c .before .before .before
 
 -- the piece has its size
-abbrev cut : tie.After-least Inv-loop μ-loop → List ℕ
-cut c = take (c .least .result) (piece (now (started (head c) .args .input)) (head c .loop .at))
+abbrev cut : tie.After-smaller Inv-loop μ-loop → List ℕ
+cut c = take (c .smaller .result) (piece (now (started (head c) .args .input)) (head c .loop .at))
 
-cut-length : (c : tie.After-least Inv-loop μ-loop) → length (cut c) ≡ c .least .result
+cut-length : (c : tie.After-smaller Inv-loop μ-loop) → length (cut c) ≡ c .smaller .result
 cut-length c =
     let i = now (started (head c) .args .input) in
-    length-take-le (c .least .result) (piece i (head c .loop .at)) (omega (arith, c .least .ensures .1, piece-length i (head c .loop .at)))
+    let at = head c .loop .at in
+    length-take-le (c .smaller .result) (piece i at) (omega (arith, c .smaller .ensures .1, piece-length i at))
 
 -- what a call takes and puts out
 within : (c : tie.After-step Inv-loop μ-loop)
@@ -52,7 +56,7 @@ within c =
     let e = c .step .ensures in
     let r = c .step .result in
     let f = call-fits (modelOf (l .loop .state)) (cut s) (length (l .loop .output)) (r .consumed) (r .produced) (e .1 .0) (e .1 .1 .0) in
-    (omega (arith, f .0, cut-length s, s .least .ensures .1, piece-length i (l .loop .at), l .loop .inv .0), f .1)
+    (omega (arith, f .0, cut-length s, s .smaller .ensures .1, piece-length i (l .loop .at), l .loop .inv .0), f .1)
 
 kept : (c : tie.After-step Inv-loop μ-loop) → length (c .step .last .1 .1 .0) ≡ length (head (sized c) .loop .output)
 kept c = c .step .kept .1 .1 .0
@@ -72,8 +76,8 @@ part-rest-end c = search needs
 size-requires : tie.Need-size-requires Inv-loop μ-loop
 size-requires c κs = tt
 
-least-requires : tie.Need-least-requires Inv-loop μ-loop
-least-requires c κs = tt
+smaller-requires : tie.Need-smaller-requires Inv-loop μ-loop
+smaller-requires c κs = tt
 
 slice-aggregate-step : tie.Need-slice-aggregate-step Inv-loop μ-loop
 slice-aggregate-step c = sym (cut-length (c .before))
@@ -82,33 +86,33 @@ step-requires : tie.Need-step-requires Inv-loop μ-loop
 step-requires c κs = tt
 
 add-at : tie.Need-add-at Inv-loop μ-loop
-add-at c = let st = c .before .before .before .before in omega (arith, within st .0, head (sized st) .before .before)
+add-at c = let stepped = c .before .before .before .before in omega (arith, within stepped .0, head (sized stepped) .before .before)
 
 slice-reshare-prefix-write-all : tie.Need-slice-reshare-prefix-write-all Inv-loop μ-loop
-slice-reshare-prefix-write-all c = let st = c .before .before .before .before in omega (arith, within st .1, kept st)
+slice-reshare-prefix-write-all c = let stepped = c .before .before .before .before in omega (arith, within stepped .1, kept stepped)
 
 slice-aggregate-write-all : tie.Need-slice-aggregate-write-all Inv-loop μ-loop
 slice-aggregate-write-all c =
-    let st = c .before .before .before .before .before in
-    sym (length-take-le _ _ (omega (arith, within st .1, kept st)))
+    let stepped = c .before .before .before .before .before in
+    sym (length-take-le _ _ (omega (arith, within stepped .1, kept stepped)))
 
 write-all-requires : tie.Need-write-all-requires Inv-loop μ-loop
 write-all-requires c κs = tt
 
 same-length : tie.Need-same-length Inv-loop μ-loop
-same-length c = let st = called (c .before .before) in kept st ∙ head (sized st) .loop .inv .1
+same-length c = let stepped = called (c .before .before) in kept stepped ∙ head (sized stepped) .loop .inv .1
 
 returns : tie.Need-returns Inv-loop μ-loop
 returns c = tt
 
 sub-turns : tie.Need-sub-turns Inv-loop μ-loop
-sub-turns c = let l = sized (called (c .before)) .before .before .before in omega (arith, l .loop-test .taken)
+sub-turns c = omega (arith, entered (sized (called (c .before))) .loop-test .taken)
 
 loop-less : tie.Need-loop-less Inv-loop μ-loop
-loop-less c = let l = sized (called (c .before)) .before .before .before in omega (arith, l .loop-test .taken)
+loop-less c = omega (arith, entered (sized (called (c .before))) .loop-test .taken)
 
 loop-again : tie.Need-loop-again Inv-loop μ-loop
-loop-again c = let st = called (c .before) in (within st .0, kept st ∙ head (sized st) .loop .inv .1)
+loop-again c = let stepped = called (c .before) in (within stepped .0, kept stepped ∙ head (sized stepped) .loop .inv .1)
 
 same-length-2 : tie.Need-same-length-2 Inv-loop μ-loop
 same-length-2 c = c .before .loop .inv .1
@@ -119,25 +123,6 @@ returns-2 c = tt
 pub feed-spec : {M : Type 1} → statement M
 feed-spec =
     tie.close
-    (tie.spec
-    Inv-loop
-    μ-loop
-    loop-holds
-    sub-rest
-    part-rest-start
-    part-rest-end
-    size-requires
-    least-requires
-    slice-aggregate-step
-    step-requires
-    add-at
-    slice-reshare-prefix-write-all
-    slice-aggregate-write-all
-    write-all-requires
-    same-length
-    returns
-    sub-turns
-    loop-less
-    loop-again
-    same-length-2
-    returns-2)
+    (tie.spec Inv-loop μ-loop loop-holds sub-rest part-rest-start part-rest-end size-requires smaller-requires slice-aggregate-step
+    step-requires add-at slice-reshare-prefix-write-all slice-aggregate-write-all write-all-requires same-length returns sub-turns loop-less
+    loop-again same-length-2 returns-2)

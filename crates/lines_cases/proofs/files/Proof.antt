@@ -39,7 +39,7 @@ fail-requires : tie.Need-fail-requires Inv-loop μ-loop
 fail-requires c κs = tt
 
 same-length : tie.Need-same-length Inv-loop μ-loop
-same-length c = head (c .before .before .before) .loop .inv
+same-length c = let opened = c .before .before .before in head opened .loop .inv
 
 returns : tie.Need-returns Inv-loop μ-loop
 returns c = tt
@@ -58,8 +58,9 @@ loop-less c = omega arith
 
 loop-again : tie.Need-loop-again Inv-loop μ-loop
 loop-again c =
-    let r = c .before .before .before in
-    r .run .kept .1 .1 .0 ∙ head (r .before .before .before) .loop .inv
+    let ran = c .before .before .before in
+    let opened = ran .before .before .before in
+    ran .run .kept .1 .1 .0 ∙ head opened .loop .inv
 
 same-length-2 : tie.Need-same-length-2 Inv-loop μ-loop
 same-length-2 c = c .before .loop .inv
@@ -70,22 +71,5 @@ returns-2 c = tt
 pub files-spec : {M : Type 1} → statement M
 files-spec =
     tie.close
-    (tie.spec
-    Inv-loop
-    μ-loop
-    loop-holds
-    add-tens
-    add-ones
-    slice-aggregate-open-read
-    open-read-requires
-    slice-aggregate-fail
-    fail-requires
-    same-length
-    returns
-    run-requires
-    close-requires
-    add-k
-    loop-less
-    loop-again
-    same-length-2
-    returns-2)
+    (tie.spec Inv-loop μ-loop loop-holds add-tens add-ones slice-aggregate-open-read open-read-requires slice-aggregate-fail fail-requires
+    same-length returns run-requires close-requires add-k loop-less loop-again same-length-2 returns-2)

@@ -39,18 +39,18 @@ finish-requires : tie.Need-finish-requires Inv-loop μ-loop
 finish-requires c κs = tt
 
 slice-reshare-prefix-write-all : tie.Need-slice-reshare-prefix-write-all Inv-loop μ-loop
-slice-reshare-prefix-write-all c = let st = c .before .before .before in omega (arith, within st, kept st)
+slice-reshare-prefix-write-all c = let finished = c .before .before .before in omega (arith, within finished, kept finished)
 
 slice-aggregate-write-all : tie.Need-slice-aggregate-write-all Inv-loop μ-loop
 slice-aggregate-write-all c =
-    let st = c .before .before .before .before in
-    sym (length-take-le _ _ (omega (arith, within st, kept st)))
+    let finished = c .before .before .before .before in
+    sym (length-take-le _ _ (omega (arith, within finished, kept finished)))
 
 write-all-requires : tie.Need-write-all-requires Inv-loop μ-loop
 write-all-requires c κs = tt
 
 same-length : tie.Need-same-length Inv-loop μ-loop
-same-length c = let st = c .before .before .before .before .before .before in kept st ∙ head st .loop .inv
+same-length c = let finished = c .before .before .before .before .before .before in kept finished ∙ head finished .loop .inv
 
 returns : tie.Need-returns Inv-loop μ-loop
 returns c = tt
@@ -62,7 +62,7 @@ loop-less : tie.Need-loop-less Inv-loop μ-loop
 loop-less c = omega arith
 
 loop-again : tie.Need-loop-again Inv-loop μ-loop
-loop-again c = let st = c .before .before .before .before .before .before in kept st ∙ head st .loop .inv
+loop-again c = let finished = c .before .before .before .before .before .before in kept finished ∙ head finished .loop .inv
 
 same-length-2 : tie.Need-same-length-2 Inv-loop μ-loop
 same-length-2 c = c .before .loop .inv
@@ -73,18 +73,5 @@ returns-2 c = tt
 pub finish-spec : {M : Type 1} → statement M
 finish-spec =
     tie.close
-    (tie.spec
-    Inv-loop
-    μ-loop
-    loop-holds
-    finish-requires
-    slice-reshare-prefix-write-all
-    slice-aggregate-write-all
-    write-all-requires
-    same-length
-    returns
-    sub-turns
-    loop-less
-    loop-again
-    same-length-2
-    returns-2)
+    (tie.spec Inv-loop μ-loop loop-holds finish-requires slice-reshare-prefix-write-all slice-aggregate-write-all write-all-requires
+    same-length returns sub-turns loop-less loop-again same-length-2 returns-2)

@@ -44,9 +44,9 @@ finish-requires c κs = tt
 
 same-length : tie.Need-same-length Inv-loop μ-loop
 same-length c =
-    let f = c .before .before in
-    let r = f .before .before .before .before .before .before in
-    f .finish .kept .1 .0 ∙ head r .loop .inv .1
+    let finished = c .before .before in
+    let got = finished .before .before .before .before .before .before in
+    finished .finish .kept .1 .0 ∙ head got .loop .inv .1
 
 returns : tie.Need-returns Inv-loop μ-loop
 returns c = tt
@@ -68,9 +68,9 @@ loop-less c = omega arith
 
 loop-again : tie.Need-loop-again Inv-loop μ-loop
 loop-again c =
-    let f = c .before .before in
-    let r = f .before .before .before .before .before .before .before in
-    (still-long r, f .feed .kept .1 .1 .1 .0 ∙ head r .loop .inv .1)
+    let fed = c .before .before in
+    let got = fed .before .before .before .before .before .before .before in
+    (still-long got, fed .feed .kept .1 .1 .1 .0 ∙ head got .loop .inv .1)
 
 same-length-2 : tie.Need-same-length-2 Inv-loop μ-loop
 same-length-2 c = c .before .loop .inv .1
@@ -81,24 +81,6 @@ returns-2 c = tt
 pub run-spec : {M : Type 1} → statement M
 run-spec =
     tie.close
-    (tie.spec
-    Inv-loop
-    μ-loop
-    buffer-requires
-    start-requires
-    loop-holds
-    slice-aggregate-read
-    read-requires
-    slice-aggregate-count
-    count-requires
-    finish-requires
-    same-length
-    returns
-    array-share-prefix-input
-    slice-aggregate-feed
-    feed-requires
-    sub-turns
-    loop-less
-    loop-again
-    same-length-2
-    returns-2)
+    (tie.spec Inv-loop μ-loop buffer-requires start-requires loop-holds slice-aggregate-read read-requires slice-aggregate-count
+    count-requires finish-requires same-length returns array-share-prefix-input slice-aggregate-feed feed-requires sub-turns loop-less
+    loop-again same-length-2 returns-2)

@@ -49,11 +49,11 @@ same-length-2 c = search needs
 returns : tie.Need-returns
 unfolding dequeueAnswer dequeueQueue dequeueOutput
 returns c =
-    let k = c .before .before .before in
-    let allowed = k .peek .ensures in
+    let peeked = c .before .before .before in
+    let allowed = peeked .peek .ensures in
     record {
       answer = allowed .answer;
-      queue = kept _ _ (S k) (λ e. told-refused (k .peek .result) (c .match .keys2) (allowed .answer ∙ e));
+      queue = kept _ _ (S peeked) (λ e. told-refused (peeked .peek .result) (c .match .keys2) (allowed .answer ∙ e));
       output = allowed .output;
     }
 
@@ -69,28 +69,19 @@ same-length-4 c = search needs
 returns-2 : tie.Need-returns-2
 unfolding dequeueAnswer dequeueQueue dequeueOutput
 returns-2 c =
-    let k = c .before .before in
-    let t = k .before .before in
-    let e = shown-at t in
-    let s = S (peeked t) in
-    let q = shows t .queue in
-    let fits = first-fits s q (λ z. shows t .found (first-cell s q ∙ z)) in
+    let released = c .before .before in
+    let shown = released .before .before in
+    let e = shown-at shown in
+    let s = S (peeked shown) in
+    let q = shows shown .queue in
+    let fits = first-fits s q (λ z. shows shown .found (first-cell s q ∙ z)) in
     record {
       answer = sym e;
-      queue = k .release .ensures ∙ releases s fits ∙ wrote _ _ _ e;
-      output = peeked t .peek .ensures .output;
+      queue = released .release .ensures ∙ releases s fits ∙ wrote _ _ _ e;
+      output = peeked shown .peek .ensures .output;
     }
 
 pub dequeue-spec : {M : Type 1} → statement M
 dequeue-spec =
     tie.close
-    (tie.spec
-    peek-requires
-    enum-told
-    same-length
-    same-length-2
-    returns
-    release-requires
-    same-length-3
-    same-length-4
-    returns-2)
+    (tie.spec peek-requires enum-told same-length same-length-2 returns release-requires same-length-3 same-length-4 returns-2)

@@ -22,7 +22,7 @@ use Rattle.queue.specs.declared.Answer.{Answer}
 use Rattle.queue.specs.declared.Answer.the-variants.{Full}
 use Rattle.sheet.specs.Allowed.{EnqueueAllows}
 use Rattle.queue.specs.Answer.{numberOf}
-use Rattle.queue.proofs.Checking.{Told, told-sound, told-unsound, last-at}
+use Rattle.queue.proofs.Checking.{SoundAnswer, told-sound, told-unsound, last-at}
 use Rattle.queue.proofs.Told.{told-done, told-refused}
 use borrow.Author.Needs.{needs}
 use Rattle.queue.proofs.enqueue.Statement.{statement}
@@ -31,8 +31,12 @@ use Rattle.queue.proofs.enqueue.Tie as tie
 abbrev start : tie.After-check → tie.Start
 start c = c .before .before .before .before
 
+-- the check, and the start, of a queue that was told to be sound
+abbrev checked : tie.After-known-told → tie.After-check
+checked c = c .before .before .before
+
 abbrev begin : tie.After-known-told → tie.Start
-begin c = start (c .before .before .before)
+begin c = start (checked c)
 
 abbrev S : tie.Start → List ℕ
 S c = now (c .args .queue)
@@ -68,13 +72,14 @@ last-of c = c .before .checked .given .0 .0
 abbrev count-of : tie.After-known-told → ℕ
 count-of c = c .before .checked .given .0 .1 .0
 
-told : (c : tie.After-known-told) → Told (S (begin c)) 255 (last-of c) (count-of c)
+told : (c : tie.After-known-told) → SoundAnswer (S (begin c)) 255 (last-of c) (count-of c)
 told c =
-    let k = c .before .before .before in
-    told-sound (S (start k)) 255 (last-of c) (count-of c) (ap checkedReport (sym (c .before .checked .given .1)) ∙ k .check .ensures)
+    let report = ap checkedReport (sym (c .before .checked .given .1)) in
+    told-sound (S (begin c)) 255 (last-of c) (count-of c) (report ∙ checked c .check .ensures)
 
 -- a refusal keeps the queue
-refused : (s : List ℕ) (b p : ℕ) (w : List ℕ) (a : Answer) → numberOf a ≢ 0 → numberOf a ≡ enqueueAnswer s b p w → EnqueueAllows s b p w (numberOf a) s
+refused : (s : List ℕ) (b p : ℕ) (w : List ℕ) (a : Answer) → numberOf a ≢ 0 → numberOf a ≡ enqueueAnswer s b p w
+    → EnqueueAllows s b p w (numberOf a) s
 unfolding enqueueQueue
 refused s b p w a d e = record { answer = e; queue = kept _ _ s (λ z. d (e ∙ z)) }
 
@@ -89,9 +94,11 @@ asked c = c .before .before .before .before
 -- the record is right, and so the answer is whether there is room
 by-room : (c : tie.After-slice-known2) → firstRefusal (roomTests (room (begin (asked c)))) ≡ answer-of (begin (asked c))
 by-room c =
-    let m = c .before .before .before in
+    let matched = c .before .before in
+    let admitted = matched .before in
     let a = begin (asked c) in
-    let done : firstRefusal (of-record a) ≡ 0 = sym (m .admit .ensures) ∙ told-done (m .admit .result) (c .before .before .match2 .keys1) in
+    let done : firstRefusal (of-record a) ≡ 0 =
+    sym (admitted .admit .ensures) ∙ told-done (admitted .admit .result) (matched .match2 .keys1) in
     sym (past-none (of-record a) (roomTests (room a)) tt done) ∙ answer (asked c)
 
 -- the start of a call that has found room
@@ -119,10 +126,11 @@ same-length c = search needs
 returns : tie.Need-returns
 unfolding enqueueAnswer
 returns c =
-    let k = c .before .before in
-    let a = start k in
-    let r = told-unsound (S a) 255 (k .check .result) (k .check .ensures) (c .before .match .keys2) in
-    refused (S a) (B a) (P a) (W a) (c .refuse .result) (λ e. r .nonzero (sym (c .refuse .ensures) ∙ e)) (c .refuse .ensures ∙ r .answer (own a))
+    let checked = c .before .before in
+    let a = start checked in
+    let same = c .refuse .ensures in
+    let r = told-unsound (S a) 255 (checked .check .result) (checked .check .ensures) (c .before .match .keys2) in
+    refused (S a) (B a) (P a) (W a) (c .refuse .result) (λ e. r .nonzero (sym same ∙ e)) (same ∙ r .answer (own a))
 
 admit-requires : tie.Need-admit-requires
 admit-requires c κs = search needs
@@ -135,11 +143,12 @@ same-length-2 c = search needs
 
 returns-2 : tie.Need-returns-2
 returns-2 c =
-    let m = c .before in
-    let a = begin (m .before) in
-    let d = told-refused (m .admit .result) (c .match2 .keys2) in
-    refused (S a) (B a) (P a) (W a) (m .admit .result) d
-    (m .admit .ensures ∙ sym (refused-first (of-record a) (roomTests (room a)) (λ e. d (m .admit .ensures ∙ e))) ∙ answer (m .before))
+    let admitted = c .before in
+    let a = begin (admitted .before) in
+    let same = admitted .admit .ensures in
+    let d = told-refused (admitted .admit .result) (c .match2 .keys2) in
+    refused (S a) (B a) (P a) (W a) (admitted .admit .result) d
+    (same ∙ sym (refused-first (of-record a) (roomTests (room a)) (λ e. d (same ∙ e))) ∙ answer (admitted .before))
 
 slice-read-room : tie.Need-slice-read-room
 slice-read-room c =
@@ -176,29 +185,14 @@ same-length-4 c = search needs
 returns-4 : tie.Need-returns-4
 unfolding enqueueQueue
 returns-4 c =
-    let k = c .before .before in
-    let a = origin (k .before .before) in
-    let e = entered (k .before .before) in
-    record { answer = sym e; queue = k .store .ensures ∙ wrote (answer-of a) (enqueued (S a) (recordOf (B a) (P a) (W a))) (S a) e }
+    let stored = c .before .before in
+    let roomy = stored .before .before in
+    let a = origin roomy in
+    let e = entered roomy in
+    record { answer = sym e; queue = stored .store .ensures ∙ wrote (answer-of a) (enqueued (S a) (recordOf (B a) (P a) (W a))) (S a) e }
 
 pub enqueue-spec : {M : Type 1} → statement M
 enqueue-spec =
     tie.close
-    (tie.spec
-    check-requires
-    enum-known-checked
-    refuse-requires
-    same-length
-    returns
-    admit-requires
-    enum-told
-    same-length-2
-    returns-2
-    slice-read-room
-    same-length-3
-    returns-3
-    cast-store
-    cast-store-2
-    store-requires
-    same-length-4
-    returns-4)
+    (tie.spec check-requires enum-known-checked refuse-requires same-length returns admit-requires enum-told same-length-2 returns-2
+    slice-read-room same-length-3 returns-3 cast-store cast-store-2 store-requires same-length-4 returns-4)

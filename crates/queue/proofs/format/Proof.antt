@@ -24,11 +24,13 @@ same-length c = search needs
 returns : tie.Need-returns
 unfolding formatAnswer
 returns c =
-    let k = c .before .before .before in
-    let s = now (k .before .before .before .args .queue) in
+    let formatted = c .before .before .before in
+    let start = formatted .before .before .before in
+    let s = now (start .args .queue) in
     record {
-      answer = sym (stops [] (asks (isQueueLength (length s)) 5) [] tt (sym (k .format-cells .ensures .0) ∙ not-true _ (c .if1 .taken)));
-      queue = k .format-cells .ensures .1;
+      answer = sym (stops [] (asks (isQueueLength (length s)) 5) [] tt
+          (sym (formatted .format-cells .ensures .0) ∙ not-true _ (c .if1 .taken)));
+      queue = formatted .format-cells .ensures .1;
     }
 
 same-length-2 : tie.Need-same-length-2
@@ -36,11 +38,12 @@ same-length-2 c = search needs
 
 returns-2 : tie.Need-returns-2
 returns-2 c =
-    let k = c .before .before .before in
-    let s = now (k .before .before .before .args .queue) in
+    let formatted = c .before .before .before in
+    let start = formatted .before .before .before in
+    let s = now (start .args .queue) in
     record {
-      answer = sym (format-succeeds s (holds _ (sym (k .format-cells .ensures .0) ∙ not-false _ (c .if1 .left))));
-      queue = k .format-cells .ensures .1;
+      answer = sym (format-succeeds s (holds _ (sym (formatted .format-cells .ensures .0) ∙ not-false _ (c .if1 .left))));
+      queue = formatted .format-cells .ensures .1;
     }
 
 pub format-spec : {M : Type 1} → statement M

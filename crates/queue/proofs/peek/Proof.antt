@@ -23,7 +23,7 @@ use Rattle.queue.specs.declared.Answer.{Answer}
 use Rattle.queue.specs.declared.Answer.the-variants.{Length, NoRecord}
 use Rattle.sheet.specs.Allowed.{PeekAllows}
 use Rattle.queue.specs.Answer.{numberOf}
-use Rattle.queue.proofs.Checking.{Told, told-sound, told-unsound, found-is, found-at}
+use Rattle.queue.proofs.Checking.{SoundAnswer, told-sound, told-unsound, found-is, found-at}
 use Rattle.queue.proofs.Stores.{record-fits}
 use borrow.Author.Needs.{needs}
 use Rattle.queue.proofs.peek.Statement.{statement}
@@ -32,8 +32,12 @@ use Rattle.queue.proofs.peek.Tie as tie
 abbrev start : tie.After-check → tie.Start
 start c = c .before .before .before
 
+-- the check, and the start, of a queue that was told to be sound
+abbrev checked : tie.After-known-told → tie.After-check
+checked c = c .before .before .before
+
 abbrev begin : tie.After-known-told → tie.Start
-begin c = start (c .before .before .before)
+begin c = start (checked c)
 
 abbrev S : tie.Start → List ℕ
 S c = now (c .args .queue)
@@ -62,14 +66,15 @@ length-test a = asks (eqb (length (O a)) cellSize) 2
 abbrev hit : tie.After-known-told → Bool
 hit c = leb 1 (K (begin c)) && leb (K (begin c)) (count-of c)
 
-told : (c : tie.After-known-told) → Told (S (begin c)) (K (begin c)) (cell-of c) (count-of c)
+told : (c : tie.After-known-told) → SoundAnswer (S (begin c)) (K (begin c)) (cell-of c) (count-of c)
 told c =
-    let k = c .before .before .before in
-    let a = start k in
-    told-sound (S a) (K a) (cell-of c) (count-of c) (ap checkedReport (sym (c .before .checked .given .1)) ∙ k .check .ensures)
+    let a = begin c in
+    let report = ap checkedReport (sym (c .before .checked .given .1)) in
+    told-sound (S a) (K a) (cell-of c) (count-of c) (report ∙ checked c .check .ensures)
 
 -- a refusal keeps the output
-refused : (s : List ℕ) (k : ℕ) (out : List ℕ) (a : Answer) → numberOf a ≢ 0 → numberOf a ≡ peekAnswer s k out → PeekAllows s k out (numberOf a) out
+refused : (s : List ℕ) (k : ℕ) (out : List ℕ) (a : Answer) → numberOf a ≢ 0 → numberOf a ≡ peekAnswer s k out
+    → PeekAllows s k out (numberOf a) out
 unfolding peekOutput
 refused s k out a d e = record { answer = e; output = kept _ _ out (λ z. d (e ∙ z)) }
 
@@ -94,7 +99,8 @@ at-cell : (c : tie.Then2) → cell-of (hitting c) ≡ cellOf (S (begin (hitting 
 at-cell c =
     let t = hitting c in
     let k = K (begin t) in
-    found-at (S (begin t)) k (cell-of t) (count-of t) (told t) (leb→le k (count-of t) (and-right (leb 1 k) (leb k (count-of t)) (holds (hit t) (c .if2 .taken))))
+    let n = count-of t in
+    found-at (S (begin t)) k (cell-of t) n (told t) (leb→le k n (and-right (leb 1 k) (leb k n) (holds (hit t) (c .if2 .taken))))
 
 check-requires : tie.Need-check-requires
 check-requires c κs = search needs
@@ -108,10 +114,11 @@ refuse-requires c κs = search needs
 returns : tie.Need-returns
 unfolding peekAnswer
 returns c =
-    let k = c .before .before in
-    let a = start k in
-    let r = told-unsound (S a) (K a) (k .check .result) (k .check .ensures) (c .before .match .keys2) in
-    refused (S a) (K a) (O a) (c .refuse .result) (λ e. r .nonzero (sym (c .refuse .ensures) ∙ e)) (c .refuse .ensures ∙ r .answer (own a))
+    let checked = c .before .before in
+    let a = start checked in
+    let same = c .refuse .ensures in
+    let r = told-unsound (S a) (K a) (checked .check .result) (checked .check .ensures) (c .before .match .keys2) in
+    refused (S a) (K a) (O a) (c .refuse .result) (λ e. r .nonzero (sym same ∙ e)) (same ∙ r .answer (own a))
 
 returns-2 : tie.Need-returns-2
 returns-2 c =
@@ -129,17 +136,17 @@ same-length c = search needs
 returns-3 : tie.Need-returns-3
 unfolding peekOutput
 returns-3 c =
-    let k = c .before .before in
-    let e = k .before .before in
-    let a = begin (e .before .before) in
-    let h = showing (S a) (K a) (O a) (found e) in
+    let shown = c .before .before in
+    let there = shown .before .before in
+    let a = begin (hitting there) in
+    let h = showing (S a) (K a) (O a) (found there) in
     record {
-      answer = sym (found e);
+      answer = sym (found there);
       output =
-          k .show .ensures
-          ∙ ap (λ (i : ℕ). shownAt (S a) i (O a)) (at-cell e)
+          shown .show .ensures
+          ∙ ap (λ (i : ℕ). shownAt (S a) i (O a)) (at-cell there)
           ∙ shows (S a) (O a) (cellOf (S a) (K a)) (record-fits (S a) (h .queue) (K a) (h .found)) (h .long)
-          ∙ wrote _ _ _ (found e);
+          ∙ wrote _ _ _ (found there);
     }
 
 returns-4 : tie.Need-returns-4
@@ -152,13 +159,4 @@ returns-4 c =
 pub peek-spec : {M : Type 1} → statement M
 peek-spec =
     tie.close
-    (tie.spec
-    check-requires
-    enum-known-checked
-    refuse-requires
-    returns
-    returns-2
-    show-requires
-    same-length
-    returns-3
-    returns-4)
+    (tie.spec check-requires enum-known-checked refuse-requires returns returns-2 show-requires same-length returns-3 returns-4)

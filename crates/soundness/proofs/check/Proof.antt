@@ -8,7 +8,7 @@ use lib.ListN.{length}
 use denote.Ref.{now}
 use borrow.Author.Tests.{not-true, not-false}
 use Rattle.sheet.specs.Layout.{isQueueLength}
-use Rattle.soundness.specs.Checked.{checkReport, checked}
+use Rattle.soundness.specs.Checked.{checkReport, checkAnswer}
 use borrow.Author.Needs.{needs}
 use Rattle.modular.proofs.Search.{holds}
 use Rattle.soundness.proofs.check.Statement.{statement}
@@ -24,20 +24,20 @@ is-length-requires : tie.Need-is-length-requires
 is-length-requires c κs = search needs
 
 returns : tie.Need-returns
-unfolding checked
+unfolding checkAnswer
 returns c = rw (sym (c .before .is-length .ensures) ∙ not-true _ (c .if1 .taken))
 
 walk-both-requires : tie.Need-walk-both-requires
 walk-both-requires c κs = holds _ (length-ok c)
 
 returns-2 : tie.Need-returns-2
-unfolding checked
+unfolding checkAnswer
 returns-2 c =
     let w = c .before .before in
     rw (length-ok (w .before), sym (w .walk-both .ensures .good-is) ∙ not-true _ (c .if2 .taken))
 
 returns-3 : tie.Need-returns-3
-unfolding checked
+unfolding checkAnswer
 returns-3 c =
     let w = c .before .before in
     let good = not-false _ (c .if2 .left) in

@@ -18,8 +18,8 @@ pair-requires c κs = search needs
 pair-requires-2 : tie.Need-pair-requires-2
 pair-requires-2 c κs = search needs
 
-number-requires : tie.Need-number-requires
-number-requires c κs = search needs
+decimal-requires : tie.Need-decimal-requires
+decimal-requires c κs = search needs
 
 add-pair-2 : tie.Need-add-pair-2
 add-pair-2 c = search needs
@@ -32,22 +32,17 @@ same-length c = search needs
 
 returns : tie.Need-returns
 returns c =
-    let p3 = c .before .before in
-    let n = p3 .before .before .before .before in
-    let p2 = n .before .before .before .before in
-    let p1 = p2 .before .before .before .before in
-    (heading-written _ _ _ _ (p1 .pair .ensures) (p2 .pair2 .ensures) (n .number .ensures .0) (p3 .pair3 .ensures), omega (arith, p1 .pair .ensures .ends, p2 .pair2 .ensures .ends, n .number .ensures .1, p3 .pair3 .ensures .ends))
+    let symbol = c .before .before in
+    let position = symbol .before .before .before .before in
+    let kind = position .before .before .before .before in
+    let profile = kind .before .before .before .before in
+    let a = profile .pair .ensures in
+    let b = kind .pair2 .ensures in
+    let (d, short) = position .decimal .ensures in
+    let e = symbol .pair3 .ensures in
+    (heading-written _ _ _ _ a b d e, omega (arith, a .ends, b .ends, short, e .ends))
 
 pub heading-spec : {M : Type 1} → statement M
 heading-spec =
     tie.close
-    (tie.spec
-    cast-pair
-    add-pair
-    pair-requires
-    pair-requires-2
-    number-requires
-    add-pair-2
-    pair-requires-3
-    same-length
-    returns)
+    (tie.spec cast-pair add-pair pair-requires pair-requires-2 decimal-requires add-pair-2 pair-requires-3 same-length returns)

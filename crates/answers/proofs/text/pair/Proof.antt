@@ -26,4 +26,5 @@ returns c = two _ _ _ _ (omega arith)
 
 pub pair-spec : {M : Type 1} → statement M
 pair-spec =
-    tie.close (tie.spec slice-write-out add-out slice-write-out-2 add-result same-length returns)
+    tie.close
+    (tie.spec slice-write-out add-out slice-write-out-2 add-result same-length returns)

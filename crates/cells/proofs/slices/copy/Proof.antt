@@ -7,7 +7,7 @@ use native.Mathlib.Omega.{arith}
 use lib.Dec.{ltb, ltb→lt}
 use lib.ListN.{length, getD, take, drop, set, length-set}
 use denote.Ref.{now}
-use Rattle.cells.proofs.Bytes.{copy-more, copy-over, both}
+use Rattle.cells.proofs.Bytes.{copy-more, copy-over, both-hold}
 use Rattle.cells.proofs.slices.copy.Statement.{statement}
 use Rattle.cells.proofs.slices.copy.Tie as tie
 
@@ -17,11 +17,16 @@ Inv-loop to₀ from i₀ to i = (i ≤ length from) × (i ≤ length to₀) × (
 abbrev μ-loop : tie.MeasureT-loop
 μ-loop to₀ from i₀ to i = length from - i
 
-in-both : (c : tie.In-loop Inv-loop μ-loop) → (c .before .loop .i < length (c .before .loop .to)) × (c .before .loop .i < length (now (c .before .before .args .from)))
+-- the bytes that are copied
+abbrev From : tie.At-loop Inv-loop μ-loop → List ℕ
+From c = now (c .before .args .from)
+
+in-both : (c : tie.In-loop Inv-loop μ-loop)
+    → (c .before .loop .i < length (c .before .loop .to)) × (c .before .loop .i < length (From (c .before)))
 in-both c =
     let l = c .before .loop in
-    let f = now (c .before .before .args .from) in
-    let t = both (ltb (l .i) (length (l .to))) (ltb (l .i) (length f)) (c .loop-test .taken) in
+    let f = From (c .before) in
+    let t = both-hold (ltb (l .i) (length (l .to))) (ltb (l .i) (length f)) (c .loop-test .taken) in
     (ltb→lt (l .i) (length (l .to)) (t .0), ltb→lt (l .i) (length f) (t .1))
 
 loop-holds : tie.Need-loop-holds Inv-loop μ-loop
@@ -41,8 +46,9 @@ loop-less c = omega (arith, in-both (c .before) .1)
 
 loop-again : tie.Need-loop-again Inv-loop μ-loop
 loop-again c =
-    let a = c .before .before .before .args in
-    let l = c .before .before .loop in
+    let turn = c .before .before in
+    let a = turn .before .args in
+    let l = turn .loop in
     let b = in-both (c .before) in (
       omega arith,
       omega arith,
@@ -65,14 +71,4 @@ returns c =
 pub copy-spec : {M : Type 1} → statement M
 copy-spec =
     tie.close
-    (tie.spec
-    Inv-loop
-    μ-loop
-    loop-holds
-    shared-slice-read-to
-    slice-write-to
-    add-i
-    loop-less
-    loop-again
-    same-length
-    returns)
+    (tie.spec Inv-loop μ-loop loop-holds shared-slice-read-to slice-write-to add-i loop-less loop-again same-length returns)

@@ -1,4 +1,5 @@
--- `codec_cases::text::field` is safe and ends. The invariant: a field starts within the line. The measure is how many fields are left to pass.
+-- `codec_cases::text::field` is safe and ends. The invariant: a field starts within the line. The measure is how many fields are left to
+-- pass.
 -- Assumes nothing.
 use Prim.Native.Nat.{_≤_}
 use lib.ListN.{length}
@@ -60,21 +61,5 @@ returns-2 c = search needs
 pub field-spec : {M : Type 1} → statement M
 field-spec =
     tie.close
-    (tie.spec
-    Inv-loop
-    μ-loop
-    loop-holds
-    until-requires
-    sub-result
-    part-result-start
-    part-result-end
-    returns
-    add-from
-    sub-left
-    loop-less
-    loop-again
-    until-requires-2
-    sub-result-2
-    part-result-start-2
-    part-result-end-2
-    returns-2)
+    (tie.spec Inv-loop μ-loop loop-holds until-requires sub-result part-result-start part-result-end returns add-from sub-left loop-less
+    loop-again until-requires-2 sub-result-2 part-result-start-2 part-result-end-2 returns-2)

@@ -18,9 +18,8 @@ same-length c = search needs
 returns : tie.Need-returns
 returns c =
     let h = c .answer-to .ensures in
-    record { text = h .text ∙ ap answerTo (c .before .before .before .before .before .hold .ensures); fits = h .fits; long = h .long }
+    let held = c .before .before .before .before .before in
+    record { text = h .text ∙ ap answerTo (held .hold .ensures); fits = h .fits; long = h .long }
 
 pub answer-spec : {M : Type 1} → statement M
-answer-spec =
-    tie.close
-    (tie.spec hold-requires answer-to-requires same-length returns)
+answer-spec = tie.close (tie.spec hold-requires answer-to-requires same-length returns)

@@ -9,16 +9,16 @@ use Rattle.lines.proofs.line.hold.Tie as tie
 
 returns : tie.Need-returns
 returns c =
-    let s = c .before .before .before in
-    hold-over (now (s .args .line)) (s .args .len) (now (s .args .bytes)) (c .if1 .taken)
+    let start = c .before .before .before in
+    hold-over (now (start .args .line)) (start .args .len) (now (start .args .bytes)) (c .if1 .taken)
 
 returns-2 : tie.Need-returns-2
 returns-2 c =
-    let s = c .before .before .before .before in
-    hold-full (now (s .args .line)) (s .args .len) (now (s .args .bytes)) (s .pre) (c .before .if1 .left) (c .if2 .taken)
+    let start = c .before .before .before .before in
+    hold-full (now (start .args .line)) (start .args .len) (now (start .args .bytes)) (start .pre) (c .before .if1 .left) (c .if2 .taken)
 
-copy-requires : tie.Need-copy-requires
-copy-requires c κs = search needs
+paste-requires : tie.Need-paste-requires
+paste-requires c κs = search needs
 
 add-result : tie.Need-add-result
 add-result c = search needs
@@ -28,10 +28,12 @@ same-length c = search needs
 
 returns-3 : tie.Need-returns-3
 returns-3 c =
-    let t = c .before .before in
-    let e = t .before .before in
-    let s = e .before .before .before .before in
-    hold-room (now (s .args .line)) (s .args .len) (now (s .args .bytes)) (s .pre) (e .before .if1 .left) (omega (arith, e .if2 .left, e .before .if1 .left)) (t .copy .ensures)
+    let pasted = c .before .before in
+    let roomy = pasted .before .before in
+    let start = roomy .before .before .before .before in
+    let short = roomy .before .if1 .left in
+    hold-room (now (start .args .line)) (start .args .len) (now (start .args .bytes)) (start .pre) short
+    (omega (arith, roomy .if2 .left, short)) (pasted .paste .ensures)
 
 pub hold-spec : {M : Type 1} → statement M
-hold-spec = tie.close (tie.spec returns returns-2 copy-requires add-result same-length returns-3)
+hold-spec = tie.close (tie.spec returns returns-2 paste-requires add-result same-length returns-3)

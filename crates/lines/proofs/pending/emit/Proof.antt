@@ -1,56 +1,48 @@
 -- `lines::pending::emit` meets its contract: as many bytes are copied as are pending and have room.
 -- Assumes nothing.
 use denote.Ref.{now}
-use Rattle.lines.proofs.Copying.{emits}
+use Rattle.lines.proofs.Pasting.{emits}
 use borrow.Author.Needs.{needs}
 use Rattle.lines.proofs.pending.emit.Statement.{statement}
 use Rattle.lines.proofs.pending.emit.Tie as tie
 
-sub-least : tie.Need-sub-least
-sub-least c = search needs
+sub-smaller : tie.Need-sub-smaller
+sub-smaller c = search needs
 
-sub-least-2 : tie.Need-sub-least-2
-sub-least-2 c = search needs
+sub-smaller-2 : tie.Need-sub-smaller-2
+sub-smaller-2 c = search needs
 
-least-requires : tie.Need-least-requires
-least-requires c κs = search needs
+smaller-requires : tie.Need-smaller-requires
+smaller-requires c κs = search needs
 
-add-copy : tie.Need-add-copy
-add-copy c = search needs
+add-paste : tie.Need-add-paste
+add-paste c = search needs
 
-sub-copy : tie.Need-sub-copy
-sub-copy c = search needs
+sub-paste : tie.Need-sub-paste
+sub-paste c = search needs
 
-part-copy-start : tie.Need-part-copy-start
-part-copy-start c = search needs
+part-paste-start : tie.Need-part-paste-start
+part-paste-start c = search needs
 
-part-copy-end : tie.Need-part-copy-end
-part-copy-end c = search needs
+part-paste-end : tie.Need-part-paste-end
+part-paste-end c = search needs
 
-copy-requires : tie.Need-copy-requires
-copy-requires c κs = search needs
+paste-requires : tie.Need-paste-requires
+paste-requires c κs = search needs
 
 same-length : tie.Need-same-length
 same-length c = search needs
 
 returns : tie.Need-returns
 returns c =
-    let t = c .before .before in
-    let l = t .before .before .before in
-    let s = l .before .before .before in
-    emits (now (s .args .answer)) (now (s .args .output)) (s .pre .1) (s .pre .0) (s .pre .2) (l .least .ensures) (t .copy .ensures)
+    let pasted = c .before .before in
+    let measured = pasted .before .before .before in
+    let start = measured .before .before .before in
+    let (order, end, room) = start .pre in
+    emits (now (start .args .answer)) (now (start .args .output)) end order room (measured .smaller .ensures) (pasted .paste .ensures)
 
 pub emit-spec : {M : Type 1} → statement M
 emit-spec =
     tie.close
-    (tie.spec
-    sub-least
-    sub-least-2
-    least-requires
-    add-copy
-    sub-copy
-    part-copy-start
-    part-copy-end
-    copy-requires
-    same-length
+    (tie.spec sub-smaller sub-smaller-2 smaller-requires add-paste sub-paste part-paste-start part-paste-end paste-requires same-length
     returns)

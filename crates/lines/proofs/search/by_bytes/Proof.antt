@@ -22,7 +22,8 @@ shared-slice-read-if1 c = omega arith
 
 returns : tie.Need-returns Inv-loop μ-loop
 returns c =
-    let i = c .before .before .before .loop .inv in
+    let turn = c .before .before .before in
+    let i = turn .loop .inv in
     record { low = i .0; high = i .1; none = i .2; ends = λ h. c .if1 .taken }
 
 add-at : tie.Need-add-at Inv-loop μ-loop
@@ -33,8 +34,9 @@ loop-less c = omega arith
 
 loop-again : tie.Need-loop-again Inv-loop μ-loop
 loop-again c =
-    let l = c .before .before .before in
-    (omega (arith, l .loop .inv .0), omega arith, none-more (now (l .before .args .input)) (l .loop .inv .2) (c .if1 .left))
+    let turn = c .before .before .before in
+    let i = turn .loop .inv in
+    (omega (arith, i .0), omega arith, none-more (now (turn .before .args .input)) (i .2) (c .if1 .left))
 
 returns-2 : tie.Need-returns-2 Inv-loop μ-loop
 returns-2 c =
@@ -44,13 +46,4 @@ returns-2 c =
 pub by-bytes-spec : {M : Type 1} → statement M
 by-bytes-spec =
     tie.close
-    (tie.spec
-    Inv-loop
-    μ-loop
-    loop-holds
-    shared-slice-read-if1
-    returns
-    add-at
-    loop-less
-    loop-again
-    returns-2)
+    (tie.spec Inv-loop μ-loop loop-holds shared-slice-read-if1 returns add-at loop-less loop-again returns-2)

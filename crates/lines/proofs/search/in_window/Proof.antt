@@ -13,19 +13,26 @@ abbrev μ-loop : tie.MeasureT-loop
 μ-loop input from first₀ i₀ first i = 128 - i
 
 loop-holds : tie.Need-loop-holds Inv-loop μ-loop
-loop-holds c = record { within = zero-le; high = omega arith; before = λ h. absurd (omega arith); none = λ j l a b e. omega arith; ends = λ h. absurd (omega arith) }
+loop-holds c =
+    record {
+      within = zero-le;
+      high = omega arith;
+      before = λ h. absurd (omega arith);
+      none = λ j l a b e. omega arith;
+      ends = λ h. absurd (omega arith);
+    }
 
-cast-place : tie.Need-cast-place Inv-loop μ-loop
-cast-place c = omega arith
+cast-end-index : tie.Need-cast-end-index Inv-loop μ-loop
+cast-end-index c = omega arith
 
-add-place : tie.Need-add-place Inv-loop μ-loop
-add-place c = omega arith
+add-end-index : tie.Need-add-end-index Inv-loop μ-loop
+add-end-index c = omega arith
 
-shared-slice-read-place : tie.Need-shared-slice-read-place Inv-loop μ-loop
-shared-slice-read-place c = omega arith
+shared-slice-read-end-index : tie.Need-shared-slice-read-end-index Inv-loop μ-loop
+shared-slice-read-end-index c = omega arith
 
-place-requires : tie.Need-place-requires Inv-loop μ-loop
-place-requires c κs = tt
+end-index-requires : tie.Need-end-index-requires Inv-loop μ-loop
+end-index-requires c κs = tt
 
 earlier-requires : tie.Need-earlier-requires Inv-loop μ-loop
 earlier-requires c κs = tt
@@ -38,8 +45,8 @@ loop-less c = omega arith
 
 loop-again : tie.Need-loop-again Inv-loop μ-loop
 loop-again c =
-    let t = c .before .before .before in
-    seen-more (t .before .loop .inv) (t .loop-test .taken) (c .before .place .ensures) (c .earlier .ensures)
+    let entered = c .before .before .before in
+    seen-more (entered .before .loop .inv) (entered .loop-test .taken) (c .before .end-index .ensures) (c .earlier .ensures)
 
 cast-result : tie.Need-cast-result Inv-loop μ-loop
 cast-result c = omega (arith, c .before .loop .inv .high)
@@ -53,18 +60,5 @@ returns c = seen-all (c .before .loop .inv) (c .loop-test .left)
 pub in-window-spec : {M : Type 1} → statement M
 in-window-spec =
     tie.close
-    (tie.spec
-    Inv-loop
-    μ-loop
-    loop-holds
-    cast-place
-    add-place
-    shared-slice-read-place
-    place-requires
-    earlier-requires
-    add-i
-    loop-less
-    loop-again
-    cast-result
-    add-result
-    returns)
+    (tie.spec Inv-loop μ-loop loop-holds cast-end-index add-end-index shared-slice-read-end-index end-index-requires earlier-requires add-i
+    loop-less loop-again cast-result add-result returns)

@@ -27,16 +27,17 @@ sub-if1 c = c .in-window .ensures .low
 
 returns : tie.Need-returns Inv-loop μ-loop
 returns c =
-    let l = c .before .before .before in
-    end-on (l .loop .inv .0) (l .loop .inv .2) (end-within (omega arith) (omega (arith, c .if1 .taken)) (c .before .in-window .ensures))
+    let turn = c .before .before .before in
+    let i = turn .loop .inv in
+    end-on (i .0) (i .2) (end-within (omega arith) (omega (arith, c .if1 .taken)) (c .before .in-window .ensures))
 
 loop-less : tie.Need-loop-less Inv-loop μ-loop
 loop-less c = omega (arith, c .before .in-window .ensures .low, c .before .in-window .ensures .high)
 
 loop-again : tie.Need-loop-again Inv-loop μ-loop
 loop-again c =
-    let l = c .before .before .before in
-    let e = end-on (l .loop .inv .0) (l .loop .inv .2) (c .before .in-window .ensures) in
+    let turn = c .before .before .before in
+    let e = end-on (turn .loop .inv .0) (turn .loop .inv .2) (c .before .in-window .ensures) in
     (e .low, omega (arith, e .high), e .none)
 
 by-bytes-requires : tie.Need-by-bytes-requires Inv-loop μ-loop
@@ -48,15 +49,4 @@ returns-2 c = end-on (c .before .before .loop .inv .0) (c .before .before .loop 
 pub line-end-spec : {M : Type 1} → statement M
 line-end-spec =
     tie.close
-    (tie.spec
-    Inv-loop
-    μ-loop
-    loop-holds
-    sub-loop
-    in-window-requires
-    sub-if1
-    returns
-    loop-less
-    loop-again
-    by-bytes-requires
-    returns-2)
+    (tie.spec Inv-loop μ-loop loop-holds sub-loop in-window-requires sub-if1 returns loop-less loop-again by-bytes-requires returns-2)

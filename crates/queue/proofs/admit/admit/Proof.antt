@@ -25,9 +25,12 @@ use Rattle.queue.proofs.admit.admit.Tie as tie
 abbrev start : tie.Else1 → tie.Start
 start c = c .before .before
 
--- the moment after the box number's test
+-- the moments after the profile was looked up, and after the box number's test
+abbrev looked-up : tie.After-known-told → tie.After-row-of
+looked-up c = c .before .before .before
+
 abbrev boxed : tie.After-known-told → tie.Else1
-boxed c = c .before .before .before .before
+boxed c = looked-up c .before
 
 abbrev begin : tie.After-known-told → tie.Start
 begin c = start (boxed c)
@@ -37,7 +40,7 @@ W c = now (c .args .word)
 
 -- the row is the profile's
 of : (c : tie.After-known-told) → RowOf (begin c .args .profile) (c .before .row .given .0 .0)
-of c = row-found _ (c .before .before .before .row-of .ensures) (c .before .row .given .1)
+of c = row-found _ (looked-up c .row-of .ensures) (c .before .row .given .1)
 
 abbrev found : tie.After-struct-known → tie.After-known-told
 found c = c .before
@@ -125,13 +128,4 @@ returns-5 c =
 pub admit-spec : {M : Type 1} → statement M
 admit-spec =
     tie.close
-    (tie.spec
-    returns
-    row-of-requires
-    enum-known-row
-    enum-told
-    returns-2
-    returns-3
-    symbols-below-requires
-    returns-4
-    returns-5)
+    (tie.spec returns row-of-requires enum-known-row enum-told returns-2 returns-3 symbols-below-requires returns-4 returns-5)

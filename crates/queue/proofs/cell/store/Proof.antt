@@ -49,7 +49,7 @@ enters c = entering (Q c) (B c) (P c) (W c) (c .pre .0)
 
 -- both cells lie in the bytes, and the word in its cell
 fit : (c : tie.Start)
-    → ((X c + 1) * cellSize ≤ length (Q c)) × ((L c + 1) * cellSize ≤ length (Q c)) × (208 ≤ length (Q c)) × (length (W c) ≤ 99)
+    → ((X c + 1) * cellSize ≤ length (Q c)) × ((L c + 1) * cellSize ≤ length (Q c)) × (2 * cellSize ≤ length (Q c)) × (length (W c) ≤ 99)
 fit c =
     let e = enters c in
     let z = size-of (Q c) (e .queue .size) in (
@@ -131,34 +131,16 @@ same-length c = c .before .queue .given .1 ∙ simp length-set
 returns : tie.Need-returns
 unfolding enqueued
 returns c =
-    let a = start (c .before .before .before .before .before) in
-    let k = c .before .before in
+    let copied = c .before .before in
+    let a = start (copied .before .before .before) in
     let same = c .before .queue .given .0 in
-    let long : length (k .copy .last .0) ≡ length (W a) = omega (arith, same, k .before .copy-arg .given .2) in
-    stored a (k .copy .last .0) (k .copy .ensures ∙ copied-same _ (W a) (sym same ∙ long))
+    let long : length (copied .copy .last .0) ≡ length (W a) = omega (arith, same, copied .before .copy-arg .given .2) in
+    stored a (copied .copy .last .0) (copied .copy .ensures ∙ copied-same _ (W a) (sym same ∙ long))
     ∙ ap (λ (z : ℕ). setBody (links (Q a) (X a) z) (X a) (recordOf (B a) (P a) (W a))) (a .pre .1)
 
 pub store-spec : {M : Type 1} → statement M
 store-spec =
     tie.close
-    (tie.spec
-    slice-read-first
-    cast-at
-    mul-at
-    mul-end
-    slice-read-queue
-    slice-write-queue
-    slice-write-queue-2
-    slice-write-queue-3
-    add-queue
-    slice-write-queue-4
-    add-queue-2
-    slice-write-queue-5
-    add-from
-    add-to
-    sub-copy
-    part-copy-start
-    part-copy-end
-    copy-requires
-    same-length
+    (tie.spec slice-read-first cast-at mul-at mul-end slice-read-queue slice-write-queue slice-write-queue-2 slice-write-queue-3 add-queue
+    slice-write-queue-4 add-queue-2 slice-write-queue-5 add-from add-to sub-copy part-copy-start part-copy-end copy-requires same-length
     returns)

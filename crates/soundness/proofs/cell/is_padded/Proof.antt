@@ -17,15 +17,19 @@ use Rattle.profiles.proofs.Table.{row-found, none-found, codeword-is}
 use Rattle.sheet.specs.Lists.{allZero}
 use Rattle.sheet.specs.Sound.{isPadded}
 use Rattle.sheet.proofs.Record.{word-fits}
-use Rattle.cells.proofs.Bytes.{part-rest}
+use Rattle.cells.proofs.Bytes.{lent-rest}
 use Rattle.soundness.proofs.Conditions.{on, off}
 use Rattle.soundness.proofs.Rows.{received-is}
 use borrow.Author.Needs.{needs}
 use Rattle.soundness.proofs.cell.is_padded.Statement.{statement}
 use Rattle.soundness.proofs.cell.is_padded.Tie as tie
 
+-- the moments at which the row is looked up, and the start
+abbrev looked : tie.After-known-told → tie.After-row-of
+looked c = c .before .before .before
+
 abbrev start : tie.After-known-told → tie.Start
-start c = c .before .before .before .before .before
+start c = looked c .before .before
 
 abbrev P : tie.After-known-told → ℕ
 P c = start c .args .profile
@@ -41,7 +45,7 @@ W c = now (start c .args .bytes)
 
 -- the row is the profile's
 of : (c : tie.After-known-told) → RowOf (P c) (row c)
-of c = row-found _ (c .before .before .before .row-of .ensures) (c .before .row .given .1)
+of c = row-found _ (looked c .row-of .ensures) (c .before .row .given .1)
 
 fits : (c : tie.After-known-told) → N c ≤ length (W c)
 fits c = omega (arith, codeword-is (of c), word-fits (P c) (of c .known), start c .pre)
@@ -85,22 +89,12 @@ returns-2 c =
     let found = c .before .before .before .before in
     let w = W found in
     let symbols = c .before .before .symbols-below .ensures ∙ received-is (of found) (take (N found) w) in
-    let rest = c .all-zero .ensures ∙ ap allZero (part-rest w (N found)) in
+    let rest = c .all-zero .ensures ∙ ap allZero (lent-rest w (N found)) in
     on (isProfile (P found)) _ _ (passes (of found .known))
     (ap₂ _&&_ symbols rest ∙ ap (λ (n : ℕ). isReceived (profile (P found)) (take n w) && allZero (drop n w)) (codeword-is (of found)))
 
 pub is-padded-spec : {M : Type 1} → statement M
 is-padded-spec =
     tie.close
-    (tie.spec
-    row-of-requires
-    enum-known-row
-    enum-told
-    returns
-    slice-aggregate-symbols-below
-    symbols-below-requires
-    sub-all-zero
-    part-all-zero-start
-    part-all-zero-end
-    all-zero-requires
-    returns-2)
+    (tie.spec row-of-requires enum-known-row enum-told returns slice-aggregate-symbols-below symbols-below-requires sub-all-zero
+    part-all-zero-start part-all-zero-end all-zero-requires returns-2)

@@ -5,7 +5,7 @@ use mathlib.Core.Bool.{Bool, _&&_}
 use lib.ListN.{getD}
 use denote.Ref.{now}
 use Rattle.sheet.specs.Sound.{isBox, isPadded, isRecord}
-use Rattle.cells.proofs.Bytes.{part-rest}
+use Rattle.cells.proofs.Bytes.{lent-rest}
 use borrow.Author.Needs.{needs}
 use Rattle.soundness.proofs.cell.is_record.Statement.{statement}
 use Rattle.soundness.proofs.cell.is_record.Tie as tie
@@ -31,17 +31,11 @@ is-word-requires c κs = search needs
 returns : tie.Need-returns
 unfolding isRecord
 returns c =
-    let r = now (c .before .before .before .before .before .args .body) in
-    ap (λ (b : Bool). isBox (getD r 0 0) && b) (c .is-word .ensures ∙ ap (isPadded (getD r 1 0)) (part-rest r 2))
+    let start = c .before .before .before .before .before in
+    let r = now (start .args .body) in
+    ap (λ (b : Bool). isBox (getD r 0 0) && b) (c .is-word .ensures ∙ ap (isPadded (getD r 1 0)) (lent-rest r 2))
 
 pub is-record-spec : {M : Type 1} → statement M
 is-record-spec =
     tie.close
-    (tie.spec
-    shared-slice-read-boxno
-    sub-is-word
-    part-is-word-start
-    part-is-word-end
-    shared-slice-read-is-word
-    is-word-requires
-    returns)
+    (tie.spec shared-slice-read-boxno sub-is-word part-is-word-start part-is-word-end shared-slice-read-is-word is-word-requires returns)

@@ -55,13 +55,5 @@ returns-5 c =
 pub is-word-spec : {M : Type 1} → statement M
 is-word-spec =
     tie.close
-    (tie.spec
-    is-padded-requires
-    is-padded-requires-2
-    is-padded-requires-3
-    is-padded-requires-4
-    returns
-    returns-2
-    returns-3
-    returns-4
+    (tie.spec is-padded-requires is-padded-requires-2 is-padded-requires-3 is-padded-requires-4 returns returns-2 returns-3 returns-4
     returns-5)

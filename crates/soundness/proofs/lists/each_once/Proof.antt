@@ -34,8 +34,9 @@ loop-less c = omega arith
 
 loop-again : tie.Need-loop-again Inv-loop μ-loop
 loop-again c =
-    let l = c .before .before .loop in
-    (omega arith, once-more (now (c .before .before .before .args .seen)) (l .i) (l .once) (l .inv .1))
+    let turn = c .before .before in
+    let l = turn .loop in
+    (omega arith, once-more (now (turn .before .args .seen)) (l .i) (l .once) (l .inv .1))
 
 returns : tie.Need-returns Inv-loop μ-loop
 returns c =
@@ -47,13 +48,4 @@ returns c =
 pub each-once-spec : {M : Type 1} → statement M
 each-once-spec =
     tie.close
-    (tie.spec
-    Inv-loop
-    μ-loop
-    loop-holds
-    add-i
-    mul-once
-    element-copy-out-once
-    loop-less
-    loop-again
-    returns)
+    (tie.spec Inv-loop μ-loop loop-holds add-i mul-once element-copy-out-once loop-less loop-again returns)

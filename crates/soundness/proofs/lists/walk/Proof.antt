@@ -61,9 +61,10 @@ is-cell-requires c κs = start (c .before) .pre .0
 
 returns-2 : tie.Need-returns-2 Inv-loop μ-loop
 returns-2 c =
-    let m = c .before .before .before in
+    let steps-left = c .before .before in
+    let turn = steps-left .before in
     let bad = not-true _ (c .if2 .taken) in
-    walk-fails (m .before .loop .inv) (c .before .before .if1 .left) (m .loop-test .taken) (sym (c .before .is-cell .ensures) ∙ bad) _ bad
+    walk-fails (turn .before .loop .inv) (steps-left .if1 .left) (turn .loop-test .taken) (sym (c .before .is-cell .ensures) ∙ bad) _ bad
 
 mul-seen : tie.Need-mul-seen Inv-loop μ-loop
 mul-seen c = omega (arith, cell-in c)
@@ -91,23 +92,31 @@ mul-at : tie.Need-mul-at Inv-loop μ-loop
 mul-at c = omega (arith, cell-in (c .before .before))
 
 shared-slice-read-cell : tie.Need-shared-slice-read-cell Inv-loop μ-loop
-shared-slice-read-cell c = omega (arith, cell-in (c .before .before .before), size (in-loop (c .before .before .before)) .long)
+shared-slice-read-cell c =
+    let good-cell = c .before .before .before in
+    omega (arith, cell-in good-cell, size (in-loop good-cell) .long)
 
 cast-cell : tie.Need-cast-cell Inv-loop μ-loop
-cast-cell c = omega (arith, c .shared-slice-known2 .given (in-loop (c .before .before .before) .before .loop .cell * cellSize))
+cast-cell c =
+    let good-cell = c .before .before .before in
+    omega (arith, c .shared-slice-known2 .given (cell-at (in-loop good-cell) * cellSize))
 
 sub-left : tie.Need-sub-left Inv-loop μ-loop
-sub-left c = omega (arith, c .before .before .before .before .before .if1 .left)
+sub-left c =
+    let good-cell = c .before .before .before in
+    omega (arith, good-cell .before .before .if1 .left)
 
 loop-less : tie.Need-loop-less Inv-loop μ-loop
-loop-less c = omega (arith, c .before .before .before .before .before .if1 .left)
+loop-less c =
+    let good-cell = c .before .before .before in
+    omega (arith, good-cell .before .before .if1 .left)
 
 loop-again : tie.Need-loop-again Inv-loop μ-loop
 loop-again c =
-    let e = c .before .before .before in
-    let m = in-loop e in
-    walk-on (m .before .loop .inv) (e .before .before .if1 .left) (m .loop-test .taken) (good e) _ (c .before .go-on .result) refl
-    (c .before .go-on .ensures)
+    let good-cell = c .before .before .before in
+    let turn = in-loop good-cell in
+    walk-on (turn .before .loop .inv) (good-cell .before .before .if1 .left) (turn .loop-test .taken) (good good-cell) _
+    (c .before .go-on .result) refl (c .before .go-on .ensures)
 
 returns-3 : tie.Need-returns-3 Inv-loop μ-loop
 returns-3 c = walk-ended (c .before .loop .inv) (c .loop-test .left)
@@ -115,24 +124,5 @@ returns-3 c = walk-ended (c .before .loop .inv) (c .loop-test .left)
 pub walk-spec : {M : Type 1} → statement M
 walk-spec =
     tie.close
-    (tie.spec
-    Inv-loop
-    μ-loop
-    capacity-requires
-    loop-holds
-    returns
-    is-cell-requires
-    returns-2
-    mul-seen
-    element-copy-out-seen
-    add-seen
-    element-write-seen
-    add-met
-    go-on-requires
-    mul-at
-    shared-slice-read-cell
-    cast-cell
-    sub-left
-    loop-less
-    loop-again
-    returns-3)
+    (tie.spec Inv-loop μ-loop capacity-requires loop-holds returns is-cell-requires returns-2 mul-seen element-copy-out-seen add-seen
+    element-write-seen add-met go-on-requires mul-at shared-slice-read-cell cast-cell sub-left loop-less loop-again returns-3)

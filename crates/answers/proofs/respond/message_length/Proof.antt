@@ -1,0 +1,29 @@
+-- `answers::respond::message_length` meets its contract: the row is the profile's, where there is one.
+-- Assumes nothing.
+use borrow.Author.Needs.{needs}
+use Rattle.profiles.proofs.Table.{row-found, none-found}
+use Rattle.answers.proofs.Answers.{message-row, message-none}
+use Rattle.answers.proofs.respond.message_length.Statement.{statement}
+use Rattle.answers.proofs.respond.message_length.Tie as tie
+
+row-of-requires : tie.Need-row-of-requires
+row-of-requires c κs = search needs
+
+enum-known-row : tie.Need-enum-known-row
+enum-known-row c = search needs
+
+enum-told : tie.Need-enum-told
+enum-told c = search needs
+
+returns : tie.Need-returns
+returns c = message-none _ (none-found _ (c .before .before .row-of .ensures) (c .enum-told .given .1))
+
+returns-2 : tie.Need-returns-2
+returns-2 c =
+    let looked = c .before .before .before in
+    message-row (row-found _ (looked .row-of .ensures) (c .before .row .given .1))
+
+pub message-length-spec : {M : Type 1} → statement M
+message-length-spec =
+    tie.close
+    (tie.spec row-of-requires enum-known-row enum-told returns returns-2)

@@ -1,0 +1,69 @@
+-- `answers::respond::write_decoded` meets its contract: an arm for each case of the report.
+-- Assumes nothing.
+use native.Mathlib.Omega.{arith}
+use borrow.Author.Needs.{needs}
+use Rattle.answers.proofs.respond.write_decoded.Statement.{statement}
+use Rattle.answers.proofs.respond.write_decoded.Tie as tie
+
+enum-told : tie.Need-enum-told
+enum-told c = search needs
+
+reading-line-requires : tie.Need-reading-line-requires
+reading-line-requires c κs =
+    let start = c .before .before .before .before .before .before in
+    let t = rw (c .before .enum-told .given .1) at (start .pre .1) in
+    ((start .pre .0 .0, omega arith, omega arith, start .pre .0 .1), search needs)
+
+enum-known-decoded : tie.Need-enum-known-decoded
+enum-known-decoded c = search needs
+
+reading-line-requires-2 : tie.Need-reading-line-requires-2
+reading-line-requires-2 c κs =
+    let start = c .before .before .before .before .before .before .before in
+    let t = rw (c .before .before .decoded .given .1) at (start .pre .1) in
+    ((start .pre .0 .0, t .0, t .1, start .pre .0 .1), search needs)
+
+enum-told-2 : tie.Need-enum-told-2
+enum-told-2 c = search needs
+
+refusal-line-requires : tie.Need-refusal-line-requires
+refusal-line-requires c κs = search needs
+
+enum-known-decoded-2 : tie.Need-enum-known-decoded-2
+enum-known-decoded-2 c = search needs
+
+refusal-line-requires-2 : tie.Need-refusal-line-requires-2
+refusal-line-requires-2 c κs =
+    let start = c .before .before .before .before .before .before .before in
+    (rw (c .before .before .decoded2 .given .1) at (start .pre .1), start .pre .0 .1)
+
+same-length : tie.Need-same-length
+same-length c = search needs
+
+returns : tie.Need-returns
+returns c = let written = c .before .before in rw (written .before .before .enum-told .given .1) (written .reading-line .ensures)
+
+same-length-2 : tie.Need-same-length-2
+same-length-2 c = search needs
+
+returns-2 : tie.Need-returns-2
+returns-2 c = let written = c .before .before in rw (written .before .before .before .decoded .given .1) (written .reading-line2 .ensures)
+
+same-length-3 : tie.Need-same-length-3
+same-length-3 c = search needs
+
+returns-3 : tie.Need-returns-3
+returns-3 c = let written = c .before .before in rw (written .before .before .enum-told2 .given .1) (written .refusal-line .ensures)
+
+same-length-4 : tie.Need-same-length-4
+same-length-4 c = search needs
+
+returns-4 : tie.Need-returns-4
+returns-4 c = let written = c .before .before in rw (written .before .before .before .decoded2 .given .1) (written .refusal-line2 .ensures)
+
+pub write-decoded-spec : {M : Type 1} → statement M
+write-decoded-spec =
+    tie.close
+    (tie.spec enum-told reading-line-requires enum-known-decoded reading-line-requires-2 enum-told-2 refusal-line-requires
+    enum-known-decoded-2 refusal-line-requires-2 same-length returns same-length-2 returns-2 same-length-3 returns-3 same-length-4
+    returns-4)

@@ -1,0 +1,38 @@
+// Answers in print.
+use crate::text::smaller;
+use libc::STDOUT_FILENO;
+
+// What an output holds before a call.
+pub(crate) const FILL: u8 = 170;
+
+// The digits of a word.
+pub(crate) fn print_word(s: &[u8]) {
+    let mut text = [0u8; 128];
+    let n = smaller(s.len(), 128);
+    let mut i = 0;
+    while i < n {
+        let x = s[i];
+        text[i] = if x < 10 { b'0' + x } else { b'?' };
+        i += 1;
+    }
+    io::write_all(STDOUT_FILENO, &text[..n]);
+}
+
+pub(crate) fn is_untouched(s: &[u8]) -> bool {
+    let mut i = 0;
+    while i < s.len() {
+        if s[i] != FILL {
+            return false;
+        }
+        i += 1;
+    }
+    true
+}
+
+// A refusal that changed a byte of an output begins with X.
+pub(crate) fn print_refusal(number: u8, is_kept: bool) {
+    let mark = if is_kept { b'R' } else { b'X' };
+    let digit = if number < 10 { b'0' + number } else { b'?' };
+    let text = [mark, b' ', digit, b'\n'];
+    io::write_all(STDOUT_FILENO, &text);
+}
