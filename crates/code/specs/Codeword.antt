@@ -78,6 +78,7 @@ hasChecks p u =
 unfoldable pub nearComponents : Parameters → List ℕ → List ℕ → Bool
 nearComponents p c d = inCode p c && nearCode p d || nearCode p c && inCode p d
 
+-- so it is with those of a received word
 unfoldable pub hasComponents : Parameters → List ℕ → Bool
 hasComponents p u = nearComponents p (received p true u) (received p false u)
 

@@ -14,7 +14,7 @@ use Rattle.code.proofs.Weights.{length-differences, differences-below}
 use Rattle.code.proofs.Columns.{q-positive}
 use Rattle.profiles.specs.declared.row.Row.{Row}
 use Rattle.profiles.specs.Row.{parameters}
-use Rattle.decoder.specs.Received.{Body}
+use Rattle.decoder.specs.Received.{Body, Differenced}
 
 -- the first k symbols of the list d stand in the array
 pub record Copied (d array : List ℕ) (m k : ℕ) : Type 0 where
@@ -86,7 +86,7 @@ module _ {t : Row} {w : List ℕ} (b : Body t w) where
       (e ∙ ap₂ (neighbourDifference (parameters t)) before after ∙ sym (difference-at (parameters t) body j (omega (arith, whole))))
 
   pub differenced-all : {x : List ℕ} {i : ℕ} → Copied held x (t .balanced) i → t .balanced ≤ i
-      → Body t x × (drop 1 (take (t .balanced) x) ≡ differences (parameters t) body)
+      → Body t x × Differenced t w x
   differenced-all {x} {i} c h =
       let n : length held ≡ t .balanced = length-differences (parameters t) body (omega (arith, whole, some)) ∙ whole in
       let m : t .balanced ≤ length held = omega arith in (

@@ -23,7 +23,7 @@ use Rattle.symbols.specs.Syndromes.{rows, part}
 use Rattle.decoder.specs.declared.totals.Totals.{Totals}
 use Rattle.decoder.specs.Rows.{rowsOf}
 use Rattle.decoder.specs.Sides.{isFirst}
-use Rattle.decoder.specs.Received.{Body}
+use Rattle.decoder.specs.Received.{Body, Differenced}
 use Rattle.decoder.specs.Totals.{Word, sumsOf}
 use Rattle.decoder.specs.Place.{Located, symbolSent}
 use Rattle.decoder.proofs.Fitting.{index-is, places-are}
@@ -45,8 +45,8 @@ body-of {t} v u array s n e =
     }
 
 -- the differences hold the components
-pub parts-of : {t : Row} → Valid t → (u w x : List ℕ) → take (t .balanced) w ≡ take (t .balanced) u
-    → drop 1 (take (t .balanced) x) ≡ differences (parameters t) (take (t .balanced) w) → (b : Bool) → part b (t .n) x ≡ received (parameters t) b u
+pub parts-of : {t : Row} → Valid t → (u w x : List ℕ) → take (t .balanced) w ≡ take (t .balanced) u → Differenced t w x
+    → (b : Bool) → part b (t .n) x ≡ received (parameters t) b u
 unfolding received body
 parts-of {t} v u w x e f b =
     let g : drop 1 (take (t .balanced) x) ≡ differences (parameters t) (take (t .balanced) u) = f ∙ ap (differences (parameters t)) e in

@@ -3,10 +3,10 @@ use crate::residue::sub;
 use profiles::Row;
 ghost use mathlib.Core.Path.{_≡_};
 ghost use Prim.Native.Nat.{_≤_, _<_};
-ghost use lib.ListN.{length, take, drop, set};
-ghost use Rattle.code.specs.Balance.{neighbourDifference, differences};
+ghost use lib.ListN.{length, take, set};
+ghost use Rattle.code.specs.Balance.{neighbourDifference};
 ghost use Rattle.profiles.specs.Row.{parameters};
-ghost use Rattle.decoder.specs.Received.{Body};
+ghost use Rattle.decoder.specs.Received.{Body, Differenced};
 ghost use Rattle.decoder.specs.Totals.{Word, Components};
 
 // The first m symbols of a word copied into w.
@@ -29,10 +29,10 @@ fn neighbour_difference(row: Row, a: u8, b: u8) -> u8
     sub(row.q, b, a)
 }
 
-// 01: w differenced mod q, into x: the symbols of the components in turn, after one that is not looked at.
+// 01: w differenced mod q, into x: the symbols of the components in turn, after one symbol.
 pub(crate) fn difference_body(row: Row, w: &[u8; 97], x: &mut [u8; 97])
     requires { ⌜ Body row (now w) × (length (now x) ≡ 97) ⌝ }
-    ensures { λ _. ⌜ Body row (now (x .exit)) × (drop 1 (take (row .balanced) (now (x .exit))) ≡ differences (parameters row) (take (row .balanced) (now (w .entry)))) ⌝ }
+    ensures { λ _. ⌜ Body row (now (x .exit)) × Differenced row (now (w .entry)) (now (x .exit)) ⌝ }
 {
     let m = row.balanced;
     x[0] = w[0];
