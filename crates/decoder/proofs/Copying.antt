@@ -1,49 +1,23 @@
--- A body copied into an array, and its differences, a symbol at a time.
+-- The differences of a body, a symbol at a time.
 -- Assumes nothing.
 use mathlib.Core.Path.{_≡_, refl, sym, ap, ap₂, _∙_}
 use mathlib.Core.List.{List, [], _∷_}
-use Prim.Native.Nat.{ℕ, zero, suc, _+_, _-_, _≤_, _<_, zero-le}
+use Prim.Native.Nat.{ℕ, zero, suc, _+_, _-_, _≤_, _<_}
 use native.Mathlib.Nat.{not-suc-le-zero, le-of-suc-le-suc}
 use native.Mathlib.Omega.{arith}
-use native.Mathlib.Decide.{ℕ-discrete}
-use lib.ListN.{length, getD, take, set, length-set}
-use lib.Seq.{getD-take, getD-set-same, getD-set-other, ext-getD, length-take-le, take-all}
+use lib.ListN.{length, getD, take, set}
+use lib.Seq.{getD-take, length-take-le, take-all}
 use Rattle.modular.specs.Residue.{minus}
 use Rattle.modular.proofs.Residue.{of-eq, _then_, small, minus-below, minus-add}
 use Rattle.code.specs.Balance.{difference}
 use Rattle.code.proofs.Weights.{length-difference}
 use Rattle.code.proofs.Columns.{q-positive}
+use Rattle.residues.specs.Byte.{byteDifference}
+use Rattle.residues.proofs.Filling.{FilledTo, filled-none, filled-more, filled-take}
+use Rattle.residues.proofs.Bytes.{byte-difference}
 use Rattle.profiles.specs.declared.row.Row.{Row}
 use Rattle.profiles.specs.Row.{parameters}
 use Rattle.decoder.specs.Received.{Body}
-
--- the first k symbols of the list d stand in the array
-pub record Copied (d array : List ℕ) (m k : ℕ) : Type 0 where
-  pub within : k ≤ m
-  pub size : length array ≡ 97
-  pub at : (j : ℕ) → j < k → getD array j 0 ≡ getD d j 0
-
-pub copied-none : (d array : List ℕ) (m : ℕ) → length array ≡ 97 → Copied d array m 0
-copied-none d array m e = record { within = zero-le; size = e; at = λ j h. absurd (not-suc-le-zero h) }
-
-pub copied-more : {d array : List ℕ} {m k : ℕ} → Copied d array m k → k < m → m ≤ 97 → {y : ℕ} → y ≡ getD d k 0 → Copied d (set array k y) m (k + 1)
-copied-more {d} {array} {m} {k} c l h {y} e =
-    record { within = omega arith; size = length-set array k y ∙ c .size; at = λ j i. at j i (ℕ-discrete j k) }
-  where
-    at : (j : ℕ) → j < k + 1 → Dec (j ≡ k) → getD (set array k y) j 0 ≡ getD d j 0
-    at j i (yes f) = let s : k < length array = omega (arith, c .size) in rw f (getD-set-same array k y 0 s ∙ e)
-    at j i (no n) = getD-set-other array k j y 0 n ∙ c .at j (omega (arith, n))
-
-pub copied-all : {d array : List ℕ} {m k : ℕ} → Copied d array m k → m ≤ k → m ≤ length d → m ≤ 97 → take m array ≡ take m d
-copied-all {d} {array} {m} {k} c h n b =
-    let e : length (take m array) ≡ m = length-take-le m array (omega (arith, c .size)) in
-    let f : length (take m d) ≡ m = length-take-le m d n in
-    ext-getD 0 (take m array) (take m d) (e ∙ sym f)
-    (λ j g.
-    let l : j < m = omega arith in
-    getD-take m array j 0 l ∙ c .at j (omega arith) ∙ sym (getD-take m d j 0 l))
-
--- Differences.
 
 difference-at : (q a : ℕ) (w : List ℕ) (j : ℕ) → suc j < length w → getD (difference q a w) (suc j) 0 ≡ minus q (getD w (suc j) 0) (getD w j 0)
 difference-at q a [] j h = absurd (not-suc-le-zero h)
@@ -80,26 +54,31 @@ module _ {t : Row} {w : List ℕ} (b : Body t w) where
   abbrev differencesOf : List ℕ
   differencesOf = difference (t .q) 0 (take (t .balanced) w)
 
-  pub differenced-first : (x : List ℕ) → length x ≡ 97 → Copied differencesOf (set x 0 (getD w 0 0)) (t .balanced) 1
+  -- the first i of them stand in x
+  abbrev pub Differenced : List ℕ → ℕ → Type 0
+  Differenced x i = FilledTo (λ j. getD differencesOf j 0) 97 x i
+
+  pub differenced-first : (x : List ℕ) → length x ≡ 97 → Differenced (set x 0 (getD w 0 0)) 1
   differenced-first x e =
       let f : getD (take (t .balanced) w) 0 0 ≡ getD w 0 0 = getD-take (t .balanced) w 0 0 some in
       let g : getD (take (t .balanced) w) 0 0 < t .q = rw f (b .below 0 some) in
       let h : 1 ≤ length (take (t .balanced) w) = omega (arith, whole, some) in
-      copied-more (copied-none differencesOf x (t .balanced) e) some short (sym f ∙ first-difference (t .q) (take (t .balanced) w) g h)
+      filled-more (filled-none _ x e) (omega arith) (sym f ∙ first-difference (t .q) (take (t .balanced) w) g h)
 
-  pub differenced-more : {x : List ℕ} {i : ℕ} → Copied differencesOf x (t .balanced) i → 1 ≤ i → i < t .balanced
-      → {y : ℕ} → y ≡ minus (t .q) (getD w i 0) (getD w (i - 1) 0) → Copied differencesOf (set x i y) (t .balanced) (i + 1)
+  pub differenced-more : {x : List ℕ} {i : ℕ} → Differenced x i → 1 ≤ i → i < t .balanced
+      → {y : ℕ} → y ≡ byteDifference (t .q) (getD w i 0) (getD w (i - 1) 0) → Differenced (set x i y) (i + 1)
   differenced-more {i = zero} c n l e = absurd (not-suc-le-zero n)
   differenced-more {i = suc j} c n l e =
       let f : suc j - 1 ≡ j = omega arith in
       let k : j < t .balanced = omega arith in
-      copied-more c l short
-      (e
-      ∙ ap₂ (minus (t .q)) (sym (getD-take (t .balanced) w (suc j) 0 l)) (ap (λ (a : ℕ). getD w a 0) f ∙ sym (getD-take (t .balanced) w j 0 k))
+      let m : getD w j 0 ≤ t .q = omega (arith, b .below j k) in
+      let d = byte-difference (b .below (suc j) l) m (omega (arith, b .valid .levels)) (rw f at e) in
+      filled-more c (omega (arith, short))
+      (d .0
+      ∙ ap₂ (minus (t .q)) (sym (getD-take (t .balanced) w (suc j) 0 l)) (sym (getD-take (t .balanced) w j 0 k))
       ∙ sym (difference-at (t .q) 0 (take (t .balanced) w) j (omega (arith, whole))))
 
-  pub differenced-all : {x : List ℕ} {i : ℕ} → Copied differencesOf x (t .balanced) i → t .balanced ≤ i
-      → Body t x × (take (t .balanced) x ≡ differencesOf)
+  pub differenced-all : {x : List ℕ} {i : ℕ} → Differenced x i → t .balanced ≤ i → Body t x × (take (t .balanced) x ≡ differencesOf)
   differenced-all {x} {i} c h =
       let n : length differencesOf ≡ t .balanced = length-difference (t .q) 0 (take (t .balanced) w) ∙ whole in
       let m : t .balanced ≤ length differencesOf = omega arith in (
@@ -108,5 +87,5 @@ module _ {t : Row} {w : List ℕ} (b : Body t w) where
           size = c .size;
           below = λ j l. rw (c .at j (omega arith)) (difference-below (t .q) 0 q₁ (take (t .balanced) w) j);
         },
-        copied-all c h m short ∙ take-all (t .balanced) differencesOf (omega arith),
+        filled-take c (t .balanced) h short differencesOf m (λ j l. refl) ∙ take-all (t .balanced) differencesOf (omega arith),
       )

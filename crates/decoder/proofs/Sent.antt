@@ -3,32 +3,19 @@
 use mathlib.Core.Path.{_≡_, refl, ap₂, _∙_}
 use mathlib.Core.Logic.{_≢_}
 use mathlib.Core.Bool.{Bool, true, false}
-use Prim.Native.Nat.{ℕ, _+_, _-_, _≤_, _<_}
+use Prim.Native.Nat.{ℕ, _+_, _<_}
 use native.Mathlib.Omega.{arith}
 use lib.Dec.{T, leb, ltb, ltb→lt}
-use borrow.Author.Tests.{le-leb, lt-leb, lt-ltb, le-ltb}
 use Rattle.modular.proofs.Search.{and-right, passes, holds}
 use Rattle.code.specs.Parameters.{Parameters}
 use Rattle.decoding.specs.Decoded.{Sums, target, balancingSymbol, inRange}
+use Rattle.residues.specs.Level.{level}
 use Rattle.profiles.specs.declared.row.Row.{Row}
 use Rattle.profiles.specs.Row.{parameters, Valid}
 use Rattle.decoder.specs.declared.totals.Totals.{Totals}
 use Rattle.decoder.specs.Totals.{sumsOf}
-use Rattle.decoder.specs.Level.{level}
 use Rattle.decoder.specs.Place.{symbolSent}
 use Rattle.decoder.proofs.Totalling.{middle-is}
-
-pub level-low : (q a b : ℕ) → a < b → q ≡ level q a b
-unfolding level
-level-low q a b h = rw (lt-leb b a h, level)
-
-pub level-in : (q a b : ℕ) → b ≤ a → a - b < q → a - b ≡ level q a b
-unfolding level
-level-in q a b h l = rw (le-leb b a h, level, lt-ltb (a - b) q l)
-
-pub level-high : (q a b : ℕ) → b ≤ a → q ≤ a - b → q ≡ level q a b
-unfolding level
-level-high q a b h l = rw (le-leb b a h, level, le-ltb (a - b) q l)
 
 module _ (p : Parameters) (s : Sums) (x : ℕ) where
   sent-level : level (p .q) (x + target p) (s .weighs) ≡ symbolSent p s x

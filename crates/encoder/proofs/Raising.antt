@@ -55,27 +55,6 @@ step-is-low from s i h = sym (step-low from s i h)
 pub step-is-high : (from s i : ℕ) → from ≤ i → s + 1 ≡ stepAt from s i
 step-is-high from s i h = add-one s ∙ sym (step-high from s i h)
 
--- the first i are raised
-pub record Raising (q : ℕ) (d : List ℕ) (s from : ℕ) (w : List ℕ) (i : ℕ) : Type 0 where
-  pub upto : i ≤ 97
-  pub size : length w ≡ 97
-  pub at : (k : ℕ) → k < i → getD w k 0 ≡ (getD d k 0 + stepAt from s k) % q
-
-pub raising-none : (q : ℕ) (d : List ℕ) (s from : ℕ) → Raising q d s from (replicate 97 0) 0
-raising-none q d s from = record { upto = zero-le; size = refl; at = λ k h. absurd (not-suc-le-zero h) }
-
-pub raising-more : {q : ℕ} {d : List ℕ} {s from : ℕ} {w : List ℕ} {i : ℕ} → Raising q d s from w i → i < 97
-    → {y : ℕ} → y ≡ (getD d i 0 + stepAt from s i) % q → Raising q d s from (set w i y) (i + 1)
-raising-more {q} {d} {s} {from} {w} {i} r l {y} e =
-    record { upto = omega arith; size = length-set w i y ∙ r .size; at = λ k h. at k h (ℕ-discrete k i) }
-  where
-    at : (k : ℕ) → k < i + 1 → Dec (k ≡ i) → getD (set w i y) k 0 ≡ (getD d k 0 + stepAt from s k) % q
-    at k h (yes z) = let o : i < length w = omega (arith, r .size) in rw z (getD-set-same w i y 0 o ∙ e)
-    at k h (no z) = getD-set-other w i k y 0 z ∙ r .at k (omega (arith, z))
-
-pub raising-all : {q : ℕ} {d : List ℕ} {s from : ℕ} {w : List ℕ} {i : ℕ} → Raising q d s from w i → 97 ≤ i → Raised q d s from w
-raising-all r h = record { at = λ k l. r .at k (omega arith) }
-
 -- w of a choice: s is added before index i, and s + 1 from there on.
 
 length-shifted : (q s : ℕ) (d : List ℕ) → length (shifted q s d) ≡ length d

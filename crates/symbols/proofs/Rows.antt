@@ -11,12 +11,12 @@ use lib.Seq.{take-all}
 use Rattle.modular.specs.Sum.{weight, dot}
 use Rattle.modular.proofs.Sum.{dot-same, dot-one, dot-zero}
 use Rattle.code.specs.Component.{checkRow, syndrome}
+use Rattle.residues.specs.Remainder.{residue}
+use Rattle.residues.proofs.Dividing.{residue-is}
 use Rattle.symbols.specs.declared.syndromes.Sums.{Sums}
-use Rattle.symbols.specs.Remainder.{residue}
 use Rattle.symbols.specs.Columns.{Columns}
 use Rattle.symbols.specs.Syndromes.{fourRows, digit, rowSums, Light, Added}
 use Rattle.symbols.proofs.Digits.{digits-high}
-use Rattle.symbols.proofs.Reduce.{residue-is}
 use Rattle.symbols.proofs.Words.{dot-take, weight-take}
 
 -- a product of two bytes

@@ -21,7 +21,7 @@ abbrev start : tie.After-earliest → tie.Start
 start e = e .before .before .before
 
 integrated-requires : tie.Need-integrated-requires
-integrated-requires c κs = (omega (arith, c .pre .0 .sized .levels), c .pre .1)
+integrated-requires c κs = c .pre .1
 
 earliest-requires : tie.Need-earliest-requires
 earliest-requires c κs =
