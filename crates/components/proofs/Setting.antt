@@ -143,7 +143,8 @@ solves {q} {two = two} {one = one} {f = f} {g = g} s ha hb htwo hd he hone hf hg
     powers (suc (suc (suc j))) l m = absurd (omega arith)
 
 -- The check symbols by the steps of the code, for row sums below q.
-module _ {q : ℕ} (s : List ℕ) (n : q ≤ 255) (low : getD s 0 0 < q) (middle : getD s 1 0 < q) (high : getD s 2 0 < q) (ones : getD s 3 0 < q) where
+module _ {q : ℕ} (s : List ℕ) (n : q ≤ 255) (low : getD s 0 0 < q) (middle : getD s 1 0 < q) (high : getD s 2 0 < q)
+    (ones : getD s 3 0 < q) where
   pub solves-of : {a b two d e one f g : ℕ}
       → a ≡ byteDifference q (getD s 3 0) (getD s 0 0) → b ≡ byteDifference q a (getD s 1 0) → two ≡ byteDifference q b (getD s 2 0)
       → d ≡ byteDifference q 0 (getD s 0 0) → e ≡ byteDifference q d two → one ≡ byteDifference q e two

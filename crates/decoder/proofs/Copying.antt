@@ -19,7 +19,8 @@ use Rattle.profiles.specs.declared.row.Row.{Row}
 use Rattle.profiles.specs.Row.{parameters}
 use Rattle.decoder.specs.Received.{Body}
 
-difference-at : (q a : ℕ) (w : List ℕ) (j : ℕ) → suc j < length w → getD (difference q a w) (suc j) 0 ≡ minus q (getD w (suc j) 0) (getD w j 0)
+difference-at : (q a : ℕ) (w : List ℕ) (j : ℕ) → suc j < length w
+    → getD (difference q a w) (suc j) 0 ≡ minus q (getD w (suc j) 0) (getD w j 0)
 difference-at q a [] j h = absurd (not-suc-le-zero h)
 difference-at q a (x ∷ []) j h = absurd (not-suc-le-zero (le-of-suc-le-suc h))
 difference-at q a (x ∷ y ∷ w) zero h = refl

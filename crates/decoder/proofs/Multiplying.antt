@@ -26,8 +26,8 @@ multiplied-none q f table h e z =
       written = record { size = e; at = λ d l. let i : d ≡ 0 = omega arith in rw (i, z, mul-zero) (sym (zero-mod q)) };
     }
 
-pub multiplied-more : {q f : ℕ} {table : List ℕ} {i : ℕ} → Multiplied q f table i → i < q → q ≤ 15 → f < q → {y : ℕ} → y ≡ byteSum q (getD table (i - 1) 0) f
-    → Multiplied q f (set table i y) (i + 1)
+pub multiplied-more : {q f : ℕ} {table : List ℕ} {i : ℕ} → Multiplied q f table i → i < q → q ≤ 15 → f < q
+    → {y : ℕ} → y ≡ byteSum q (getD table (i - 1) 0) f → Multiplied q f (set table i y) (i + 1)
 multiplied-more {i = zero} m l b h e = absurd (not-suc-le-zero (m .from))
 multiplied-more {q} {f} {table} {i = suc j} m l b h {y} e =
     let some : 1 ≤ q = omega arith in
@@ -39,7 +39,8 @@ multiplied-more {q} {f} {table} {i = suc j} m l b h {y} e =
     let sum = byte-sum below k (omega arith) (rw g at e) .0 ∙ (add (of-eq last then reduce q (f * j)) (same f) then of-eq next) .same in
     record { from = omega arith; within = omega arith; written = filled-more (m .written) (omega arith) sum }
 
-pub multiplied-all : {q f : ℕ} {table : List ℕ} {i : ℕ} → Multiplied q f table i → q ≤ i → f < q → 2 ≤ q → Multiples q table × (getD table 1 0 ≡ f)
+pub multiplied-all : {q f : ℕ} {table : List ℕ} {i : ℕ} → Multiplied q f table i → q ≤ i → f < q → 2 ≤ q
+    → Multiples q table × (getD table 1 0 ≡ f)
 multiplied-all {q} {f} {table} m h l two =
     let e : getD table 1 0 ≡ f = m .written .at 1 (omega arith) ∙ rw mul-one (mod-eq-of-lt l) in
     (record { at = λ d k. m .written .at d (omega arith) ∙ ap (λ (g : ℕ). (g * d) % q) (sym e) }, e)

@@ -56,12 +56,8 @@ module _ {t : Row} {word w x : List ℕ} (a : Apart t word w x) where
   body-light : weight (body (parameters t) word) ≤ 1358
   unfolding body
   body-light =
-      omega (
-        arith,
-        weight-small (t .q) (a .is .valid .levels) (body (parameters t) word) (symbols-take (t .q) (balancedLength (parameters t)) word (a .is .below)),
-        body-long,
-        a .is .valid .length,
-      )
+      let below = symbols-take (t .q) (balancedLength (parameters t)) word (a .is .below) in
+      omega (arith, weight-small (t .q) (a .is .valid .levels) (body (parameters t) word) below, body-long, a .is .valid .length)
 
   -- the array begins with the body
   room : t .balanced ≤ 97
@@ -79,19 +75,23 @@ module _ {t : Row} {word w x : List ℕ} (a : Apart t word w x) where
     pub weight-is : k .odd + k .even ≡ weight (body (parameters t) word)
     weight-is = rw (e, copy-is) (alternate-weight (body (parameters t) word))
 
-    pub asked-are : {c : Checks} → c ≡ checksOf (t .q) (t .delta) k → (b : Bool) → checkOf c b ≡ checkSymbol (t .q) b (body (parameters t) word)
+    pub asked-are : {c : Checks} → c ≡ checksOf (t .q) (t .delta) k
+        → (b : Bool) → checkOf c b ≡ checkSymbol (t .q) b (body (parameters t) word)
     asked-are f b =
         let long : length (take (t .balanced) w) ≡ t .balanced = ap length begins ∙ body-long ∙ sym (a .is .valid .balanced) in
         let is = f ∙ ap (checksOf (t .q) (t .delta)) e ∙ checks-are w q₁ room long (a .is .valid .delta) in
         at b (ap (λ (c : Checks). checkOf c b) is)
       where
-        at : (b : Bool) {y : ℕ} → y ≡ checkOf (record { alpha = alpha (t .q) (take (t .balanced) w); beta = beta (t .q) (take (t .balanced) w) }) b
-            → y ≡ checkSymbol (t .q) b (body (parameters t) word)
+        l : List ℕ
+        l = take (t .balanced) w
+
+        at : (b : Bool) {y : ℕ} → y ≡ checkOf (record { alpha = alpha (t .q) l; beta = beta (t .q) l }) b → y ≡ checkSymbol (t .q) b (body (parameters t) word)
         at true h = h ∙ ap (alpha (t .q)) begins
         at false h = h ∙ ap (beta (t .q)) begins
 
   -- the syndrome of a component, as four rows
-  pub rows-of-part : {columns : List (List ℕ)} → Columns (t .q) (t .n) columns → (b : Bool) {s : List ℕ} → s ≡ rowSums (t .q) columns (part b (min (t .n) 48) x)
+  pub rows-of-part : {columns : List (List ℕ)} → Columns (t .q) (t .n) columns → (b : Bool)
+      → {s : List ℕ} → s ≡ rowSums (t .q) columns (part b (min (t .n) 48) x)
       → FourRows t s × (rowsOf t s ≡ syndromes (parameters t) (received (parameters t) b word))
   rows-of-part {columns} k b {s} e =
       let c : List ℕ = part b (t .n) x in
@@ -120,7 +120,8 @@ module _ {t : Row} {word w x : List ℕ} (a : Apart t word w x) where
         arrived-is : _≡_ {A = Bool → ℕ} (checkOf (s .arrived)) (λ b. getD word (checkIndex (parameters t) b) 0)
         arrived-is = fun-ext arrived
 
-    pub totalled : s .lack ≡ residueOfDifference (t .q) (t .middle) (s .weight) → FourRows t (rows (s .first)) → FourRows t (rows (s .second)) → Totalled t s
+    pub totalled : s .lack ≡ residueOfDifference (t .q) (t .middle) (s .weight)
+        → FourRows t (rows (s .first)) → FourRows t (rows (s .second)) → Totalled t s
     unfolding lack
     totalled d f h =
         let l : s .lack ≡ (t .middle + (t .q - 1) * s .weight) % t .q = d ∙ difference-is (t .middle) (s .weight) q₁ in

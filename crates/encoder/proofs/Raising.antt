@@ -36,7 +36,8 @@ weighed-none q by m d = record { within = zero-le; is = refl; small = zero-le }
 pub weighed-more : {q by m : ℕ} {d : List ℕ} {sum i : ℕ} → Weighed q by m d sum i → i < m → m ≤ length d → q ≤ 15
     → {y : ℕ} → y ≡ (getD d i 0 + by) % q → y < q → Weighed q by m d (sum + y) (i + 1)
 weighed-more {q} {by} {m} {d} {sum} {i} w l room levels {y} e b =
-    record { within = omega arith; is = rw add-one (omega (arith, w .is, weight-more q by d i (omega arith))); small = omega (arith, w .small) }
+    let more = weight-more q by d i (omega arith) in
+    record { within = omega arith; is = rw add-one (omega (arith, w .is, more)); small = omega (arith, w .small) }
 
 -- The symbols.
 
@@ -47,7 +48,8 @@ step-high : (from s i : ℕ) → from ≤ i → stepAt from s i ≡ suc s
 step-high from s i h = ap (λ (b : Bool). elim b as (λ _. ℕ) [ true ↦ s | false ↦ suc s ]) (le-ltb i from h)
 
 pub step-upto : (from s i q : ℕ) → s < q → stepAt from s i ≤ q
-step-upto from s i q h = ⊎-elim (λ (k : from ≤ i). rw (step-high from s i k) h) (λ (k : i < from). rw (step-low from s i k) (omega arith)) (le-or-lt from i)
+step-upto from s i q h =
+    ⊎-elim (λ (k : from ≤ i). rw (step-high from s i k) h) (λ (k : i < from). rw (step-low from s i k) (omega arith)) (le-or-lt from i)
 
 pub step-is-low : (from s i : ℕ) → i < from → s ≡ stepAt from s i
 step-is-low from s i h = sym (step-low from s i h)

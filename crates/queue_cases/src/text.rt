@@ -1,6 +1,7 @@
 // Numbers and bytes of a line of text, and digests.
 use residues::wide;
 use residues::wide64;
+ghost use Prim.Native.Nat.{_<_};
 
 // A number, and the index after it.
 pub(crate) struct Field {

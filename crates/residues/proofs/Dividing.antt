@@ -48,9 +48,8 @@ module _ {q : ℕ} (a b : ℕ) (h : 1 ≤ q) where
   difference-of narrow e =
       let l : residue q b ≤ q = omega (arith, residue-below b h) in
       let d = byte-difference (residue-below a h) l narrow e in
-      let back : Congruent q (minus q (residue q a) (residue q b) + residue q b) (residue q a) = minus-add q (residue q a) (residue q b) h in
       unique (d .1)
-      (add (of-eq (d .0)) (symm (reduce q b) then of-eq (sym (residue-is b h))) then back then of-eq (residue-is a h) then reduce q a)
+      (add (of-eq (d .0)) (symm (reduce q b) then of-eq (sym (residue-is b h))) then minus-add q (residue q a) (residue q b) h then of-eq (residue-is a h) then reduce q a)
 
 pub differs : (q a b : ℕ) → q ≤ 255 → {r : ℕ} → r ≡ byteDifference q (residue q a) (residue q b) → r ≡ residueOfDifference q a b
 unfolding byteDifference residue residueOfDifference

@@ -17,7 +17,8 @@ pub record FilledTo (f : ℕ → ℕ) (n : ℕ) (array : List ℕ) (i : ℕ) : T
 pub filled-none : (f : ℕ → ℕ) {n : ℕ} (array : List ℕ) → length array ≡ n → FilledTo f n array 0
 filled-none f array e = record { size = e; at = λ k h. absurd (not-suc-le-zero h) }
 
-pub filled-more : {f : ℕ → ℕ} {n : ℕ} {array : List ℕ} {i : ℕ} → FilledTo f n array i → i < n → {y : ℕ} → y ≡ f i → FilledTo f n (set array i y) (i + 1)
+pub filled-more : {f : ℕ → ℕ} {n : ℕ} {array : List ℕ} {i : ℕ} → FilledTo f n array i → i < n
+    → {y : ℕ} → y ≡ f i → FilledTo f n (set array i y) (i + 1)
 filled-more {f} {n} {array} {i} a l {y} e = record { size = length-set array i y ∙ a .size; at = λ k h. at k h (ℕ-discrete k i) }
   where
     at : (k : ℕ) → k < i + 1 → Dec (k ≡ i) → getD (set array i y) k 0 ≡ f k

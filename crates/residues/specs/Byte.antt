@@ -1,5 +1,5 @@
--- Sums and differences mod q of two bytes, as the code has them: those of levels are the remainders that are meant, and what they are of any bytes is
--- said too.
+-- Sums and differences mod q of two bytes, as the code has them: of levels they are the remainders that are meant,
+-- and what they are of any bytes is said too.
 -- Assumes nothing.
 use mathlib.Core.Bool.{true, false}
 use Prim.Native.Nat.{ℕ, _+_, _-_, _%_}

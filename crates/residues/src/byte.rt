@@ -1,5 +1,5 @@
-// Sums and differences mod q of two symbols, by a comparison and no division. They are taken in a byte, where nothing overflows for any bytes, so that
-// the compiler works on many symbols at a time.
+// Sums and differences mod q of two symbols, by a comparison and no division. They are taken in a byte, where they wrap for
+// bytes that are no levels: so no test stands in the way of the compiler, which works on many symbols at a time.
 use std::num::wrapping_add_u8;
 use std::num::wrapping_sub_u8;
 ghost use mathlib.Core.Path.{_≡_};

@@ -1,5 +1,5 @@
-// Symbols and sums mod q, and bytes as wider numbers: the arithmetic that encoding and decoding share. Each function is total: it answers for any
-// arguments, and says what.
+// Symbols and sums mod q, and bytes as wider numbers: the arithmetic that encoding and decoding share. Each function is
+// total: it answers for any arguments, and says what.
 mod byte;
 mod plain;
 mod sum;

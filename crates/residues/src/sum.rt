@@ -1,4 +1,5 @@
-// Sums mod q. To divide a sum of 16 bits by q is to multiply it by an inverse of q and to drop 16 bits: the quotient is then right, or one too low.
+// Sums mod q. To divide a sum of 16 bits by q is to multiply it by an inverse of q and to drop 16 bits: the quotient is then
+// right, or one too low.
 use crate::byte::sub;
 use crate::width::wide;
 use crate::width::wide16;

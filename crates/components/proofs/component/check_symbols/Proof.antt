@@ -37,7 +37,9 @@ returns c =
     let two = one .before .before .before in
     let start = two .before .before .before in
     let p = start .pre in
-    solves-of (rows (start .args .s)) (omega arith) (p .0) (p .1) (p .2) (p .3) (two .before .before .sub .ensures) (two .before .sub2 .ensures) (two .sub3 .ensures)
+    let a = two .before .before .sub .ensures in
+    let b = two .before .sub2 .ensures in
+    solves-of (rows (start .args .s)) (omega arith) (p .0) (p .1) (p .2) (p .3) a b (two .sub3 .ensures)
     (one .before .before .sub4 .ensures) (one .before .sub5 .ensures) (one .sub6 .ensures) (c .before .sub7 .ensures) (c .sub8 .ensures)
 
 pub check-symbols-spec : {M : Type 1} → statement M

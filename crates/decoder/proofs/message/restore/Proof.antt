@@ -72,7 +72,8 @@ returns-2 c =
     let p = c .before .before in
     let a = start p in
     let v = a .pre .0 .valid in
-    let lowered = byte-difference (a .pre .0 .below _ (within p)) (omega (arith, v .sized .levels)) (omega (arith, v .levels)) (c .sub .ensures) in
+    let below = a .pre .0 .below _ (within p) in
+    let lowered = byte-difference below (omega (arith, v .sized .levels)) (omega (arith, v .levels)) (c .sub .ensures) in
     restored-lowered (a .pre .0) _ (named p) (a .pre .2) (place p) (a .pre .3) lowered
 
 pub restore-spec : {M : Type 1} → statement M

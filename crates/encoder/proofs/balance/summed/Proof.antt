@@ -1,4 +1,5 @@
--- `encoder::balance::summed` meets its contract. The invariant: the sums passed are written, and `sum` is the last. The measure is what is left.
+-- `encoder::balance::summed` meets its contract. The invariant: the sums passed are written, and `sum` is the last.
+-- The measure is what is left.
 -- Assumes nothing.
 use Prim.Native.Nat.{_-_, _≤_}
 use native.Mathlib.Omega.{arith}

@@ -1,4 +1,5 @@
--- `encoder::balance::weight_raised` meets its contract. The invariant: the sum is the weight of the symbols passed. The measure is what is left.
+-- `encoder::balance::weight_raised` meets its contract. The invariant: the sum is the weight of the symbols passed.
+-- The measure is what is left.
 -- Assumes nothing.
 use mathlib.Core.Path.{_≡_, _∙_}
 use Prim.Native.Nat.{_+_, _-_, _%_, _<_}
@@ -40,7 +41,7 @@ module _ (c : tie.After-wide16 Inv-loop μ-loop) where
   abbrev start : tie.Start Inv-loop μ-loop
   start = turn .before
 
-  symbol : (c .wide16 .result ≡ (getD (now (start .args .d)) (turn .loop .i) 0 + start .args .by) % start .args .q) × (c .wide16 .result < start .args .q)
+  symbol : let a = start .args in (c .wide16 .result ≡ (getD (now (a .d)) (turn .loop .i) 0 + a .by) % a .q) × (c .wide16 .result < a .q)
   symbol =
       let below = start .pre .0 .below _ (added .before .before .loop-test .taken) in
       let sum = byte-sum below (start .pre .1) (omega (arith, start .pre .0 .levels)) (added .add .ensures) in

@@ -41,8 +41,9 @@ returns c =
     let m = c .before .before .before .before in
     let a = start m in
     let first = now (a .args .first) in
-    let second = now (a .args .second) in (
-      pair-encoded (a .pre .0) first second (pair m) (m .components .ensures) (c .before .before .balanced .ensures) (c .with-checks .ensures .0),
+    let second = now (a .args .second) in
+    let w = c .before .before .balanced .ensures in (
+      pair-encoded (a .pre .0) first second (pair m) (m .components .ensures) w (c .with-checks .ensures .0),
       pair-length (a .pre .0) first second (pair m) (m .components .ensures) (c .with-checks .ensures .1),
     )
 

@@ -14,8 +14,8 @@ wrapping-add-u8-requires c κs = search needs
 
 returns : tie.Need-returns
 returns c =
-    let less = c .before in
-    difference-low _ _ _ (less .wrapping-sub-u8 .result) (less .before .if1 .taken) (omega arith) (less .wrapping-sub-u8 .ensures) (c .wrapping-add-u8 .ensures)
+    let d = c .before .wrapping-sub-u8 in
+    difference-low _ _ _ (d .result) (c .before .before .if1 .taken) (omega arith) (d .ensures) (c .wrapping-add-u8 .ensures)
 
 returns-2 : tie.Need-returns-2
 returns-2 c = difference-high _ _ _ (c .if1 .left)
