@@ -1,5 +1,3 @@
--- Symbols mod q
-pub mod Bytes
 -- The messages and the check symbols in one array
 pub mod Interleaving
 pub mod Placing

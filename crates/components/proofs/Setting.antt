@@ -13,8 +13,9 @@ use Rattle.code.proofs.Reduced.{pivot-below, power-position}
 use Rattle.profiles.specs.declared.row.Row.{Row}
 use Rattle.profiles.specs.Row.{parameters, Valid}
 use Rattle.symbols.specs.Syndromes.{part}
+use Rattle.residues.specs.Byte.{byteDifference}
+use Rattle.residues.proofs.Bytes.{byte-difference}
 use Rattle.components.specs.Checks.{checkPosition, checked, setAt, Solves, Filled}
-use Rattle.components.proofs.Bytes.{Difference}
 use Rattle.components.proofs.Interleaving.{set-first, set-second, set-head, set-past}
 
 -- The check positions after 2, as the code has them.
@@ -86,15 +87,24 @@ module _ (t : Row) (valid : Valid t) where
 
 -- The differences, put back.
 
-back : {q r : ℕ} (a x : ℕ) → 1 ≤ q → Difference q a x r → Congruent q (r + x) a
-back {q} a x h d = of-eq (ap (λ (y : ℕ). y + x) (d .0)) then minus-add q a x h
+-- r is a - x
+record Taken (q a x r : ℕ) : Type 0 where
+  below : r < q
+  back : Congruent q (r + x) a
 
-pub solves-of : {q a b two d e one f g : ℕ} (s : List ℕ) → 1 ≤ q
-    → Difference q (getD s 3 0) (getD s 0 0) a → Difference q a (getD s 1 0) b → Difference q b (getD s 2 0) two
-    → Difference q 0 (getD s 0 0) d → Difference q d two e → Difference q e two one
-    → Difference q 0 (getD s 1 0) f → Difference q 0 (getD s 2 0) g
+taken : {q r : ℕ} (a x : ℕ) → q ≤ 255 → a < q → x < q → r ≡ byteDifference q a x → Taken q a x r
+taken {q} a x n h k e =
+    let l : x ≤ q = omega arith in
+    let some : 1 ≤ q = omega arith in
+    let d = byte-difference h l n e in
+    record { below = d .1; back = of-eq (ap (λ (y : ℕ). y + x) (d .0)) then minus-add q a x some }
+
+solves : {q a b two d e one f g : ℕ} (s : List ℕ)
+    → Taken q (getD s 3 0) (getD s 0 0) a → Taken q a (getD s 1 0) b → Taken q b (getD s 2 0) two
+    → Taken q 0 (getD s 0 0) d → Taken q d two e → Taken q e two one
+    → Taken q 0 (getD s 1 0) f → Taken q 0 (getD s 2 0) g
     → Solves q s (two ∷ one ∷ f ∷ g ∷ [])
-solves-of {q} {a} {b} {two} {d} {e} {one} {f} {g} s h ha hb htwo hd he hone hf hg =
+solves {q} {two = two} {one = one} {f = f} {g = g} s ha hb htwo hd he hone hf hg =
     record { below = below; two = is-two; one = is-one; powers = powers }
   where
     low : ℕ
@@ -110,24 +120,42 @@ solves-of {q} {a} {b} {two} {d} {e} {one} {f} {g} s h ha hb htwo hd he hone hf h
     ones = getD s 3 0
 
     below : (k : ℕ) → k < 4 → getD (two ∷ one ∷ f ∷ g ∷ []) k 0 < q
-    below zero l = htwo .1
-    below (suc zero) l = hone .1
-    below (suc (suc zero)) l = hf .1
-    below (suc (suc (suc zero))) l = hg .1
+    below zero l = htwo .below
+    below (suc zero) l = hone .below
+    below (suc (suc zero)) l = hf .below
+    below (suc (suc (suc zero))) l = hg .below
     below (suc (suc (suc (suc k)))) l = absurd (omega arith)
 
     is-two : Congruent q (two + (low + middle + high)) ones
     is-two =
         let u : two + (low + middle + high) ≡ two + high + middle + low = omega arith in
-        of-eq u then add (add (back b high h htwo) (same middle) then back a middle h hb) (same low) then back ones low h ha
+        of-eq u then add (add (htwo .back) (same middle) then hb .back) (same low) then ha .back
 
     is-one : Congruent q (one + (low + 2 * two)) 0
     is-one =
         let u : one + (low + 2 * two) ≡ one + two + two + low = omega arith in
-        of-eq u then add (add (back e two h hone) (same two) then back d two h he) (same low) then back 0 low h hd
+        of-eq u then add (add (hone .back) (same two) then he .back) (same low) then hd .back
 
     powers : (j : ℕ) → 1 < suc j → j < 3 → Congruent q (getD (two ∷ one ∷ f ∷ g ∷ []) (suc j) 0 + getD s j 0) 0
     powers zero l m = absurd (omega arith)
-    powers (suc zero) l m = back 0 middle h hf
-    powers (suc (suc zero)) l m = back 0 high h hg
+    powers (suc zero) l m = hf .back
+    powers (suc (suc zero)) l m = hg .back
     powers (suc (suc (suc j))) l m = absurd (omega arith)
+
+-- The check symbols by the steps of the code, for row sums below q.
+module _ {q : ℕ} (s : List ℕ) (n : q ≤ 255) (low : getD s 0 0 < q) (middle : getD s 1 0 < q) (high : getD s 2 0 < q)
+    (ones : getD s 3 0 < q) where
+  pub solves-of : {a b two d e one f g : ℕ}
+      → a ≡ byteDifference q (getD s 3 0) (getD s 0 0) → b ≡ byteDifference q a (getD s 1 0) → two ≡ byteDifference q b (getD s 2 0)
+      → d ≡ byteDifference q 0 (getD s 0 0) → e ≡ byteDifference q d two → one ≡ byteDifference q e two
+      → f ≡ byteDifference q 0 (getD s 1 0) → g ≡ byteDifference q 0 (getD s 2 0)
+      → Solves q s (two ∷ one ∷ f ∷ g ∷ [])
+  solves-of {a} {b} {two} {d} {e} ha hb htwo hd he hone hf hg =
+      let some : 0 < q = omega arith in
+      let ta = taken (getD s 3 0) (getD s 0 0) n ones low ha in
+      let tb = taken a (getD s 1 0) n (ta .below) middle hb in
+      let ttwo = taken b (getD s 2 0) n (tb .below) high htwo in
+      let td = taken 0 (getD s 0 0) n some low hd in
+      let te = taken d two n (td .below) (ttwo .below) he in
+      let tone = taken e two n (te .below) (ttwo .below) hone in
+      solves s ta tb ttwo td te tone (taken 0 (getD s 1 0) n some middle hf) (taken 0 (getD s 2 0) n some high hg)

@@ -1,6 +1,6 @@
 // The steps: the messages at their positions, the check symbols that they ask for, and both together.
-use crate::residue::sub;
 use profiles::Row;
+use residues::sub;
 use symbols::Body;
 use symbols::Syndrome;
 use symbols::columns;

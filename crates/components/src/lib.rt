@@ -1,6 +1,5 @@
 // The component words of a pair of messages (01: How a word is made, 1 to 3), in one array.
 mod component;
-mod residue;
 
 use component::interleaved;
 use profiles::Lookup;

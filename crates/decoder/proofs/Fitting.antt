@@ -23,7 +23,7 @@ use Rattle.decoding.proofs.Tests.{false-test}
 use Rattle.profiles.specs.declared.row.Row.{Row}
 use Rattle.decoder.specs.declared.totals.Totals.{Totals}
 use Rattle.profiles.specs.Row.{parameters, Valid}
-use Rattle.decoder.specs.Level.{Multiples}
+use Rattle.decoder.specs.Multiples.{Multiples}
 use Rattle.decoder.specs.Sides.{isFirst}
 use Rattle.decoder.specs.Totals.{sumsOf, Totalled}
 use Rattle.decoder.specs.Place.{factor, Moves}

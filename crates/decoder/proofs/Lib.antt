@@ -1,5 +1,4 @@
 -- Symbols mod q
-pub mod Bytes
 pub mod Multiplying
 -- The body and its differences
 pub mod Copying

@@ -3,32 +3,19 @@
 use mathlib.Core.Path.{_≡_, refl, ap₂, _∙_}
 use mathlib.Core.Logic.{_≢_}
 use mathlib.Core.Bool.{Bool, true, false}
-use Prim.Native.Nat.{ℕ, _+_, _-_, _≤_, _<_}
+use Prim.Native.Nat.{ℕ, _+_, _<_}
 use native.Mathlib.Omega.{arith}
 use lib.Dec.{T, leb, ltb, ltb→lt}
-use borrow.Author.Tests.{le-leb, lt-leb, lt-ltb, le-ltb}
 use Rattle.modular.proofs.Search.{and-right, passes, holds}
 use Rattle.code.specs.Parameters.{Parameters}
 use Rattle.decoding.specs.Decoded.{Sums, target, balancingSymbol, inRange}
+use Rattle.residues.specs.Level.{level}
 use Rattle.profiles.specs.declared.row.Row.{Row}
 use Rattle.profiles.specs.Row.{parameters, Valid}
 use Rattle.decoder.specs.declared.totals.Totals.{Totals}
 use Rattle.decoder.specs.Totals.{sumsOf}
-use Rattle.decoder.specs.Level.{level}
 use Rattle.decoder.specs.Place.{symbolSent}
 use Rattle.decoder.proofs.Totalling.{middle-is}
-
-pub level-low : (q a b : ℕ) → a < b → q ≡ level q a b
-unfolding level
-level-low q a b h = rw (lt-leb b a h, level)
-
-pub level-in : (q a b : ℕ) → b ≤ a → a - b < q → a - b ≡ level q a b
-unfolding level
-level-in q a b h l = rw (le-leb b a h, level, lt-ltb (a - b) q l)
-
-pub level-high : (q a b : ℕ) → b ≤ a → q ≤ a - b → q ≡ level q a b
-unfolding level
-level-high q a b h l = rw (le-leb b a h, level, le-ltb (a - b) q l)
 
 module _ (p : Parameters) (s : Sums) (x : ℕ) where
   sent-level : level (p .q) (x + target p) (s .weighs) ≡ symbolSent p s x
@@ -40,7 +27,8 @@ module _ (p : Parameters) (s : Sums) (x : ℕ) where
   sent-is h =
       let e : inRange p s x ≡ true = passes h in
       let f : symbolSent p s x ≡ balancingSymbol p s x = rw (e, symbolSent) in
-      let l : balancingSymbol p s x < p .q = ltb→lt _ _ (and-right (leb (s .weighs) (x + target p)) (ltb (balancingSymbol p s x) (p .q)) h) in
+      let y : ℕ = balancingSymbol p s x in
+      let l : y < p .q = ltb→lt _ _ (and-right (leb (s .weighs) (x + target p)) (ltb y (p .q)) h) in
       (f, rw f l)
 
   -- q is no level, so it says that there is none
@@ -60,6 +48,7 @@ module _ (p : Parameters) (s : Sums) (x : ℕ) where
       go false f = absurd (n (rw (f, symbolSent)))
 
 -- the symbol as the code computes it
-pub sent-by : {t : Row} → Valid t → (s : Totals) {x y r : ℕ} → y ≡ x → r ≡ level (t .q) (y + t .middle) (s .weight) → r ≡ symbolSent (parameters t) (sumsOf t s) x
+pub sent-by : {t : Row} → Valid t → (s : Totals) {x y r : ℕ} → y ≡ x → r ≡ level (t .q) (y + t .middle) (s .weight)
+    → r ≡ symbolSent (parameters t) (sumsOf t s) x
 sent-by {t} v s {x} e f =
     f ∙ ap₂ (λ (a b : ℕ). level (t .q) (a + b) (s .weight)) e (middle-is v) ∙ sent-level (parameters t) (sumsOf t s) x

@@ -17,13 +17,16 @@ use Rattle.decoding.specs.Syndromes.{syndromes}
 use Rattle.decoding.specs.Decoded.{sums, checkSymbol, checkIndex, target, lack}
 use Rattle.profiles.specs.declared.row.Row.{Row}
 use Rattle.profiles.specs.Row.{parameters, Valid}
-use Rattle.symbols.specs.Remainder.{residue}
+use Rattle.residues.specs.Remainder.{residueOfDifference}
+use Rattle.residues.proofs.Dividing.{difference-is}
+use Rattle.symbols.specs.declared.weight.Weight.{Weight}
+use Rattle.symbols.specs.declared.checks.Checks.{Checks}
+use Rattle.symbols.specs.Weight.{weightsOf, checksOf}
 use Rattle.symbols.specs.Columns.{Columns}
 use Rattle.symbols.specs.Syndromes.{rows, part, rowSums}
-use Rattle.symbols.proofs.Reduce.{residue-is}
+use Rattle.symbols.proofs.CheckSymbols.{checks-are}
 use Rattle.symbols.proofs.Parts.{part-length}
 use Rattle.symbols.proofs.Rows.{sums-are}
-use Rattle.syndromes.specs.declared.checks.Checks.{Checks}
 use Rattle.decoder.specs.declared.totals.Totals.{Totals}
 use Rattle.decoder.specs.Rows.{FourRows, rowsOf}
 use Rattle.decoder.specs.Totals.{Apart, checkOf, sumsOf, Totalled}
@@ -53,42 +56,42 @@ module _ {t : Row} {word w x : List ℕ} (a : Apart t word w x) where
   body-light : weight (body (parameters t) word) ≤ 1358
   unfolding body
   body-light =
-      omega (
-        arith,
-        weight-small (t .q) (a .is .valid .levels) (body (parameters t) word) (symbols-take (t .q) (balancedLength (parameters t)) word (a .is .below)),
-        body-long,
-        a .is .valid .length,
-      )
+      let below = symbols-take (t .q) (balancedLength (parameters t)) word (a .is .below) in
+      omega (arith, weight-small (t .q) (a .is .valid .levels) (body (parameters t) word) below, body-long, a .is .valid .length)
 
   -- the array begins with the body
-  copy-is : take (min (t .balanced) 97) w ≡ body (parameters t) word
+  room : t .balanced ≤ 97
+  room = omega (arith, a .is .valid .balanced, a .is .valid .length)
+
+  begins : take (t .balanced) w ≡ body (parameters t) word
   unfolding body
-  copy-is =
-      let h : t .balanced ≤ 97 = omega (arith, a .is .valid .balanced, a .is .valid .length) in
-      ap (λ (m : ℕ). take m w) (min-eq-left h) ∙ a .copy ∙ ap (λ (m : ℕ). take m word) (a .is .valid .balanced)
+  begins = a .copy ∙ ap (λ (m : ℕ). take m word) (a .is .valid .balanced)
 
-  -- The check symbols and the weight, by the sums over the odd and the even positions.
-  module _ {odd even : ℕ} (e : odd ≡ weight (alternate true (take (min (t .balanced) 97) w)))
-      (f : even ≡ weight (alternate false (take (min (t .balanced) 97) w))) where
-    pub weight-is : odd + even ≡ weight (body (parameters t) word)
-    weight-is = rw (e, f, copy-is) (alternate-weight (body (parameters t) word))
+  copy-is : take (min (t .balanced) 97) w ≡ body (parameters t) word
+  copy-is = ap (λ (m : ℕ). take m w) (min-eq-left room) ∙ begins
 
-    pub weight-light : odd + even ≤ 1358
-    weight-light = omega (arith, weight-is, body-light)
+  -- The weight and the check symbols that the body asks for, by the sums over its odd and its even positions.
+  module _ {k : Weight} (e : k ≡ weightsOf (take (min (t .balanced) 97) w)) where
+    pub weight-is : k .odd + k .even ≡ weight (body (parameters t) word)
+    weight-is = rw (e, copy-is) (alternate-weight (body (parameters t) word))
 
-    pub alpha-is : {d r : ℕ} → d ≡ t .delta → r ≡ residue (t .q) (odd + d) → r ≡ checkSymbol (t .q) true (body (parameters t) word)
-    unfolding alpha
-    alpha-is {d} {r} g h =
-        let m : delta (t .q) (t .balanced) ≡ delta (t .q) (length (body (parameters t) word)) = ap (delta (t .q)) (a .is .valid .balanced ∙ sym body-long) in
-        h ∙ residue-is (odd + d) q₁
-        ∙ ap₂ (λ (x y : ℕ). (x + y) % t .q) (e ∙ ap (λ (l : List ℕ). weight (alternate true l)) copy-is) (g ∙ a .is .valid .delta ∙ m)
+    pub asked-are : {c : Checks} → c ≡ checksOf (t .q) (t .delta) k
+        → (b : Bool) → checkOf c b ≡ checkSymbol (t .q) b (body (parameters t) word)
+    asked-are f b =
+        let long : length (take (t .balanced) w) ≡ t .balanced = ap length begins ∙ body-long ∙ sym (a .is .valid .balanced) in
+        let is = f ∙ ap (checksOf (t .q) (t .delta)) e ∙ checks-are w q₁ room long (a .is .valid .delta) in
+        at b (ap (λ (c : Checks). checkOf c b) is)
+      where
+        l : List ℕ
+        l = take (t .balanced) w
 
-    pub beta-is : {r : ℕ} → r ≡ residue (t .q) even → r ≡ checkSymbol (t .q) false (body (parameters t) word)
-    unfolding beta
-    beta-is h = h ∙ residue-is even q₁ ∙ ap (λ (x : ℕ). x % t .q) (f ∙ ap (λ (l : List ℕ). weight (alternate false l)) copy-is)
+        at : (b : Bool) {y : ℕ} → y ≡ checkOf (record { alpha = alpha (t .q) l; beta = beta (t .q) l }) b → y ≡ checkSymbol (t .q) b (body (parameters t) word)
+        at true h = h ∙ ap (alpha (t .q)) begins
+        at false h = h ∙ ap (beta (t .q)) begins
 
   -- the syndrome of a component, as four rows
-  pub rows-of-part : {columns : List (List ℕ)} → Columns (t .q) (t .n) columns → (b : Bool) {s : List ℕ} → s ≡ rowSums (t .q) columns (part b (min (t .n) 48) x)
+  pub rows-of-part : {columns : List (List ℕ)} → Columns (t .q) (t .n) columns → (b : Bool)
+      → {s : List ℕ} → s ≡ rowSums (t .q) columns (part b (min (t .n) 48) x)
       → FourRows t s × (rowsOf t s ≡ syndromes (parameters t) (received (parameters t) b word))
   rows-of-part {columns} k b {s} e =
       let c : List ℕ = part b (t .n) x in
@@ -117,9 +120,11 @@ module _ {t : Row} {word w x : List ℕ} (a : Apart t word w x) where
         arrived-is : _≡_ {A = Bool → ℕ} (checkOf (s .arrived)) (λ b. getD word (checkIndex (parameters t) b) 0)
         arrived-is = fun-ext arrived
 
-    pub totalled : s .lack ≡ (t .middle + (t .q - 1) * s .weight) % t .q → FourRows t (rows (s .first)) → FourRows t (rows (s .second)) → Totalled t s
+    pub totalled : s .lack ≡ residueOfDifference (t .q) (t .middle) (s .weight)
+        → FourRows t (rows (s .first)) → FourRows t (rows (s .second)) → Totalled t s
     unfolding lack
-    totalled l f h =
+    totalled d f h =
+        let l : s .lack ≡ (t .middle + (t .q - 1) * s .weight) % t .q = d ∙ difference-is (t .middle) (s .weight) q₁ in
         record {
           light = omega (arith, e, body-light);
           lacks = l ∙ ap (λ (m : ℕ). (m + (t .q - 1) * s .weight) % t .q) (middle-is (a .is .valid));
@@ -128,8 +133,3 @@ module _ {t : Row} {word w x : List ℕ} (a : Apart t word w x) where
           first-rows = f;
           second-rows = h;
         }
-
--- both check symbols, from each
-pub each-check : (P : Bool → ℕ → Type 0) (s : Checks) → P true (s .alpha) → P false (s .beta) → (b : Bool) → P b (checkOf s b)
-each-check P s x y true = x
-each-check P s x y false = y

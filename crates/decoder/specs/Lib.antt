@@ -1,4 +1,4 @@
-pub mod Level
+pub mod Multiples
 pub mod Rows
 pub mod Sides
 pub mod Received

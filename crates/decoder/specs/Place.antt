@@ -12,7 +12,7 @@ use Rattle.profiles.specs.declared.row.Row.{Row}
 use Rattle.decoder.specs.declared.totals.Totals.{Totals}
 use Rattle.decoder.specs.declared.place.Place.{Place}
 use Rattle.decoder.specs.declared.place.Place.the-variants.{At, Nothing}
-use Rattle.decoder.specs.Level.{Multiples}
+use Rattle.decoder.specs.Multiples.{Multiples}
 use Rattle.decoder.specs.Sides.{isFirst}
 
 -- the first index is `first`, of `count` that were tried

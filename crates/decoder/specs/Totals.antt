@@ -14,7 +14,7 @@ use Rattle.profiles.specs.declared.row.Row.{Row}
 use Rattle.decoder.specs.declared.totals.Totals.{Totals}
 use Rattle.profiles.specs.Row.{parameters, Valid}
 use Rattle.symbols.specs.Syndromes.{rows, part}
-use Rattle.syndromes.specs.declared.checks.Checks.{Checks}
+use Rattle.symbols.specs.declared.checks.Checks.{Checks}
 use Rattle.decoder.specs.Rows.{FourRows, rowsOf}
 use Rattle.decoder.specs.Received.{Body}
 

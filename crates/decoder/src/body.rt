@@ -1,6 +1,6 @@
 // The body w of a received word in an array of its own, and its differences: the symbols of the two components in turn.
-use crate::residue::sub;
 use profiles::Row;
+use residues::sub;
 ghost use mathlib.Core.Path.{_≡_};
 ghost use Prim.Native.Nat.{_≤_, _<_};
 ghost use lib.ListN.{length, take, set};

@@ -1,7 +1,7 @@
 // How a changed symbol moves a syndrome: by a multiple of a column.
-use crate::residue::add;
-use crate::residue::multiple;
+use crate::multiples::multiple;
 use profiles::Row;
+use residues::add;
 use symbols::Syndrome;
 use syndromes::is_zero;
 ghost use mathlib.Core.Path.{_≡_};
@@ -12,7 +12,7 @@ ghost use Rattle.profiles.specs.Row.{Valid, parameters};
 ghost use Rattle.symbols.specs.Columns.{Columns};
 ghost use Rattle.symbols.specs.Syndromes.{rows};
 ghost use Rattle.syndromes.specs.FourRows.{zeroRows};
-ghost use Rattle.decoder.specs.Level.{Multiples};
+ghost use Rattle.decoder.specs.Multiples.{Multiples};
 ghost use Rattle.decoder.specs.Rows.{FourRows, rowsOf, movedRows};
 
 // One row s of a syndrome with a multiple of the column's digit d added.

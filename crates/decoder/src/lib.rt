@@ -2,10 +2,9 @@
 mod body;
 mod column;
 mod message;
+mod multiples;
 mod place;
-mod plain;
 mod reader;
-mod residue;
 mod totals;
 
 pub use reader::Correction;

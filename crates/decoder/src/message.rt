@@ -1,7 +1,7 @@
 // The messages that the components of a word hold.
-use crate::residue::sub;
-use crate::residue::wide;
 use profiles::Row;
+use residues::sub;
+use residues::wide;
 use symbols::Syndrome;
 use syndromes::is_zero;
 use syndromes::position;

@@ -1,12 +1,12 @@
 // Which position of an unbalanced word changed: each of the parity that the check symbols name is tried, in rising order.
 use crate::column::moved;
 use crate::column::moves_to_zero;
-use crate::residue::add;
-use crate::residue::multiples;
-use crate::residue::sub;
-use crate::residue::wide;
+use crate::multiples::multiples;
 use crate::totals::Totals;
 use profiles::Row;
+use residues::add;
+use residues::sub;
+use residues::wide;
 use syndromes::near;
 ghost use mathlib.Core.Path.{_≡_};
 ghost use Prim.Native.Nat.{_+_, _*_, _≤_, _<_};
@@ -14,7 +14,7 @@ ghost use lib.ListN.{getD};
 ghost use Rattle.decoding.specs.Decoded.{offByLack, nearAfter, fits, places, firstFit};
 ghost use Rattle.profiles.specs.Row.{Valid, parameters};
 ghost use Rattle.symbols.specs.Columns.{Columns};
-ghost use Rattle.decoder.specs.Level.{Multiples};
+ghost use Rattle.decoder.specs.Multiples.{Multiples};
 ghost use Rattle.decoder.specs.Sides.{isFirst};
 ghost use Rattle.decoder.specs.Totals.{Word, sumsOf, Totalled};
 ghost use Rattle.decoder.specs.Place.{Found, factor, Moves, symbolSent};
@@ -30,7 +30,7 @@ pub(crate) fn balancing_symbol(row: Row, s: Totals, x: u8) -> u8
     requires { ⌜ Valid row × Totalled row s ⌝ }
     ensures { λ y. ⌜ y ≡ symbolSent (parameters row) (sumsOf row s) x ⌝ }
 {
-    crate::plain::difference(row.q, wide(x) + row.middle, s.weight)
+    residues::plain_difference(row.q, wide(x) + row.middle, s.weight)
 }
 
 // Whether the check symbol of the parity is off by as much as the weight, mod q.

@@ -1,14 +1,13 @@
 // What is summed over a received word, once: its weight, its check symbols and the syndromes of its components.
 use crate::body::copy_body;
 use crate::body::difference_body;
-use crate::residue::difference;
-use crate::residue::wide;
 use profiles::Row;
+use residues::difference;
+use symbols::Checks;
 use symbols::Syndrome;
-use symbols::remainder;
+use symbols::checks_of;
 use symbols::syndromes_of;
 use symbols::weigh;
-use syndromes::Checks;
 ghost use mathlib.Core.Path.{_≡_};
 ghost use Rattle.profiles.specs.Row.{parameters};
 ghost use Rattle.symbols.specs.Columns.{Columns};
@@ -36,12 +35,9 @@ fn total(row: Row, columns: &[[u8; 3]; 48], word: &[u8], w: &[u8; 97], x: &[u8; 
 {
     let q = row.q;
     let m = row.balanced;
-    let halves = weigh(w, m);
-    let weight = halves.odd + halves.even;
-    let asked = Checks {
-        alpha: remainder(q, halves.odd + wide(row.delta)),
-        beta: remainder(q, halves.even),
-    };
+    let sums = weigh(w, m);
+    let weight = sums.odd as usize + sums.even as usize;
+    let asked = checks_of(q, row.delta, sums);
     let arrived = Checks {
         alpha: word[m],
         beta: word[m + 1],

@@ -1,5 +1,3 @@
--- Symbols mod q
-pub mod Bytes
 -- Balancing
 pub mod Integrating
 pub mod Raising

@@ -36,7 +36,8 @@ weighed-none q by m d = record { within = zero-le; is = refl; small = zero-le }
 pub weighed-more : {q by m : ℕ} {d : List ℕ} {sum i : ℕ} → Weighed q by m d sum i → i < m → m ≤ length d → q ≤ 15
     → {y : ℕ} → y ≡ (getD d i 0 + by) % q → y < q → Weighed q by m d (sum + y) (i + 1)
 weighed-more {q} {by} {m} {d} {sum} {i} w l room levels {y} e b =
-    record { within = omega arith; is = rw add-one (omega (arith, w .is, weight-more q by d i (omega arith))); small = omega (arith, w .small) }
+    let more = weight-more q by d i (omega arith) in
+    record { within = omega arith; is = rw add-one (omega (arith, w .is, more)); small = omega (arith, w .small) }
 
 -- The symbols.
 
@@ -47,34 +48,14 @@ step-high : (from s i : ℕ) → from ≤ i → stepAt from s i ≡ suc s
 step-high from s i h = ap (λ (b : Bool). elim b as (λ _. ℕ) [ true ↦ s | false ↦ suc s ]) (le-ltb i from h)
 
 pub step-upto : (from s i q : ℕ) → s < q → stepAt from s i ≤ q
-step-upto from s i q h = ⊎-elim (λ (k : from ≤ i). rw (step-high from s i k) h) (λ (k : i < from). rw (step-low from s i k) (omega arith)) (le-or-lt from i)
+step-upto from s i q h =
+    ⊎-elim (λ (k : from ≤ i). rw (step-high from s i k) h) (λ (k : i < from). rw (step-low from s i k) (omega arith)) (le-or-lt from i)
 
 pub step-is-low : (from s i : ℕ) → i < from → s ≡ stepAt from s i
 step-is-low from s i h = sym (step-low from s i h)
 
 pub step-is-high : (from s i : ℕ) → from ≤ i → s + 1 ≡ stepAt from s i
 step-is-high from s i h = add-one s ∙ sym (step-high from s i h)
-
--- the first i are raised
-pub record Raising (q : ℕ) (d : List ℕ) (s from : ℕ) (w : List ℕ) (i : ℕ) : Type 0 where
-  pub upto : i ≤ 97
-  pub size : length w ≡ 97
-  pub at : (k : ℕ) → k < i → getD w k 0 ≡ (getD d k 0 + stepAt from s k) % q
-
-pub raising-none : (q : ℕ) (d : List ℕ) (s from : ℕ) → Raising q d s from (replicate 97 0) 0
-raising-none q d s from = record { upto = zero-le; size = refl; at = λ k h. absurd (not-suc-le-zero h) }
-
-pub raising-more : {q : ℕ} {d : List ℕ} {s from : ℕ} {w : List ℕ} {i : ℕ} → Raising q d s from w i → i < 97
-    → {y : ℕ} → y ≡ (getD d i 0 + stepAt from s i) % q → Raising q d s from (set w i y) (i + 1)
-raising-more {q} {d} {s} {from} {w} {i} r l {y} e =
-    record { upto = omega arith; size = length-set w i y ∙ r .size; at = λ k h. at k h (ℕ-discrete k i) }
-  where
-    at : (k : ℕ) → k < i + 1 → Dec (k ≡ i) → getD (set w i y) k 0 ≡ (getD d k 0 + stepAt from s k) % q
-    at k h (yes z) = let o : i < length w = omega (arith, r .size) in rw z (getD-set-same w i y 0 o ∙ e)
-    at k h (no z) = getD-set-other w i k y 0 z ∙ r .at k (omega (arith, z))
-
-pub raising-all : {q : ℕ} {d : List ℕ} {s from : ℕ} {w : List ℕ} {i : ℕ} → Raising q d s from w i → 97 ≤ i → Raised q d s from w
-raising-all r h = record { at = λ k l. r .at k (omega arith) }
 
 -- w of a choice: s is added before index i, and s + 1 from there on.
 

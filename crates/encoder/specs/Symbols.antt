@@ -18,15 +18,9 @@ pub record Symbols (q m : ℕ) (x : List ℕ) : Type 0 where
   pub room : m ≤ 97
   pub below : (i : ℕ) → i < m → getD x i 0 < q
 
--- the first m of x's 97 symbols are small enough that their sum fits 16 bits
-pub record Light (m : ℕ) (x : List ℕ) : Type 0 where
-  pub room : m ≤ 97
-  pub small : (i : ℕ) → i < m → getD x i 0 ≤ 15
-
 -- the sums of the first symbols of x, up to each of the first m
 pub record Summed (m : ℕ) (x sums : List ℕ) : Type 0 where
   pub at : (i : ℕ) → i < m → getD sums i 0 ≡ weight (take (suc i) x)
-  pub small : (i : ℕ) → getD sums i 0 ≤ 1455
 
 -- d is the integral of a word
 pub record Integral (p : Parameters) (d : List ℕ) : Type 0 where

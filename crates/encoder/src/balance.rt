@@ -1,63 +1,41 @@
 // Balancing (01: How a word is made, 4 and 5): w of the first choice that balances x. A choice s, v adds s to every symbol of the integrated x,
 // and 1 more from position v on, so x is integrated once.
-use crate::residue::add;
 use profiles::Row;
+use residues::Sums;
+use residues::add;
+use residues::remainders;
+use residues::wide16;
 ghost use mathlib.Core.Path.{_≡_};
-ghost use Prim.Native.Nat.{ℕ, _+_, _/_, _%_, _≤_, _<_};
-ghost use lib.ListN.{getD, take};
+ghost use Prim.Native.Nat.{_≤_, _<_};
+ghost use lib.ListN.{take};
 ghost use Rattle.modular.specs.Sum.{weight};
 ghost use Rattle.code.specs.Balance.{integrate, shifted, balanced};
 ghost use Rattle.profiles.specs.Row.{parameters, Valid};
-ghost use Rattle.encoder.specs.Symbols.{Symbols, Light, Summed, Integral, Chosen, Raised, stepAt};
+ghost use Rattle.encoder.specs.Symbols.{Symbols, Summed, Integral, Chosen, Raised, stepAt};
 
 // The sums of the first symbols, up to each of the first m.
-fn summed(m: usize, x: &[u8; 97]) -> [u16; 97]
-    requires { ⌜ Light m (now x) ⌝ }
+fn summed(m: usize, x: &[u8; 97]) -> Sums
+    requires { ⌜ m ≤ 97 ⌝ }
     ensures { λ sums. ⌜ Summed m (now (x .entry)) sums ⌝ }
 {
     let mut sums = [0u16; 97];
     let mut sum: u16 = 0;
     let mut i = 0;
     while i < m {
-        sum += x[i] as u16;
+        sum += wide16(x[i]);
         sums[i] = sum;
         i += 1;
     }
     sums
 }
 
-// Sums mod q, all of the array: to divide by q is to multiply by 65536 / q, rounded up, and to drop 16 bits, which is done many at a time.
-fn reduced(q: u8, sums: &[u16; 97]) -> [u8; 97]
-    requires { ⌜ (2 ≤ q) × (q ≤ 15) × ((i : ℕ) → getD (now sums) i 0 ≤ 1455) ⌝ }
-    ensures { λ d. ⌜ ((i : ℕ) → i < 97 → getD d i 0 ≡ getD (now (sums .entry)) i 0 % q) ⌝ }
-{
-    let levels = q as u16;
-    let inverse = (65536 / (q as u32) + 1) as u16;
-    let mut d = [0u8; 97];
-    let mut i = 0;
-    while i < 97 {
-        d[i] = remainder_by(levels, inverse, sums[i]);
-        i += 1;
-    }
-    d
-}
-
-// A sum mod q, by the inverse of q in 65536ths.
-fn remainder_by(q: u16, inverse: u16, sum: u16) -> u8
-    requires { ⌜ (2 ≤ q) × (q ≤ 15) × (inverse ≡ 65536 / q + 1) × (sum ≤ 1455) ⌝ }
-    ensures { λ r. ⌜ r ≡ sum % q ⌝ }
-{
-    let quotient = ((sum as u32) * (inverse as u32) / 65536) as u16;
-    (sum - quotient * q) as u8
-}
-
 // The running sums mod q of the first m symbols.
 fn integrated(q: u8, m: usize, x: &[u8; 97]) -> [u8; 97]
-    requires { ⌜ (2 ≤ q) × Symbols q m (now x) ⌝ }
+    requires { ⌜ Symbols q m (now x) ⌝ }
     ensures { λ d. ⌜ (take m d ≡ integrate q 0 (take m (now (x .entry)))) × Symbols q 97 d ⌝ }
 {
     let sums = summed(m, x);
-    reduced(q, &sums)
+    remainders(q, &sums)
 }
 
 // The weight of the first m symbols with `by` added mod q to each.
@@ -68,7 +46,7 @@ fn weight_raised(q: u8, m: usize, d: &[u8; 97], by: u8) -> usize
     let mut sum: u16 = 0;
     let mut i = 0;
     while i < m {
-        sum += add(q, d[i], by) as u16;
+        sum += wide16(add(q, d[i], by));
         i += 1;
     }
     sum as usize

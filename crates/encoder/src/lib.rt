@@ -1,6 +1,5 @@
 // Encoding (01: Write) of a pair of messages into the word that goes on the line. The components of the pair are those of crate `components`.
 mod balance;
-mod residue;
 mod word;
 mod writer;
 

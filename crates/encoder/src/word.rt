@@ -1,14 +1,12 @@
 // The word that goes on the line (01: How a word is made, 6): w, alpha and beta.
-use crate::residue::wide;
 use profiles::Row;
-use symbols::remainder;
+use symbols::checks_of;
 use symbols::weigh;
 ghost use mathlib.Core.Path.{_≡_};
 ghost use Prim.Native.Nat.{_≤_};
 ghost use lib.ListN.{length, take};
-ghost use Rattle.code.specs.Codeword.{alpha, beta, withChecks};
+ghost use Rattle.code.specs.Codeword.{withChecks};
 ghost use Rattle.profiles.specs.Row.{Valid};
-ghost use Rattle.encoder.specs.Symbols.{Symbols};
 
 // 01: the line word, in the first `len` symbols.
 pub(crate) struct Word {
@@ -16,30 +14,13 @@ pub(crate) struct Word {
     pub(crate) len: usize,
 }
 
-// 01: α and β, of the first m symbols.
-pub(crate) struct Checks {
-    pub(crate) alpha: u8,
-    pub(crate) beta: u8,
-}
-
-fn checks_of(row: Row, w: &[u8; 97]) -> Checks
-    requires { ⌜ Valid row × Symbols (row .q) (row .balanced) (now w) ⌝ }
-    ensures { λ c. ⌜ (c .alpha ≡ alpha (row .q) (take (row .balanced) (now (w .entry)))) × (c .beta ≡ beta (row .q) (take (row .balanced) (now (w .entry)))) ⌝ }
-{
-    let sums = weigh(w, row.balanced);
-    Checks {
-        alpha: remainder(row.q, sums.odd + wide(row.delta)),
-        beta: remainder(row.q, sums.even),
-    }
-}
-
 // w with its check symbols. All of the array is copied: what lies past m is not looked at, and a copy of one size is quick.
 pub(crate) fn with_checks(row: Row, w: &[u8; 97]) -> Word
-    requires { ⌜ Valid row × Symbols (row .q) (row .balanced) (now w) ⌝ }
+    requires { ⌜ Valid row × (length (now w) ≡ 97) ⌝ }
     ensures { λ u. ⌜ (take (u .len) (u .symbols) ≡ withChecks (row .q) (take (row .balanced) (now (w .entry)))) × (u .len ≡ row .codeword) ⌝ }
 {
     let m = row.balanced;
-    let checks = checks_of(row, w);
+    let checks = checks_of(row.q, row.delta, weigh(w, m));
     let mut symbols = [0u8; 99];
     let mut i = 0;
     while i < 97 {

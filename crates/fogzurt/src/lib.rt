@@ -2,7 +2,6 @@
 ghost use mathlib.Core.Path.{_≡_};
 ghost use mathlib.Core.Bool.{true, false};
 ghost use mathlib.Core.List.{[], _∷_};
-ghost use Prim.Native.Nat.{_≤_};
 ghost use lib.ListN.{length};
 ghost use Rattle.code.specs.Operations.{encodeRefusal, encodeOutput, outcomeNumber, decodeOutput, report};
 ghost use Rattle.sheet.specs.Allowed.{FormatAllows, EnqueueAllows, PeekAllows, DequeueAllows};
@@ -11,6 +10,7 @@ ghost use Rattle.decoder.specs.Decode.{decodedReport};
 ghost use Rattle.fogzurt.specs.Packed.{answerInto, partsOf, joined, packed, Within};
 use decoder::Decoded;
 use encoder::Encoded;
+use residues::wide64;
 
 // The kinds of a decoded word, as C sees them.
 const CLEAN: u8 = 1;
@@ -52,17 +52,11 @@ pub extern "C" fn fogzurt_decode(
     pack(decoder::decode(profile, word, first, second))
 }
 
-fn wide(x: u8) -> u64
-    ensures { λ r. ⌜ (r ≡ x) × (r ≤ 255) ⌝ }
-{
-    x as u64
-}
-
 // The four lowest bytes of an answer, the number lowest.
 fn join(number: u8, kind: u8, position: u8, symbol: u8) -> u64
     ensures { λ r. ⌜ r ≡ joined (number ∷ kind ∷ position ∷ symbol ∷ 0 ∷ 0 ∷ 0 ∷ 0 ∷ []) ⌝ }
 {
-    wide(number) + wide(kind) * 256 + wide(position) * 65536 + wide(symbol) * 16777216
+    wide64(number) + wide64(kind) * 256 + wide64(position) * 65536 + wide64(symbol) * 16777216
 }
 
 // Decode's answer in one number.

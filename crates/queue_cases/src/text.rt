@@ -1,23 +1,12 @@
 // Numbers and bytes of a line of text, and digests.
-
+use residues::wide;
+use residues::wide64;
 ghost use Prim.Native.Nat.{_<_};
 
 // A number, and the index after it.
 pub(crate) struct Field {
     pub(crate) value: usize,
     pub(crate) next: usize,
-}
-
-fn wide(x: u8) -> usize
-    ensures { λ r. ⌜ r < 256 ⌝ }
-{
-    x as usize
-}
-
-fn wide64(x: u8) -> u64
-    ensures { λ r. ⌜ r < 256 ⌝ }
-{
-    x as u64
 }
 
 // The decimal number from an index on.

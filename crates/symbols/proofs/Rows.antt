@@ -11,12 +11,12 @@ use lib.Seq.{take-all}
 use Rattle.modular.specs.Sum.{weight, dot}
 use Rattle.modular.proofs.Sum.{dot-same, dot-one, dot-zero}
 use Rattle.code.specs.Component.{checkRow, syndrome}
+use Rattle.residues.specs.Remainder.{residue}
+use Rattle.residues.proofs.Dividing.{residue-is}
 use Rattle.symbols.specs.declared.syndromes.Sums.{Sums}
-use Rattle.symbols.specs.Remainder.{residue}
 use Rattle.symbols.specs.Columns.{Columns}
 use Rattle.symbols.specs.Syndromes.{fourRows, digit, rowSums, Light, Added}
 use Rattle.symbols.proofs.Digits.{digits-high}
-use Rattle.symbols.proofs.Reduce.{residue-is}
 use Rattle.symbols.proofs.Words.{dot-take, weight-take}
 
 -- a product of two bytes
@@ -36,7 +36,16 @@ pub record Summing (columns : List (List ℕ)) (c : List ℕ) (i : ℕ) (s : Sum
 
 pub summing-none : (columns : List (List ℕ)) (c : List ℕ) → Summing columns c 0 (record { low = 0; middle = 0; high = 0; ones = 0 })
 summing-none columns c =
-    record { low = refl; middle = refl; high = refl; ones = refl; low-small = zero-le; middle-small = zero-le; high-small = zero-le; ones-small = zero-le }
+    record {
+      low = refl;
+      middle = refl;
+      high = refl;
+      ones = refl;
+      low-small = zero-le;
+      middle-small = zero-le;
+      high-small = zero-le;
+      ones-small = zero-le;
+    }
 
 module _ {columns : List (List ℕ)} {c : List ℕ} {i : ℕ} {s : Sums} (h : Summing columns c i s) where
   -- so that a product more fits
@@ -57,10 +66,12 @@ module _ {columns : List (List ℕ)} {c : List ℕ} {i : ℕ} {s : Sums} (h : Su
         ones-small = omega arith;
       }
     where
-      row : (j : ℕ) {y z : ℕ} → y ≡ dot (digit columns j) (take i c) → z ≡ y + digit columns j i * x → z ≡ dot (digit columns j) (take (suc i) c)
+      row : (j : ℕ) {y z : ℕ} → y ≡ dot (digit columns j) (take i c) → z ≡ y + digit columns j i * x
+          → z ≡ dot (digit columns j) (take (suc i) c)
       row j hy hz = hz ∙ ap₂ (λ (u v : ℕ). u + digit columns j i * v) hy (sym e) ∙ sym (dot-take (digit columns j) i c)
 
-  pub summing-all : (q : ℕ) → length c ≤ i → {l : List ℕ} → l ≡ residue q (s .low) ∷ residue q (s .middle) ∷ residue q (s .high) ∷ residue q (s .ones) ∷ []
+  pub summing-all : (q : ℕ) → length c ≤ i
+      → {l : List ℕ} → l ≡ residue q (s .low) ∷ residue q (s .middle) ∷ residue q (s .high) ∷ residue q (s .ones) ∷ []
       → l ≡ rowSums q columns c
   unfolding rowSums
   summing-all q k e =
@@ -68,7 +79,8 @@ module _ {columns : List (List ℕ)} {c : List ℕ} {i : ℕ} {s : Sums} (h : Su
       e ∙ rw (h .low, h .middle, h .high, h .ones, t)
 
 -- a digit of a column, three of them
-column-digit : {q n : ℕ} {columns : List (List ℕ)} → Columns q n columns → (i j : ℕ) → i < n → j < 3 → digit columns j i ≡ checkRow (fourRows q n) j i
+column-digit : {q n : ℕ} {columns : List (List ℕ)} → Columns q n columns → (i j : ℕ) → i < n → j < 3
+    → digit columns j i ≡ checkRow (fourRows q n) j i
 column-digit c i zero h k = ap (λ (l : List ℕ). getD l 0 0) (c .at i h)
 column-digit c i (suc zero) h k = ap (λ (l : List ℕ). getD l 1 0) (c .at i h)
 column-digit c i (suc (suc zero)) h k = ap (λ (l : List ℕ). getD l 2 0) (c .at i h)

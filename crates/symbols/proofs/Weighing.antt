@@ -1,6 +1,6 @@
 -- A word weighed in pairs: what is summed and what is left make the whole.
 -- Assumes nothing.
-use mathlib.Core.Path.{_≡_, refl, ap, _∙_}
+use mathlib.Core.Path.{_≡_, refl, ap, ap₂, _∙_}
 use mathlib.Core.Bool.{true, false}
 use mathlib.Core.List.{List, [], _∷_}
 use Prim.Native.Nat.{ℕ, _+_, _*_, _≤_, zero-le}
@@ -10,6 +10,8 @@ use lib.ListN.{length, getD, drop, drop-of-length-le, List·getD-eq-default}
 use lib.Seq.{drop-drop, getD-drop}
 use Rattle.modular.specs.Sum.{weight}
 use Rattle.code.specs.Codeword.{alternate}
+use Rattle.symbols.specs.declared.weight.Weight.{Weight}
+use Rattle.symbols.specs.Weight.{weightsOf}
 
 -- the first two symbols and the rest; past the end a symbol is 0
 odd-split : (l : List ℕ) → weight (alternate true l) ≡ getD l 0 0 + weight (alternate true (drop 2 l))
@@ -63,13 +65,16 @@ module _ {t : List ℕ} {odd even i : ℕ} (w : Weighing t odd even i) where
       let z : getD t (i + 1) 0 ≡ 0 = List·getD-eq-default t 0 h in
       omega (arith, w .even-left, even-at t i)
 
+  both : {x y : ℕ} → x ≡ weight (alternate true t) → y ≡ weight (alternate false t) → record { odd = x; even = y } ≡ weightsOf t
+  both e f = ap₂ (λ (x y : ℕ). record { odd = x; even = y }) e f
+
   -- a last symbol without another
-  pub weighing-last : {a : ℕ} → getD t i 0 ≡ a → length t ≤ i + 1 → (odd + a ≡ weight (alternate true t)) × (even ≡ weight (alternate false t))
+  pub weighing-last : {a : ℕ} → getD t i 0 ≡ a → length t ≤ i + 1 → record { odd = odd + a; even = even } ≡ weightsOf t
   weighing-last e h =
       let n : weight (alternate true (drop (i + 2) t)) ≡ 0 = ap (λ (l : List ℕ). weight (alternate true l)) (none-left h) in
-      (omega (arith, w .odd-left, odd-at t i), even-done h)
+      both (omega (arith, w .odd-left, odd-at t i)) (even-done h)
 
-  pub weighing-all : length t ≤ i → (odd ≡ weight (alternate true t)) × (even ≡ weight (alternate false t))
+  pub weighing-all : length t ≤ i → record { odd = odd; even = even } ≡ weightsOf t
   weighing-all h =
       let n : weight (alternate true (drop i t)) ≡ 0 = ap (λ (l : List ℕ). weight (alternate true l)) (drop-of-length-le t h) in
-      (omega (arith, w .odd-left), even-done (omega arith))
+      both (omega (arith, w .odd-left)) (even-done (omega arith))

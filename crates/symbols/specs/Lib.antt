@@ -1,3 +1,3 @@
-pub mod Remainder
+pub mod Weight
 pub mod Columns
 pub mod Syndromes

@@ -10,9 +10,9 @@ use Rattle.modular.specs.Sum.{weight, dot}
 use Rattle.code.specs.Parameters.{Parameters}
 use Rattle.code.specs.Codeword.{alternate}
 use Rattle.code.specs.Profiles.{row}
+use Rattle.residues.specs.Remainder.{residue}
 use Rattle.symbols.specs.declared.syndromes.Sums.{Sums}
 use Rattle.symbols.specs.declared.syndromes.Syndrome.{Syndrome}
-use Rattle.symbols.specs.Remainder.{residue}
 
 -- q levels and n positions, with three digit rows and the row of ones
 abbrev pub fourRows : ℕ → ℕ → Parameters

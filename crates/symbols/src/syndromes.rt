@@ -1,12 +1,13 @@
 // The syndromes (01: check row sums) of both components of an interleaved word.
 use crate::matrix::Matrix;
-use crate::residue::remainder;
 use crate::weight::Body;
+use residues::remainder;
+use residues::wide32;
 ghost use mathlib.Core.Path.{_≡_};
 ghost use mathlib.Core.Bool.{true, false};
 ghost use mathlib.Core.List.{[], _∷_};
 ghost use Prim.Native.Nat.{min, _≤_};
-ghost use Rattle.symbols.specs.Remainder.{residue};
+ghost use Rattle.residues.specs.Remainder.{residue};
 ghost use Rattle.symbols.specs.Syndromes.{rows, Light, Added, part, rowSums};
 
 // The row sums of one component: three digit rows, and the row of ones.
@@ -30,23 +31,16 @@ pub(crate) struct Sums {
     pub(crate) ones: u32,
 }
 
-// A byte as a number that the sums of 48 products fit.
-fn wide(x: u8) -> u32
-    ensures { λ r. ⌜ (r ≡ x) × (r ≤ 255) ⌝ }
-{
-    x as u32
-}
-
 // A symbol x in a column more.
 fn added(s: Sums, column: [u8; 3], x: u8) -> Sums
     requires { ⌜ Light s ⌝ }
     ensures { λ r. ⌜ Added s column x r ⌝ }
 {
-    let y = wide(x);
+    let y = wide32(x);
     Sums {
-        low: s.low + wide(column[0]) * y,
-        middle: s.middle + wide(column[1]) * y,
-        high: s.high + wide(column[2]) * y,
+        low: s.low + wide32(column[0]) * y,
+        middle: s.middle + wide32(column[1]) * y,
+        high: s.high + wide32(column[2]) * y,
         ones: s.ones + y,
     }
 }

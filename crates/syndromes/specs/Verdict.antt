@@ -4,7 +4,7 @@ use mathlib.Core.Bool.{Bool, true, false}
 use Prim.Native.Nat.{ℕ, _+_}
 use Rattle.code.specs.Reading.{correctionAt, clean, corrected}
 use Rattle.code.specs.Operations.{Report, failure, success}
-use Rattle.syndromes.specs.declared.checks.Checks.{Checks}
+use Rattle.symbols.specs.declared.checks.Checks.{Checks}
 use Rattle.syndromes.specs.declared.checks.Verdict.{Verdict}
 use Rattle.syndromes.specs.declared.checks.Verdict.the-variants.{Clean, Alpha, Beta, Unreadable}
 

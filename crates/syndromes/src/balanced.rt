@@ -1,7 +1,7 @@
-// What a balanced word is, by its syndromes and its check symbols.
-use crate::checks::Checks;
+// What a balanced word is: the tests.
 use crate::checks::Verdict;
 use crate::syndrome::near;
+use symbols::Checks;
 use symbols::Syndrome;
 ghost use mathlib.Core.Path.{_≡_};
 ghost use lib.Dec.{eqb};

@@ -5,7 +5,6 @@ mod checks;
 mod syndrome;
 
 pub use balanced::verdict;
-pub use checks::Checks;
 pub use checks::Verdict;
 pub use syndrome::is_zero;
 pub use syndrome::near;

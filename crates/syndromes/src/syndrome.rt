@@ -1,17 +1,10 @@
 // Syndromes of the two components (three digit rows and the row of ones): which are those of near components.
+use residues::wide;
 use symbols::Syndrome;
 ghost use mathlib.Core.Path.{_≡_};
-ghost use Prim.Native.Nat.{_≤_};
 ghost use Rattle.decoding.specs.Syndromes.{fromDigits, columnSyndrome, nearSyndromes};
 ghost use Rattle.symbols.specs.Syndromes.{fourRows, rows};
 ghost use Rattle.syndromes.specs.FourRows.{zeroRows};
-
-// A byte as a number that positions are made of.
-fn wide(x: u8) -> usize
-    ensures { λ r. ⌜ (r ≡ x) × (r ≤ 255) ⌝ }
-{
-    x as usize
-}
 
 // Whether every row is 0.
 pub fn is_zero(s: Syndrome) -> bool

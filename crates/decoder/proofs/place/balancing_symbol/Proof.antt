@@ -1,7 +1,6 @@
 -- `decoder::place::balancing_symbol` meets its contract: a plain difference, which is a level exactly where the symbol is in range.
 -- Assumes nothing.
 use native.Mathlib.Omega.{arith}
-use Rattle.code.proofs.Columns.{q-positive}
 use Rattle.decoder.proofs.Totalling.{middle-small}
 use Rattle.decoder.proofs.Sent.{sent-by}
 use borrow.Author.Needs.{needs}
@@ -11,17 +10,17 @@ use Rattle.decoder.proofs.place.balancing_symbol.Tie as tie
 wide-requires : tie.Need-wide-requires
 wide-requires c κs = search needs
 
-add-difference : tie.Need-add-difference
-add-difference c = omega (arith, c .before .wide .ensures .1, middle-small (c .before .before .pre .0))
+add-plain-difference : tie.Need-add-plain-difference
+add-plain-difference c = omega (arith, c .before .wide .ensures .1, middle-small (c .before .before .pre .0))
 
-difference-requires : tie.Need-difference-requires
-difference-requires c κs =
-    let s = c .before .before in
-    omega (arith, q-positive _ (s .pre .0 .sized), c .before .wide .ensures .1, middle-small (s .pre .0), s .pre .1 .light)
+plain-difference-requires : tie.Need-plain-difference-requires
+plain-difference-requires c κs = search needs
 
 returns : tie.Need-returns
-returns c = let s = c .before .before .before in sent-by (s .pre .0) (s .args .s) (c .before .before .wide .ensures .0) (c .difference .ensures)
+returns c =
+    let a = c .before .before .before in
+    sent-by (a .pre .0) (a .args .s) (c .before .before .wide .ensures .0) (c .plain-difference .ensures)
 
 pub balancing-symbol-spec : {M : Type 1} → statement M
 balancing-symbol-spec =
-    tie.close (tie.spec wide-requires add-difference difference-requires returns)
+    tie.close (tie.spec wide-requires add-plain-difference plain-difference-requires returns)

@@ -1,19 +1,31 @@
 -- `decoder::place::moves` meets its contract: the symbol by the parity.
 -- Assumes nothing.
-use mathlib.Core.Path.{_∙_}
+use mathlib.Core.Path.{_≡_, _∙_}
+use Prim.Native.Nat.{_<_}
 use native.Mathlib.Omega.{arith}
+use borrow.Author.Needs.{needs}
+use Rattle.modular.specs.Residue.{minus}
+use Rattle.residues.proofs.Bytes.{byte-difference}
 use Rattle.decoder.proofs.Fitting.{factor-odd, factor-even}
 use Rattle.decoder.proofs.place.moves.Statement.{statement}
 use Rattle.decoder.proofs.place.moves.Tie as tie
 
+-- the negative of the lack
+negative : (c : tie.After-sub) → let a = c .before .before .args in (c .sub .result ≡ minus (a .row .q) 0 (a .s .lack)) × (c .sub .result < a .row .q)
+negative c =
+    let p = c .before .before .pre in
+    byte-difference (omega (arith, p .1 .lack-below)) (omega (arith, p .1 .lack-below)) (omega (arith, p .0 .levels)) (c .sub .ensures)
+
 sub-requires : tie.Need-sub-requires
-sub-requires c κs = let p = c .before .pre in (omega (arith, p .0 .sized .levels), p .1 .lack-below, p .0 .levels)
+sub-requires c κs = search needs
 
 multiples-requires : tie.Need-multiples-requires
-multiples-requires c κs = let p = c .before .before .pre in (c .sub .ensures .1, omega (arith, p .0 .sized .levels), p .0 .levels)
+multiples-requires c κs = let p = c .before .before .pre in (negative c .1, omega (arith, p .0 .sized .levels), p .0 .levels)
 
 returns : tie.Need-returns
-returns c = (c .multiples .ensures .0, c .multiples .ensures .1 ∙ c .before .sub .ensures .0 ∙ factor-odd _ _ _ (c .before .before .if1 .taken))
+returns c =
+    let e = c .multiples .ensures in
+    (e .0, e .1 ∙ negative (c .before) .0 ∙ factor-odd _ _ _ (c .before .before .if1 .taken))
 
 multiples-requires-2 : tie.Need-multiples-requires-2
 multiples-requires-2 c κs = let p = c .before .pre in (p .1 .lack-below, omega (arith, p .0 .sized .levels), p .0 .levels)

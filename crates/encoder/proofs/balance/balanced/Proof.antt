@@ -21,7 +21,7 @@ abbrev start : tie.After-earliest → tie.Start
 start e = e .before .before .before
 
 integrated-requires : tie.Need-integrated-requires
-integrated-requires c κs = (omega (arith, c .pre .0 .sized .levels), c .pre .1)
+integrated-requires c κs = c .pre .1
 
 earliest-requires : tie.Need-earliest-requires
 earliest-requires c κs =
@@ -37,7 +37,8 @@ cast-raised c =
     let e = c .before .before in
     let i = e .before .before in
     let a = start e in
-    omega (arith, e .earliest .ensures .upto, row-size (a .args .row) (a .pre .0) (i .integrated .result) (i .integrated .ensures .1 .size), a .pre .1 .room)
+    let size = row-size (a .args .row) (a .pre .0) (i .integrated .result) (i .integrated .ensures .1 .size) in
+    omega (arith, e .earliest .ensures .upto, size, a .pre .1 .room)
 
 raised-requires : tie.Need-raised-requires
 raised-requires c κs = (c .before .before .before .before .integrated .ensures .1, c .before .before .earliest .ensures .below)

@@ -1,28 +1,40 @@
 -- `encoder::balance::raised` meets its contract. The invariant: the symbols passed are raised. The measure is what is left.
 -- Assumes nothing.
 use mathlib.Core.Path.{_≡_, refl, ap, _∙_}
-use Prim.Native.Nat.{ℕ, _+_, _-_, _≤_}
+use Prim.Native.Nat.{ℕ, _+_, _-_, _%_, _≤_}
+use lib.ListN.{getD}
 use native.Mathlib.Omega.{arith}
+use denote.Ref.{now}
 use borrow.Author.Needs.{needs}
 use Rattle.encoder.specs.Symbols.{stepAt}
-use Rattle.encoder.proofs.Raising.{Raising, raising-none, raising-more, raising-all, step-upto}
+use Rattle.residues.proofs.Filling.{FilledTo, filled-none, filled-more}
+use Rattle.residues.proofs.Bytes.{byte-sum}
+use Rattle.encoder.proofs.Raising.{step-upto}
 use Rattle.encoder.proofs.balance.raised.Statement.{statement}
 use Rattle.encoder.proofs.balance.raised.Tie as tie
 
 abbrev Inv-loop : tie.InvT-loop
-Inv-loop q d s from w₀ at₀ i₀ w at i = Raising q d s from w i × (at ≡ i)
+Inv-loop q d s from w₀ at₀ i₀ w at i = FilledTo (λ k. (getD d k 0 + stepAt from s k) % q) 97 w i × (i ≤ 97) × (at ≡ i)
 
 abbrev μ-loop : tie.MeasureT-loop
 μ-loop q d s from w₀ at₀ i₀ w at i = 97 - i
 
 -- what is added at i
-step : (c : tie.After-step Inv-loop μ-loop) → c .step .result ≡ stepAt (c .before .before .before .before .args .from) (c .before .before .before .before .args .s) (c .before .before .before .loop .i)
-step c =
-    let l = c .before .before .before in
-    c .step .ensures ∙ ap (stepAt (l .before .args .from) (l .before .args .s)) (l .loop .inv .1)
+module _ (c : tie.After-step Inv-loop μ-loop) where
+  abbrev turn : tie.At-loop Inv-loop μ-loop
+  turn = c .before .before .before
+
+  abbrev start : tie.Start Inv-loop μ-loop
+  start = turn .before
+
+  step : c .step .result ≡ stepAt (start .args .from) (start .args .s) (turn .loop .i)
+  step = c .step .ensures ∙ ap (stepAt (start .args .from) (start .args .s)) (turn .loop .inv .2)
+
+  small : c .step .result ≤ start .args .q
+  small = omega (arith, step, step-upto (start .args .from) (start .args .s) (turn .loop .i) (start .args .q) (start .pre .1))
 
 loop-holds : tie.Need-loop-holds Inv-loop μ-loop
-loop-holds c = (raising-none _ _ _ _, refl)
+loop-holds c = (filled-none _ _ refl, omega arith, refl)
 
 element-copy-out-add : tie.Need-element-copy-out-add Inv-loop μ-loop
 element-copy-out-add c = search needs
@@ -33,11 +45,7 @@ step-requires c κs =
     omega (arith, a .pre .1, a .pre .0 .levels)
 
 add-requires : tie.Need-add-requires Inv-loop μ-loop
-add-requires c κs =
-    let i = c .before .before in
-    let a = i .before .before in
-    let h : c .step .result ≤ a .args .q = rw (step c) (step-upto (a .args .from) (a .args .s) (i .before .loop .i) (a .args .q) (a .pre .1)) in
-    (a .pre .0 .below _ (i .loop-test .taken), h)
+add-requires c κs = search needs
 
 array-write-w : tie.Need-array-write-w Inv-loop μ-loop
 array-write-w c = search needs
@@ -53,11 +61,16 @@ loop-less c = search needs
 
 loop-again : tie.Need-loop-again Inv-loop μ-loop
 loop-again c =
-    let i = c .before .before .before in
-    (raising-more (i .before .loop .inv .0) (i .loop-test .taken) (rw (step (c .before)) at (c .add .ensures .0)), ap (λ (x : ℕ). x + 1) (i .before .loop .inv .1))
+    let d = c .before in
+    let inside = d .before .before .loop-test .taken in
+    let sum = byte-sum (start d .pre .0 .below _ inside) (small d) (omega (arith, start d .pre .0 .levels)) (c .add .ensures) in
+    let a = start d .args in
+    let l = turn d .loop in
+    let is = sum .0 ∙ ap (λ (y : ℕ). (getD (now (a .d)) (l .i) 0 + y) % a .q) (step d) in
+    (filled-more (l .inv .0) inside is, omega (arith, inside), ap (λ (x : ℕ). x + 1) (l .inv .2))
 
 returns : tie.Need-returns Inv-loop μ-loop
-returns c = raising-all (c .before .loop .inv .0) (c .loop-test .left)
+returns c = record { at = λ k h. c .before .loop .inv .0 .at k (omega (arith, c .loop-test .left)) }
 
 pub raised-spec : {M : Type 1} → statement M
 raised-spec =

@@ -1,22 +1,23 @@
 -- `encoder::word::put` meets its contract. The invariant: the symbols passed are written. The measure is what is left.
 -- Assumes nothing.
-use mathlib.Core.Path.{_≡_, ap, _∙_}
-use Prim.Native.Nat.{ℕ, _-_, _≤_}
-use lib.ListN.{length, take, length-set}
+use mathlib.Core.Path.{_≡_, refl, sym, _∙_}
+use Prim.Native.Nat.{_-_, _≤_}
+use lib.ListN.{length, getD, length-set}
+use lib.Seq.{take-all}
 use native.Mathlib.Omega.{arith}
 use borrow.Author.Needs.{needs}
-use Rattle.encoder.proofs.Writing.{Copied, copied-more, copied-all}
+use Rattle.residues.proofs.Filling.{FilledTo, filled-none, filled-more, filled-take}
 use Rattle.encoder.proofs.word.put.Statement.{statement}
 use Rattle.encoder.proofs.word.put.Tie as tie
 
 abbrev Inv-loop : tie.InvT-loop
-Inv-loop out₀ word i₀ out i = Copied (length out₀) (word .symbols) out i × (i ≤ length out₀)
+Inv-loop out₀ word i₀ out i = FilledTo (λ k. getD (word .symbols) k 0) (length out₀) out i × (i ≤ length out₀)
 
 abbrev μ-loop : tie.MeasureT-loop
 μ-loop out₀ word i₀ out i = length out - i
 
 loop-holds : tie.Need-loop-holds Inv-loop μ-loop
-loop-holds c = search needs
+loop-holds c = (filled-none _ _ refl, omega arith)
 
 element-copy-out-out : tie.Need-element-copy-out-out Inv-loop μ-loop
 element-copy-out-out c = omega (arith, c .before .loop .inv .0 .size)
@@ -31,10 +32,7 @@ loop-less : tie.Need-loop-less Inv-loop μ-loop
 loop-less c = simp length-set (omega arith)
 
 loop-again : tie.Need-loop-again Inv-loop μ-loop
-loop-again c =
-    let a = c .before .before .before in
-    let e : length (a .args .t1 .symbols) ≡ 99 = search needs in
-    (copied-more (c .before .before .loop .inv .0) (omega arith) (omega arith), omega arith)
+loop-again c = (filled-more (c .before .before .loop .inv .0) (omega arith) refl, omega arith)
 
 same-length : tie.Need-same-length Inv-loop μ-loop
 same-length c = search needs
@@ -42,8 +40,11 @@ same-length c = search needs
 returns : tie.Need-returns Inv-loop μ-loop
 returns c =
     let a = c .before .before in
-    let e : c .before .loop .i ≡ a .args .t1 .len = omega arith in
-    copied-all (c .before .loop .inv .0) (omega arith) ∙ ap (λ (n : ℕ). take n (a .args .t1 .symbols)) e
+    let l = c .before .loop in
+    let n = a .args .t1 .len in
+    let long : length (a .args .t1 .symbols) ≡ 99 = search needs in
+    sym (take-all n (l .out) (omega (arith, l .inv .0 .size)))
+    ∙ filled-take (l .inv .0) n (omega arith) (omega arith) (a .args .t1 .symbols) (omega arith) (λ k h. refl)
 
 pub put-spec : {M : Type 1} → statement M
 put-spec =

@@ -1,5 +1,7 @@
 -- `encoder::writer::written` meets its contract: the steps are those of the definition.
 -- Assumes nothing.
+use mathlib.Core.List.{List}
+use Prim.Native.Nat.{ℕ}
 use borrow.Author.Needs.{needs}
 use lib.Dec.{T}
 use Rattle.code.specs.Parameters.{messageLength}
@@ -7,7 +9,6 @@ use Rattle.code.specs.Component.{isWord}
 use Rattle.code.specs.Profiles.{profile}
 use denote.Ref.{now}
 use Rattle.encoder.specs.Symbols.{Symbols}
-use Rattle.encoder.proofs.Integrating.{balanced-symbols}
 use Rattle.encoder.proofs.Pairing.{pair-symbols, pair-encoded, pair-length}
 use Rattle.encoder.proofs.writer.written.Statement.{statement}
 use Rattle.encoder.proofs.writer.written.Tie as tie
@@ -17,7 +18,10 @@ module _ (c : tie.After-components) where
   abbrev start : tie.Start
   start = c .before .before .before
 
-  abbrev pair : T (isWord (profile (start .args .number) .q) (messageLength (profile (start .args .number))) (now (start .args .first))) × T (isWord (profile (start .args .number) .q) (messageLength (profile (start .args .number))) (now (start .args .second)))
+  abbrev isMessage : List ℕ → Type 0
+  isMessage a = let p = profile (start .args .number) in T (isWord (p .q) (messageLength p) a)
+
+  abbrev pair : isMessage (now (start .args .first)) × isMessage (now (start .args .second))
   pair = (start .pre .1, start .pre .2)
 
   symbols : Symbols (start .args .row .q) (start .args .row .balanced) (c .components .result)
@@ -30,16 +34,17 @@ balanced-requires : tie.Need-balanced-requires
 balanced-requires c κs = (start (c .before) .pre .0 .valid, symbols (c .before))
 
 with-checks-requires : tie.Need-with-checks-requires
-with-checks-requires c κs =
-    let m = c .before .before .before in
-    (start m .pre .0 .valid, balanced-symbols _ (symbols m) _ (search needs) (c .before .balanced .ensures))
+with-checks-requires c κs = (start (c .before .before .before) .pre .0 .valid, search needs)
 
 returns : tie.Need-returns
 returns c =
     let m = c .before .before .before .before in
-    let a = start m in (
-      pair-encoded (a .pre .0) (now (a .args .first)) (now (a .args .second)) (pair m) (m .components .ensures) (c .before .before .balanced .ensures) (c .with-checks .ensures .0),
-      pair-length (a .pre .0) (now (a .args .first)) (now (a .args .second)) (pair m) (m .components .ensures) (c .with-checks .ensures .1),
+    let a = start m in
+    let first = now (a .args .first) in
+    let second = now (a .args .second) in
+    let w = c .before .before .balanced .ensures in (
+      pair-encoded (a .pre .0) first second (pair m) (m .components .ensures) w (c .with-checks .ensures .0),
+      pair-length (a .pre .0) first second (pair m) (m .components .ensures) (c .with-checks .ensures .1),
     )
 
 pub written-spec : {M : Type 1} → statement M

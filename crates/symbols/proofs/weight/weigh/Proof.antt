@@ -38,23 +38,23 @@ loop-holds c = (weighing-none _, omega arith, rw (cap c) (min-le-right _ 97))
 add-loop : tie.Need-add-loop Inv-loop μ-loop
 add-loop c = search needs
 
-element-copy-out-wide : tie.Need-element-copy-out-wide Inv-loop μ-loop
-element-copy-out-wide c = search needs
+element-copy-out-wide16 : tie.Need-element-copy-out-wide16 Inv-loop μ-loop
+element-copy-out-wide16 c = search needs
 
-wide-requires : tie.Need-wide-requires Inv-loop μ-loop
-wide-requires c κs = search needs
+wide16-requires : tie.Need-wide16-requires Inv-loop μ-loop
+wide16-requires c κs = search needs
 
 add-odd : tie.Need-add-odd Inv-loop μ-loop
 add-odd c = search needs
 
-add-wide : tie.Need-add-wide Inv-loop μ-loop
-add-wide c = search needs
+add-wide16 : tie.Need-add-wide16 Inv-loop μ-loop
+add-wide16 c = search needs
 
-element-copy-out-wide-2 : tie.Need-element-copy-out-wide-2 Inv-loop μ-loop
-element-copy-out-wide-2 c = search needs
+element-copy-out-wide16-2 : tie.Need-element-copy-out-wide16-2 Inv-loop μ-loop
+element-copy-out-wide16-2 c = search needs
 
-wide-requires-2 : tie.Need-wide-requires-2 Inv-loop μ-loop
-wide-requires-2 c κs = search needs
+wide16-requires-2 : tie.Need-wide16-requires-2 Inv-loop μ-loop
+wide16-requires-2 c κs = search needs
 
 add-even : tie.Need-add-even Inv-loop μ-loop
 add-even c = search needs
@@ -70,36 +70,36 @@ loop-again c =
     let l = c .before .before .before .before .before in
     let x = now (l .before .before .args .word) in
     let a = getD-take (l .before .if1 .end) x (l .loop .i) 0 (omega arith) in
-    let b = getD-take (l .before .if1 .end) x (l .loop .i + 1) 0 (omega arith) in (
-      weighing-two (l .loop .inv .0) (a ∙ sym (c .before .before .wide .ensures .0)) (c .before .before .wide .ensures .1) (b ∙ sym (c .wide2 .ensures .0))
-          (c .wide2 .ensures .1),
+    let b = getD-take (l .before .if1 .end) x (l .loop .i + 1) 0 (omega arith) in
+    let first = c .before .before .wide16 .ensures in
+    let second = c .wide162 .ensures in (
+      weighing-two (l .loop .inv .0) (a ∙ sym (first .0)) (first .1) (b ∙ sym (second .0)) (second .1),
       omega arith,
       l .loop .inv .2,
     )
 
-element-copy-out-wide-3 : tie.Need-element-copy-out-wide-3 Inv-loop μ-loop
-element-copy-out-wide-3 c = search needs
+element-copy-out-wide16-3 : tie.Need-element-copy-out-wide16-3 Inv-loop μ-loop
+element-copy-out-wide16-3 c = search needs
 
-wide-requires-3 : tie.Need-wide-requires-3 Inv-loop μ-loop
-wide-requires-3 c κs = search needs
+wide16-requires-3 : tie.Need-wide16-requires-3 Inv-loop μ-loop
+wide16-requires-3 c κs = search needs
 
 add-odd-2 : tie.Need-add-odd-2 Inv-loop μ-loop
 add-odd-2 c = search needs
 
-cast-t21 : tie.Need-cast-t21 Inv-loop μ-loop
-cast-t21 c = search needs
-
+-- a last symbol without another, or none
 returns : tie.Need-returns Inv-loop μ-loop
 returns c =
-    let l = c .before .before .before in
+    let l = c .before .before .before .before in
     let x = now (l .before .before .args .word) in
-    rw (← cap (l .before))
-    (⊎-elim
-    (λ w.
-    let a = getD-take (l .before .if1 .end) x (l .loop .i) 0 (w .0 .taken) in
-    rw (w .3) (weighing-last (l .loop .inv .0) (a ∙ sym (w .2 .ensures .0)) (le-trans (short (l .before)) (c .before .before .loop-test .left))))
-    (λ w. rw (w .1) (weighing-all (l .loop .inv .0) (le-trans (short (l .before)) (w .0 .left))))
-    (c .before .if2 .came))
+    let a = getD-take (l .before .if1 .end) x (l .loop .i) 0 (c .before .before .if2 .taken) in
+    let few = le-trans (short (l .before)) (c .before .before .before .loop-test .left) in
+    rw (← cap (l .before)) (weighing-last (l .loop .inv .0) (a ∙ sym (c .wide163 .ensures .0)) few)
+
+returns-2 : tie.Need-returns-2 Inv-loop μ-loop
+returns-2 c =
+    let l = c .before .before in
+    rw (← cap (l .before)) (weighing-all (l .loop .inv .0) (le-trans (short (l .before)) (c .if2 .left)))
 
 pub weigh-spec : {M : Type 1} → statement M
 weigh-spec =
@@ -109,18 +109,18 @@ weigh-spec =
     μ-loop
     loop-holds
     add-loop
-    element-copy-out-wide
-    wide-requires
+    element-copy-out-wide16
+    wide16-requires
     add-odd
-    add-wide
-    element-copy-out-wide-2
-    wide-requires-2
+    add-wide16
+    element-copy-out-wide16-2
+    wide16-requires-2
     add-even
     add-i
     loop-less
     loop-again
-    element-copy-out-wide-3
-    wide-requires-3
+    element-copy-out-wide16-3
+    wide16-requires-3
     add-odd-2
-    cast-t21
-    returns)
+    returns
+    returns-2)

@@ -1,0 +1,18 @@
+-- The weights of a word and the check symbols that they ask for.
+-- Assumes nothing.
+use mathlib.Core.Bool.{true, false}
+use mathlib.Core.List.{List}
+use Prim.Native.Nat.{ℕ, _+_}
+use Rattle.modular.specs.Sum.{weight}
+use Rattle.code.specs.Codeword.{alternate}
+use Rattle.residues.specs.Remainder.{residue}
+use Rattle.symbols.specs.declared.weight.Weight.{Weight}
+use Rattle.symbols.specs.declared.checks.Checks.{Checks}
+
+-- the sums over the odd and over the even positions
+abbrev pub weightsOf : List ℕ → Weight
+weightsOf w = record { odd = weight (alternate true w); even = weight (alternate false w) }
+
+-- 01: α and β of a word with these weights
+unfoldable pub checksOf : ℕ → ℕ → Weight → Checks
+checksOf q delta w = record { alpha = residue q (w .odd + delta); beta = residue q (w .even) }
