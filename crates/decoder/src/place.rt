@@ -30,7 +30,7 @@ pub(crate) fn balancing_symbol(row: Row, s: Totals, x: u8) -> u8
     requires { ⌜ Valid row × Totalled row s ⌝ }
     ensures { λ y. ⌜ y ≡ symbolSent (parameters row) (sumsOf row s) x ⌝ }
 {
-    residues::plain_difference(row.q, wide(x) + row.middle, s.weight)
+    residues::plain::difference(row.q, wide(x) + row.middle, s.weight)
 }
 
 // Whether the check symbol of the parity is off by as much as the weight, mod q.

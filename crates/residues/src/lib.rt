@@ -1,13 +1,12 @@
 // Symbols and sums mod q, and bytes as wider numbers: the arithmetic that encoding and decoding share. Each function is
 // total: it answers for any arguments, and says what.
 mod byte;
-mod plain;
+pub mod plain;
 mod sum;
 mod width;
 
 pub use byte::add;
 pub use byte::sub;
-pub use plain::plain_difference;
 pub use sum::Sums;
 pub use sum::difference;
 pub use sum::remainder;

@@ -4,7 +4,7 @@ ghost use mathlib.Core.Path.{_≡_};
 ghost use Rattle.residues.specs.Level.{level};
 
 // a - b where it is one of the q levels, and q where it is none: nothing wraps.
-pub fn plain_difference(q: u8, a: usize, b: usize) -> u8
+pub fn difference(q: u8, a: usize, b: usize) -> u8
     ensures { λ r. ⌜ r ≡ level q a b ⌝ }
 {
     if a < b {

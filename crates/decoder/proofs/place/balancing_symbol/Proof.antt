@@ -10,17 +10,17 @@ use Rattle.decoder.proofs.place.balancing_symbol.Tie as tie
 wide-requires : tie.Need-wide-requires
 wide-requires c κs = search needs
 
-add-plain-difference : tie.Need-add-plain-difference
-add-plain-difference c = omega (arith, c .before .wide .ensures .1, middle-small (c .before .before .pre .0))
+add-difference : tie.Need-add-difference
+add-difference c = omega (arith, c .before .wide .ensures .1, middle-small (c .before .before .pre .0))
 
-plain-difference-requires : tie.Need-plain-difference-requires
-plain-difference-requires c κs = search needs
+difference-requires : tie.Need-difference-requires
+difference-requires c κs = search needs
 
 returns : tie.Need-returns
 returns c =
     let a = c .before .before .before in
-    sent-by (a .pre .0) (a .args .s) (c .before .before .wide .ensures .0) (c .plain-difference .ensures)
+    sent-by (a .pre .0) (a .args .s) (c .before .before .wide .ensures .0) (c .difference .ensures)
 
 pub balancing-symbol-spec : {M : Type 1} → statement M
 balancing-symbol-spec =
-    tie.close (tie.spec wide-requires add-plain-difference plain-difference-requires returns)
+    tie.close (tie.spec wide-requires add-difference difference-requires returns)

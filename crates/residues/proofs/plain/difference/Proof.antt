@@ -1,9 +1,9 @@
--- `residues::plain::plain_difference` meets its contract: the tests of the definition, in its order.
+-- `residues::plain::difference` meets its contract: the tests of the definition, in its order.
 -- Assumes nothing.
 use Rattle.residues.proofs.Levels.{level-low, level-in, level-high}
 use borrow.Author.Needs.{needs}
-use Rattle.residues.proofs.plain.plain_difference.Statement.{statement}
-use Rattle.residues.proofs.plain.plain_difference.Tie as tie
+use Rattle.residues.proofs.plain.difference.Statement.{statement}
+use Rattle.residues.proofs.plain.difference.Tie as tie
 
 returns : tie.Need-returns
 returns c = level-low _ _ _ (c .if1 .taken)
@@ -20,5 +20,5 @@ returns-2 c = level-in _ _ _ (c .before .before .if1 .left) (rw (c .before .wide
 returns-3 : tie.Need-returns-3
 returns-3 c = level-high _ _ _ (c .before .before .if1 .left) (rw (c .before .wide .ensures .0) at (c .if2 .left))
 
-pub plain-difference-spec : {M : Type 1} → statement M
-plain-difference-spec = tie.close (tie.spec returns wide-requires cast-result returns-2 returns-3)
+pub difference-spec : {M : Type 1} → statement M
+difference-spec = tie.close (tie.spec returns wide-requires cast-result returns-2 returns-3)
