@@ -173,14 +173,14 @@ same-length-2 c = let found = c .before .before .before .before .before in turn-
 returns-2 : tie.Need-returns-2 Inv-loop μ-loop
 unfolding modelOf
 returns-2 c =
-    let h = c .before in
-    let at-end = h .before .before in
+    let holding = c .before in
+    let at-end = holding .before .before in
     let found = at-end .before .before in
     let put = put-out found in
     let room = found .before .if1 .left in
     let ended = found .line-end .ensures in
-    let long = h .hold .kept .0 ∙ line-long found in
-    let spent = exhausted (turn-out put) room ended (h .hold .last .0) (h .hold .result) long (h .hold .ensures) in
+    let long = holding .hold .kept .0 ∙ line-long found in
+    let spent = exhausted (turn-out put) room ended (holding .hold .last .0) (holding .hold .result) long (holding .hold .ensures) in
     stepped (no-input spent room (at-end .if2 .taken)) (same-call (head put)) (head put .loop .inv .1 ∙ sym (counts-none ended))
 
 pub step-spec : {M : Type 1} → statement M

@@ -122,10 +122,10 @@ returns c =
 
 returns-2 : tie.Need-returns-2
 returns-2 c =
-    let t = c .before in
-    let a = begin t in
+    let sound = c .before in
+    let a = begin sound in
     refused (S a) (K a) (O a) Length (omega arith)
-    (sym (stops [] (length-test a) (asks (hit t) 10 ∷ []) tt (ne-eqb _ _ (c .if1 .taken))) ∙ answer t)
+    (sym (stops [] (length-test a) (asks (hit sound) 10 ∷ []) tt (ne-eqb _ _ (c .if1 .taken))) ∙ answer sound)
 
 show-requires : tie.Need-show-requires
 show-requires c κs = search needs
@@ -151,10 +151,10 @@ returns-3 c =
 
 returns-4 : tie.Need-returns-4
 returns-4 c =
-    let t = c .before .before in
-    let a = begin t in
+    let sound = c .before .before in
+    let a = begin sound in
     refused (S a) (K a) (O a) NoRecord (omega arith)
-    (sym (stops (length-test a ∷ []) (asks (hit t) 10) [] (eq-test (c .before .if1 .left), tt) (c .if2 .left)) ∙ answer t)
+    (sym (stops (length-test a ∷ []) (asks (hit sound) 10) [] (eq-test (c .before .if1 .left), tt) (c .if2 .left)) ∙ answer sound)
 
 pub peek-spec : {M : Type 1} → statement M
 peek-spec =

@@ -33,16 +33,16 @@ walk-both-requires c κs = holds _ (length-ok c)
 returns-2 : tie.Need-returns-2
 unfolding checkAnswer
 returns-2 c =
-    let w = c .before .before in
-    rw (length-ok (w .before), sym (w .walk-both .ensures .good-is) ∙ not-true _ (c .if2 .taken))
+    let walked = c .before .before in
+    rw (length-ok (walked .before), sym (walked .walk-both .ensures .good-is) ∙ not-true _ (c .if2 .taken))
 
 returns-3 : tie.Need-returns-3
 unfolding checkAnswer
 returns-3 c =
-    let w = c .before .before in
+    let walked = c .before .before in
     let good = not-false _ (c .if2 .left) in
-    rw (length-ok (w .before), sym (w .walk-both .ensures .good-is) ∙ good)
-    (ap₂ (checkReport 0) (w .walk-both .ensures .cell-is good) (w .walk-both .ensures .records-is good))
+    rw (length-ok (walked .before), sym (walked .walk-both .ensures .good-is) ∙ good)
+    (ap₂ (checkReport 0) (walked .walk-both .ensures .cell-is good) (walked .walk-both .ensures .records-is good))
 
 pub check-spec : {M : Type 1} → statement M
 check-spec = tie.close (tie.spec is-length-requires returns walk-both-requires returns-2 returns-3)

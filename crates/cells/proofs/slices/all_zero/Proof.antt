@@ -37,9 +37,9 @@ loop-less c = search needs
 
 loop-again : tie.Need-loop-again Inv-loop μ-loop
 loop-again c =
-    let at = c .before .before .before in
-    let s = now (at .before .args .s) in
-    let l = at .loop in (
+    let turn = c .before .before .before in
+    let s = now (turn .before .args .s) in
+    let l = turn .loop in (
       ⊎-elim (λ w. rw (w .2) (zero-risen s (l .i) (l .highest) (omega arith) (l .inv .0) (w .0 .taken)))
           (λ w. rw (w .1) (zero-kept s (l .i) (l .highest) (omega arith) (l .inv .0) (w .0 .left))) (c .if1 .came),
       omega arith,

@@ -111,17 +111,17 @@ symbols-below-requires c κs = search needs
 
 returns-4 : tie.Need-returns-4
 returns-4 c =
-    let e = c .before .before in
-    let a = begin (found (e .before)) in
+    let fitting = c .before .before in
+    let a = begin (found (fitting .before)) in
     sym
-    (stops (box-test a ∷ profile-test a ∷ length-test a ∷ []) (symbols-test a) [] (length-passes e)
+    (stops (box-test a ∷ profile-test a ∷ length-test a ∷ []) (symbols-test a) [] (length-passes fitting)
     (sym (symbols-is (c .before)) ∙ not-true _ (c .if3 .taken)))
 
 returns-5 : tie.Need-returns-5
 returns-5 c =
-    let e = c .before .before in
-    let a = begin (found (e .before)) in
-    let (box, (profile, (long, none))) = length-passes e in
+    let fitting = c .before .before in
+    let a = begin (found (fitting .before)) in
+    let (box, (profile, (long, none))) = length-passes fitting in
     let symbols = holds (symbols-test a .passes) (sym (symbols-is (c .before)) ∙ not-false _ (c .if3 .left)) in
     sym (past (recordTests (a .args .boxno) (a .args .profile) (W a)) [] (box, (profile, (long, (symbols, tt)))))
 

@@ -54,7 +54,7 @@ loop-holds c =
     walk-start (now (a .queue)) (a .used) (a .first) (a .number) (now (a .seen)) (n .result) (c .before .before .pre .1) (n .ensures)
 
 returns : tie.Need-returns Inv-loop μ-loop
-returns c = let m = c .before in walk-over (m .before .loop .inv) (c .if1 .taken) (m .loop-test .taken) _ refl
+returns c = let turn = c .before in walk-over (turn .before .loop .inv) (c .if1 .taken) (turn .loop-test .taken) _ refl
 
 is-cell-requires : tie.Need-is-cell-requires Inv-loop μ-loop
 is-cell-requires c κs = start (c .before) .pre .0

@@ -67,11 +67,11 @@ cast-walk-2 c = omega (arith, c .shared-slice-known3 .given 1)
 
 walk-requires-2 : tie.Need-walk-requires-2
 walk-requires-2 c κs =
-    let e = c .before .before in
-    let w = first e in
+    let good-used = c .before .before in
+    let w = first good-used in
     let s = S w in
     let few = few-after s (start w .args .number) (nextCell s 0) (table w) (w .walk .result) (start w .pre) refl (walked w) in
-    (start w .pre, few (not-false _ (e .if1 .left)))
+    (start w .pre, few (not-false _ (good-used .if1 .left)))
 
 is-header-requires : tie.Need-is-header-requires
 is-header-requires c κs = search needs
