@@ -1,7 +1,7 @@
 -- Symbols mod q
 pub mod Multiplying
 -- The body and its differences
-pub mod Copying
+pub mod Differencing
 -- Syndromes
 pub mod FourRows
 pub mod Moving

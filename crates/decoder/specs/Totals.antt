@@ -3,11 +3,12 @@
 use mathlib.Core.Path.{_≡_}
 use mathlib.Core.Bool.{Bool, true, false}
 use mathlib.Core.List.{List}
-use Prim.Native.Nat.{ℕ, _≤_, _<_}
+use Prim.Native.Nat.{ℕ, suc, _≤_, _<_}
 use lib.Dec.{T}
-use lib.ListN.{length, take}
+use lib.ListN.{length, getD}
 use Rattle.code.specs.Parameters.{codewordLength}
 use Rattle.code.specs.Component.{symbolsBelow}
+use Rattle.code.specs.Balance.{neighbourDifference}
 use Rattle.code.specs.Codeword.{received}
 use Rattle.decoding.specs.Decoded.{Sums, sums, lack}
 use Rattle.profiles.specs.declared.row.Row.{Row}
@@ -23,12 +24,6 @@ pub record Word (t : Row) (word : List ℕ) : Type 0 where
   pub valid : Valid t
   pub long : length word ≡ codewordLength (parameters t)
   pub below : T (symbolsBelow (t .q) word)
-
--- w begins with the word's body, and x holds its components
-pub record Apart (t : Row) (word w x : List ℕ) : Type 0 where
-  pub is : Word t word
-  pub copy : take (t .balanced) w ≡ take (t .balanced) word
-  pub parts : (b : Bool) → part b (t .n) x ≡ received (parameters t) b word
 
 -- the check symbol of a parity
 abbrev pub checkOf : Checks → Bool → ℕ
@@ -54,9 +49,10 @@ pub record Totalled (t : Row) (s : Totals) : Type 0 where
   pub first-rows : FourRows t (rows (s .first))
   pub second-rows : FourRows t (rows (s .second))
 
--- x holds the components of the word u
+-- x holds the differences of the body of the word u, after a symbol that is not looked at, and so its components
 pub record Components (t : Row) (u x : List ℕ) : Type 0 where
   pub levels : Body t x
+  pub at : (j : ℕ) → suc j < t .balanced → getD x (suc j) 0 ≡ neighbourDifference (parameters t) (getD u j 0) (getD u (suc j) 0)
   pub parts : (b : Bool) → part b (t .n) x ≡ received (parameters t) b u
 
 -- s are the sums over the word, and x holds its components

@@ -1,55 +1,45 @@
-// The body w of a received word in an array of its own, and its differences: the symbols of the two components in turn.
+// The differences of a received word's body: the symbols of the two components in turn, after one symbol that is not looked at.
 use profiles::Row;
 use residues::sub;
 ghost use mathlib.Core.Path.{_≡_};
-ghost use Prim.Native.Nat.{_≤_, _<_};
-ghost use lib.ListN.{length, take, set};
+ghost use Prim.Native.Nat.{_<_};
+ghost use lib.ListN.{length, set};
 ghost use Rattle.code.specs.Balance.{neighbourDifference};
-ghost use Rattle.profiles.specs.Row.{parameters};
-ghost use Rattle.decoder.specs.Received.{Body, Differenced};
+ghost use Rattle.profiles.specs.Row.{Valid, parameters};
 ghost use Rattle.decoder.specs.Totals.{Word, Components};
-
-// The first m symbols of a word copied into w.
-pub(crate) fn copy_body(word: &[u8], m: usize, w: &mut [u8; 97])
-    requires { ⌜ (m ≤ length (now word)) × (m ≤ 97) × (length (now w) ≡ 97) ⌝ }
-    ensures { λ _. ⌜ (length (now (w .exit)) ≡ 97) × (take m (now (w .exit)) ≡ take m (now (word .entry))) ⌝ }
-{
-    let mut i = 0;
-    while i < m {
-        w[i] = word[i];
-        i += 1;
-    }
-}
 
 // What differencing gives for two neighbours a and b of a body.
 fn neighbour_difference(row: Row, a: u8, b: u8) -> u8
-    requires { ⌜ (a < row .q) × (b < row .q) × (row .q ≤ 15) ⌝ }
+    requires { ⌜ Valid row × (a < row .q) × (b < row .q) ⌝ }
     ensures { λ r. ⌜ (r ≡ neighbourDifference (parameters row) a b) × (r < row .q) ⌝ }
 {
     sub(row.q, b, a)
 }
 
-// 01: w differenced mod q, into x: the symbols of the components in turn, after one symbol.
-pub(crate) fn difference_body(row: Row, w: &[u8; 97], x: &mut [u8; 97])
-    requires { ⌜ Body row (now w) × (length (now x) ≡ 97) ⌝ }
-    ensures { λ _. ⌜ Body row (now (x .exit)) × Differenced row (now (w .entry)) (now (x .exit)) ⌝ }
+// 01: w differenced mod q, into x.
+pub(crate) fn difference_body(row: Row, word: &[u8], x: &mut [u8; 97])
+    requires { ⌜ Word row (now word) × (length (now x) ≡ 97) ⌝ }
+    ensures { λ _. ⌜ Components row (now (word .entry)) (now (x .exit)) ⌝ }
 {
     let m = row.balanced;
-    x[0] = w[0];
+    x[0] = word[0];
     let mut i = 1;
     while i < m {
-        x[i] = neighbour_difference(row, w[i - 1], w[i]);
+        x[i] = neighbour_difference(row, word[i - 1], word[i]);
         i += 1;
     }
 }
 
-// The components of a word with the symbol at index i of its body corrected to y, into x.
-pub(crate) fn corrected_body(row: Row, word: &[u8], i: usize, y: u8, x: &mut [u8; 97])
-    requires { ⌜ Word row (now word) × (i < row .balanced) × (y < row .q) × (length (now x) ≡ 97) ⌝ }
+// The differences of a word, in x, once the symbol at index i of its body is corrected to y: no other than its own and the next change.
+pub(crate) fn correct_differences(row: Row, word: &[u8], i: usize, y: u8, x: &mut [u8; 97])
+    requires { ⌜ Word row (now word) × (i < row .balanced) × (y < row .q) × Components row (now word) (now x) ⌝ }
     ensures { λ _. ⌜ Components row (set (now (word .entry)) i y) (now (x .exit)) ⌝ }
 {
-    let mut w = [0u8; 97];
-    copy_body(word, row.balanced, &mut w);
-    w[i] = y;
-    difference_body(row, &w, x);
+    if 0 < i {
+        x[i] = neighbour_difference(row, word[i - 1], y);
+    }
+    let next = i + 1;
+    if next < row.balanced {
+        x[next] = neighbour_difference(row, y, word[next]);
+    }
 }

@@ -1,5 +1,4 @@
 // What is summed over a received word, once: its weight, its check symbols and the syndromes of its components.
-use crate::body::copy_body;
 use crate::body::difference_body;
 use profiles::Row;
 use residues::difference;
@@ -13,7 +12,7 @@ ghost use Rattle.profiles.specs.Row.{parameters};
 ghost use Rattle.symbols.specs.Columns.{Columns};
 ghost use Rattle.decoding.specs.Decoded.{sums};
 ghost use lib.ListN.{length};
-ghost use Rattle.decoder.specs.Totals.{Word, Apart, sumsOf, Totalled, Summed};
+ghost use Rattle.decoder.specs.Totals.{Word, sumsOf, Components, Totalled, Summed};
 
 pub(crate) struct Totals {
     // The weight of the body.
@@ -28,14 +27,14 @@ pub(crate) struct Totals {
     pub(crate) second: Syndrome,
 }
 
-// The sums over a word, from its body w and the differences x of that.
-fn total(row: Row, columns: &[[u8; 3]; 48], word: &[u8], w: &[u8; 97], x: &[u8; 97]) -> Totals
-    requires { ⌜ Apart row (now word) (now w) (now x) × Columns (row .q) (row .n) (now columns) ⌝ }
+// The sums over a word, of whose body x holds the differences.
+fn total(row: Row, columns: &[[u8; 3]; 48], word: &[u8], x: &[u8; 97]) -> Totals
+    requires { ⌜ Word row (now word) × Components row (now word) (now x) × Columns (row .q) (row .n) (now columns) ⌝ }
     ensures { λ s. ⌜ Totalled row s × (sumsOf row s ≡ sums (parameters row) (now (word .entry))) ⌝ }
 {
     let q = row.q;
     let m = row.balanced;
-    let sums = weigh(w, m);
+    let sums = weigh(word, m);
     let weight = sums.odd as usize + sums.even as usize;
     let asked = checks_of(q, row.delta, sums);
     let arrived = Checks {
@@ -60,8 +59,6 @@ pub(crate) fn sums_of(row: Row, columns: &[[u8; 3]; 48], word: &[u8], x: &mut [u
     requires { ⌜ Word row (now word) × Columns (row .q) (row .n) (now columns) × (length (now x) ≡ 97) ⌝ }
     ensures { λ s. ⌜ Summed row (now (word .entry)) (now (x .exit)) s ⌝ }
 {
-    let mut w = [0u8; 97];
-    copy_body(word, row.balanced, &mut w);
-    difference_body(row, &w, x);
-    total(row, columns, word, &w, x)
+    difference_body(row, word, x);
+    total(row, columns, word, x)
 }

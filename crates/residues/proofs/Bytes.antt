@@ -8,7 +8,7 @@ use native.Mathlib.Omega.{arith}
 use borrow.Author.Tests.{lt-ltb, le-ltb}
 use Rattle.modular.specs.Residue.{Congruent, minus}
 use Rattle.modular.proofs.Search.{le-or-lt}
-use Rattle.modular.proofs.Residue.{of-eq, symm, _then_, same, add, reduce, multiple, cancel, small, minus-is, kept, wrapped}
+use Rattle.modular.proofs.Residue.{of-eq, symm, _then_, same, add, reduce, multiple, cancel, small, minus-is, already-reduced, wrapped}
 use Rattle.residues.specs.Byte.{byte, byteSum, byteDifference}
 
 -- What the code answers, by its branches.
@@ -45,7 +45,7 @@ module _ {q a x : ℕ} (h : a < q) (k : x ≤ q) where
       let f : a + x ≡ byte (a + x) = sym (mod-eq-of-lt (omega arith)) in
       let m : a + x < q + q = omega arith in
       rw e
-      (⊎-elim (λ (g : q ≤ a + x). rw (sym (sum-high q a x f g)) (wrapped g m)) (λ (g : a + x < q). rw (sym (sum-low q a x f g)) (kept g))
+      (⊎-elim (λ (g : q ≤ a + x). rw (sym (sum-high q a x f g)) (wrapped g m)) (λ (g : a + x < q). rw (sym (sum-low q a x f g)) (already-reduced g))
       (le-or-lt q (a + x)))
 
   pub byte-difference : q ≤ 255 → {r : ℕ} → r ≡ byteDifference q a x → (r ≡ minus q a x) × (r < q)
@@ -67,4 +67,4 @@ module _ {q a x : ℕ} (h : a < q) (k : x ≤ q) where
           let f : a + q + (256 - x) ≡ a + (q - x) + 1 * 256 = omega arith in
           let b : byte (a + q + (256 - x)) ≡ a + (q - x) =
           ap byte f ∙ multiple 256 (a + (q - x)) 1 .same ∙ mod-eq-of-lt (omega arith) in
-          rw (lt-ltb a x g, byteDifference, b) (kept m .0 ∙ is, m)
+          rw (lt-ltb a x g, byteDifference, b) (already-reduced m .0 ∙ is, m)

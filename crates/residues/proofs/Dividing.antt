@@ -11,7 +11,7 @@ use lib.ListN.{length, getD, replicate}
 use lib.Seq.{ext-getD}
 use borrow.Author.Tests.{ne-eqb}
 use Rattle.modular.specs.Residue.{Congruent, minus}
-use Rattle.modular.proofs.Residue.{of-eq, same, symm, _then_, add, reduce, multiple, cancel, small, kept, wrapped, minus-below, minus-add}
+use Rattle.modular.proofs.Residue.{of-eq, same, symm, _then_, add, reduce, multiple, cancel, small, already-reduced, wrapped, minus-below, minus-add}
 use Rattle.residues.specs.Byte.{byteDifference}
 use Rattle.residues.specs.Remainder.{residue, residuesOf, residueOfDifference}
 use Rattle.residues.proofs.Filling.{FilledTo}
@@ -91,7 +91,7 @@ module _ (q s : ℕ) (some : 1 ≤ q) (narrow : s ≤ 65535) where
       symm (multiple q (s - quotient * q) quotient) then of-eq e
 
   pub left-kept : s - quotient * q < q → s - quotient * q ≡ s % q
-  left-kept l = kept l .0 ∙ left-is .same
+  left-kept l = already-reduced l .0 ∙ left-is .same
 
   pub left-wrapped : q ≤ s - quotient * q → s - quotient * q - q ≡ s % q
   left-wrapped l = wrapped l left-small .0 ∙ left-is .same

@@ -1,80 +1,73 @@
--- A word weighed in pairs: what is summed and what is left make the whole.
+-- A word weighed symbol by symbol: what is summed and what is left make the whole.
 -- Assumes nothing.
 use mathlib.Core.Path.{_≡_, refl, ap, ap₂, _∙_}
 use mathlib.Core.Bool.{true, false}
 use mathlib.Core.List.{List, [], _∷_}
-use Prim.Native.Nat.{ℕ, _+_, _*_, _≤_, zero-le}
-use native.Mathlib.Nat.{add-zero}
+use Prim.Native.Nat.{ℕ, zero, suc, _+_, _-_, _*_, _%_, _≤_, zero-le}
 use native.Mathlib.Omega.{arith}
-use lib.ListN.{length, getD, drop, drop-of-length-le, List·getD-eq-default}
-use lib.Seq.{drop-drop, getD-drop}
+use lib.ListN.{length, getD, drop, drop-of-length-le}
 use Rattle.modular.specs.Sum.{weight}
 use Rattle.code.specs.Codeword.{alternate}
-use Rattle.symbols.specs.declared.weight.Weight.{Weight}
+use Rattle.code.proofs.Delta.{alternate-weight}
 use Rattle.symbols.specs.Weight.{weightsOf}
 
--- the first two symbols and the rest; past the end a symbol is 0
-odd-split : (l : List ℕ) → weight (alternate true l) ≡ getD l 0 0 + weight (alternate true (drop 2 l))
-odd-split [] = refl
-odd-split (x ∷ []) = refl
-odd-split (x ∷ y ∷ l) = refl
+-- the weight of the even positions of a word whose first symbol has an index of the parity p
+abbrev evenFrom : ℕ → List ℕ → ℕ
+evenFrom p [] = 0
+evenFrom p (x ∷ l) = x * p + evenFrom (1 - p) l
 
-even-split : (l : List ℕ) → weight (alternate false l) ≡ getD l 1 0 + weight (alternate false (drop 2 l))
-even-split [] = refl
-even-split (x ∷ []) = refl
-even-split (x ∷ y ∷ l) = refl
+even-from : (l : List ℕ) → (evenFrom 0 l ≡ weight (alternate false l)) × (evenFrom 1 l ≡ weight (alternate true l))
+even-from [] = (refl, refl)
+even-from (x ∷ l) = (omega (arith, even-from l .1), omega (arith, even-from l .0))
 
-odd-at : (t : List ℕ) (i : ℕ) → weight (alternate true (drop i t)) ≡ getD t i 0 + weight (alternate true (drop (i + 2) t))
-odd-at t i =
-    odd-split (drop i t)
-    ∙ ap (λ (x : ℕ). x + weight (alternate true (drop 2 (drop i t)))) (getD-drop i t 0 0 ∙ ap (λ (j : ℕ). getD t j 0) (add-zero i))
-    ∙ ap (λ (l : List ℕ). getD t i 0 + weight (alternate true l)) (drop-drop 2 i t)
+-- a symbol and the rest; past the end a symbol is 0
+weight-at : (t : List ℕ) (i : ℕ) → weight (drop i t) ≡ getD t i 0 + weight (drop (suc i) t)
+weight-at [] zero = refl
+weight-at [] (suc i) = refl
+weight-at (x ∷ t) zero = refl
+weight-at (x ∷ t) (suc i) = weight-at t i
 
-even-at : (t : List ℕ) (i : ℕ) → weight (alternate false (drop i t)) ≡ getD t (i + 1) 0 + weight (alternate false (drop (i + 2) t))
-even-at t i =
-    even-split (drop i t)
-    ∙ ap (λ (x : ℕ). x + weight (alternate false (drop 2 (drop i t)))) (getD-drop i t 1 0)
-    ∙ ap (λ (l : List ℕ). getD t (i + 1) 0 + weight (alternate false l)) (drop-drop 2 i t)
+even-at : (p : ℕ) (t : List ℕ) (i : ℕ) → evenFrom p (drop i t) ≡ getD t i 0 * p + evenFrom (1 - p) (drop (suc i) t)
+even-at p [] zero = omega arith
+even-at p [] (suc i) = omega arith
+even-at p (x ∷ t) zero = refl
+even-at p (x ∷ t) (suc i) = even-at p t i
+
+-- 0 or 1 times a number
+pub part-small : (x p : ℕ) → p ≤ 1 → x * p ≤ x
+part-small x zero h = omega arith
+part-small x (suc zero) h = omega arith
+part-small x (suc (suc p)) h = omega (arith, h)
 
 -- the first i symbols of t are summed
-pub record Weighing (t : List ℕ) (odd even i : ℕ) : Type 0 where
-  pub odd-left : odd + weight (alternate true (drop i t)) ≡ weight (alternate true t)
-  pub even-left : even + weight (alternate false (drop i t)) ≡ weight (alternate false t)
-  pub odd-small : odd ≤ 255 * i
-  pub even-small : even ≤ 255 * i
+pub record Weighing (t : List ℕ) (all even i : ℕ) : Type 0 where
+  pub all-left : all + weight (drop i t) ≡ weight t
+  pub even-left : even + evenFrom (i % 2) (drop i t) ≡ weight (alternate false t)
+  pub even-less : even ≤ all
+  pub small : all ≤ 255 * i
 
 pub weighing-none : (t : List ℕ) → Weighing t 0 0 0
-weighing-none t = record { odd-left = omega arith; even-left = omega arith; odd-small = zero-le; even-small = zero-le }
+weighing-none t = record { all-left = omega arith; even-left = omega (arith, even-from t .0); even-less = zero-le; small = zero-le }
 
-module _ {t : List ℕ} {odd even i : ℕ} (w : Weighing t odd even i) where
-  pub weighing-two : {a b : ℕ} → getD t i 0 ≡ a → a ≤ 255 → getD t (i + 1) 0 ≡ b → b ≤ 255 → Weighing t (odd + a) (even + b) (i + 2)
-  weighing-two ea la eb lb =
+module _ {t : List ℕ} {all even i : ℕ} (w : Weighing t all even i) where
+  pub weighing-next : {x y : ℕ} → getD t i 0 ≡ x → x ≤ 255 → y ≡ x * (i % 2) → y ≤ x → Weighing t (all + x) (even + y) (i + 1)
+  weighing-next {x} {y} e l f g =
+      let p : evenFrom (i % 2) (drop i t) ≡ x * (i % 2) + evenFrom (1 - i % 2) (drop (suc i) t) =
+          even-at (i % 2) t i ∙ ap (λ (a : ℕ). a * (i % 2) + evenFrom (1 - i % 2) (drop (suc i) t)) e in
+      let s : suc i ≡ i + 1 = omega arith in
+      let n : 1 - i % 2 ≡ (i + 1) % 2 = omega arith in
       record {
-        odd-left = omega (arith, w .odd-left, odd-at t i);
-        even-left = omega (arith, w .even-left, even-at t i);
-        odd-small = omega (arith, w .odd-small);
-        even-small = omega (arith, w .even-small);
+        all-left = omega (arith, w .all-left, weight-at t i, ap (λ (j : ℕ). weight (drop j t)) s);
+        even-left = omega (arith, w .even-left, p, ap (λ (j : ℕ). evenFrom (1 - i % 2) (drop j t)) s, ap (λ (j : ℕ). evenFrom j (drop (i + 1) t)) n);
+        even-less = omega (arith, w .even-less);
+        small = omega (arith, w .small);
       }
 
-  none-left : length t ≤ i + 1 → drop (i + 2) t ≡ []
-  none-left h = drop-of-length-le t {i = i + 2} (omega arith)
-
-  even-done : length t ≤ i + 1 → even ≡ weight (alternate false t)
-  even-done h =
-      let n : weight (alternate false (drop (i + 2) t)) ≡ 0 = ap (λ (l : List ℕ). weight (alternate false l)) (none-left h) in
-      let z : getD t (i + 1) 0 ≡ 0 = List·getD-eq-default t 0 h in
-      omega (arith, w .even-left, even-at t i)
-
-  both : {x y : ℕ} → x ≡ weight (alternate true t) → y ≡ weight (alternate false t) → record { odd = x; even = y } ≡ weightsOf t
-  both e f = ap₂ (λ (x y : ℕ). record { odd = x; even = y }) e f
-
-  -- a last symbol without another
-  pub weighing-last : {a : ℕ} → getD t i 0 ≡ a → length t ≤ i + 1 → record { odd = odd + a; even = even } ≡ weightsOf t
-  weighing-last e h =
-      let n : weight (alternate true (drop (i + 2) t)) ≡ 0 = ap (λ (l : List ℕ). weight (alternate true l)) (none-left h) in
-      both (omega (arith, w .odd-left, odd-at t i)) (even-done h)
-
-  pub weighing-all : length t ≤ i → record { odd = odd; even = even } ≡ weightsOf t
+  pub weighing-all : length t ≤ i → record { odd = all - even; even = even } ≡ weightsOf t
   weighing-all h =
-      let n : weight (alternate true (drop i t)) ≡ 0 = ap (λ (l : List ℕ). weight (alternate true l)) (drop-of-length-le t h) in
-      both (omega (arith, w .odd-left)) (even-done (omega arith))
+      let n : drop i t ≡ [] = drop-of-length-le t h in
+      let a : weight (drop i t) ≡ 0 = ap weight n in
+      let b : evenFrom (i % 2) (drop i t) ≡ 0 = ap (evenFrom (i % 2)) n in
+      let odd-is : all - even ≡ weight (alternate true t) = omega (arith, w .all-left, w .even-left, alternate-weight t) in
+      let even-is : even ≡ weight (alternate false t) = omega (arith, w .even-left) in
+      ap₂ (λ (x y : ℕ). record { odd = x; even = y }) odd-is even-is

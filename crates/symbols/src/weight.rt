@@ -1,7 +1,7 @@
 // The weight of a word (01: the plain sum of its symbols), that of its odd positions and that of its even ones.
 use residues::wide16;
 ghost use mathlib.Core.Path.{_≡_};
-ghost use Prim.Native.Nat.{min};
+ghost use Prim.Native.Nat.{min, _*_, _%_, _≤_};
 ghost use lib.ListN.{take};
 ghost use Rattle.symbols.specs.Weight.{weightsOf};
 
@@ -14,24 +14,41 @@ pub struct Weight {
     pub even: u16,
 }
 
-// The first m symbols weighed, or all 97, in pairs.
-pub fn weigh(word: &Body, m: usize) -> Weight
+// A symbol where its index is odd, and 0 where it is even: by a product, which is done many at a time.
+fn if_odd(index: u8, x: u16) -> u16
+    requires { ⌜ x ≤ 255 ⌝ }
+    ensures { λ r. ⌜ (r ≡ x * (index % 2)) × (r ≤ x) ⌝ }
+{
+    x * wide16(index % 2)
+}
+
+// How many symbols are weighed of a word that has `len`.
+fn weighable(m: usize, len: usize) -> usize
+    ensures { λ r. ⌜ r ≡ min (min m 97) len ⌝ }
+{
+    let mut most = m;
+    if 97 < most {
+        most = 97;
+    }
+    if len < most { len } else { most }
+}
+
+// The first m symbols weighed, 97 at most. The index is counted in bytes too, so that its parity is found many at a time.
+pub fn weigh(word: &[u8], m: usize) -> Weight
     ensures { λ r. ⌜ r ≡ weightsOf (take (min m 97) (now (word .entry))) ⌝ }
 {
-    let mut end = m;
-    if 97 < end {
-        end = 97;
-    }
-    let mut odd = 0;
+    let end = weighable(m, word.len());
+    let mut all = 0;
     let mut even = 0;
+    let mut index = 0;
     let mut i = 0;
-    while i + 1 < end {
-        odd += wide16(word[i]);
-        even += wide16(word[i + 1]);
-        i += 2;
+    while i < end {
+        let x = wide16(word[i]);
+        all += x;
+        even += if_odd(index, x);
+        index += 1;
+        i += 1;
     }
-    if i < end {
-        odd += wide16(word[i]);
-    }
+    let odd = all - even;
     Weight { odd, even }
 }

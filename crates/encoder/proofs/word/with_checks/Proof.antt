@@ -56,7 +56,7 @@ array-write-symbols-3 c = search needs
 returns : tie.Need-returns Inv-loop μ-loop
 returns c =
     let asked = c .before .before in
-    let a = asked .before .before in
+    let a = asked .before .before .before in
     let t = a .args .row in
     let w = now (a .args .w) in
     let filled = c .before .loop .inv .0 in

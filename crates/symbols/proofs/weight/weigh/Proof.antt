@@ -1,63 +1,60 @@
--- `symbols::weight::weigh` meets its contract. The invariant: what is summed and what is left of the first m symbols make the whole. The measure
--- is what is left.
+-- `symbols::weight::weigh` meets its contract. The invariant: what is summed and what is left of the symbols that are weighed make the whole. The
+-- measure is what is left.
 -- Assumes nothing.
-use mathlib.Core.Path.{_≡_, sym, _∙_}
-use mathlib.Core.Logic.{inl, inr, ⊎-elim}
+use mathlib.Core.Path.{_≡_, sym, ap, _∙_}
 use mathlib.Core.List.{List}
-use Prim.Native.Nat.{ℕ, min, _+_, _-_, _≤_}
+use Prim.Native.Nat.{ℕ, min, _+_, _-_, _*_, _%_, _≤_}
 use native.Mathlib.Nat.{le-trans, min-le-left, min-le-right}
 use native.Mathlib.Omega.{arith}
 use lib.ListN.{length, take, length-take}
 use lib.Seq.{getD-take}
 use denote.Ref.{now}
 use borrow.Author.Needs.{needs}
-use Rattle.symbols.proofs.Capped.{capped}
-use Rattle.symbols.proofs.Weighing.{Weighing, weighing-none, weighing-two, weighing-last, weighing-all}
+use Rattle.symbols.proofs.Weighing.{Weighing, weighing-none, weighing-next, weighing-all}
 use Rattle.symbols.proofs.weight.weigh.Statement.{statement}
 use Rattle.symbols.proofs.weight.weigh.Tie as tie
 
 abbrev Inv-loop : tie.InvT-loop
-Inv-loop word m end odd₀ even₀ i₀ odd even i = Weighing (take end word) odd even i × (i ≤ end) × (end ≤ 97)
+Inv-loop word m end all₀ even₀ index₀ i₀ all even index i =
+    Weighing (take (min m 97) word) all even i × (index ≡ i) × (i ≤ end) × (end ≡ min (min m 97) (length word)) × (end ≤ 97) × (end ≤ length word)
 
 abbrev μ-loop : tie.MeasureT-loop
-μ-loop word m end odd₀ even₀ i₀ odd even i = end - i
+μ-loop word m end all₀ even₀ index₀ i₀ all even index i = end - i
 
-cap : (c : tie.Joined1 Inv-loop μ-loop) → c .if1 .end ≡ min (c .before .args .m) 97
-cap c = capped (⊎-elim (λ w. inl (w .0 .taken, w .1)) (λ w. inr (w .0 .left, w .1)) (c .if1 .came))
-
--- the word as far as it is weighed
-abbrev word : (c : tie.Joined1 Inv-loop μ-loop) → List ℕ
-word c = take (c .if1 .end) (now (c .before .args .word))
-
-short : (c : tie.Joined1 Inv-loop μ-loop) → length (word c) ≤ c .if1 .end
-short c = rw length-take (min-le-left (c .if1 .end) (length (now (c .before .args .word))))
+weighable-requires : tie.Need-weighable-requires Inv-loop μ-loop
+weighable-requires c κs = search needs
 
 loop-holds : tie.Need-loop-holds Inv-loop μ-loop
-loop-holds c = (weighing-none _, omega arith, rw (cap c) (min-le-right _ 97))
+loop-holds c =
+    let start = c .before .before in
+    let most = min (start .args .m) 97 in
+    let end = c .weighable .ensures in
+    (
+      weighing-none _,
+      omega arith,
+      omega arith,
+      end,
+      rw end (le-trans (min-le-left most _) (min-le-right (start .args .m) 97)),
+      rw end (min-le-right most _),
+    )
 
-add-loop : tie.Need-add-loop Inv-loop μ-loop
-add-loop c = search needs
-
-element-copy-out-wide16 : tie.Need-element-copy-out-wide16 Inv-loop μ-loop
-element-copy-out-wide16 c = search needs
+shared-slice-read-wide16 : tie.Need-shared-slice-read-wide16 Inv-loop μ-loop
+shared-slice-read-wide16 c = search needs
 
 wide16-requires : tie.Need-wide16-requires Inv-loop μ-loop
 wide16-requires c κs = search needs
 
-add-odd : tie.Need-add-odd Inv-loop μ-loop
-add-odd c = search needs
+add-all : tie.Need-add-all Inv-loop μ-loop
+add-all c = search needs
 
-add-wide16 : tie.Need-add-wide16 Inv-loop μ-loop
-add-wide16 c = search needs
-
-element-copy-out-wide16-2 : tie.Need-element-copy-out-wide16-2 Inv-loop μ-loop
-element-copy-out-wide16-2 c = search needs
-
-wide16-requires-2 : tie.Need-wide16-requires-2 Inv-loop μ-loop
-wide16-requires-2 c κs = search needs
+if-odd-requires : tie.Need-if-odd-requires Inv-loop μ-loop
+if-odd-requires c κs = search needs
 
 add-even : tie.Need-add-even Inv-loop μ-loop
 add-even c = search needs
+
+add-index : tie.Need-add-index Inv-loop μ-loop
+add-index c = search needs
 
 add-i : tie.Need-add-i Inv-loop μ-loop
 add-i c = search needs
@@ -67,39 +64,34 @@ loop-less c = search needs
 
 loop-again : tie.Need-loop-again Inv-loop μ-loop
 loop-again c =
-    let l = c .before .before .before .before .before in
-    let x = now (l .before .before .args .word) in
-    let a = getD-take (l .before .if1 .end) x (l .loop .i) 0 (omega arith) in
-    let b = getD-take (l .before .if1 .end) x (l .loop .i + 1) 0 (omega arith) in
-    let first = c .before .before .wide16 .ensures in
-    let second = c .wide162 .ensures in (
-      weighing-two (l .loop .inv .0) (a ∙ sym (first .0)) (first .1) (b ∙ sym (second .0)) (second .1),
-      omega arith,
-      l .loop .inv .2,
+    let turn = c .before .before .before .before in
+    let start = turn .before .before .before in
+    let most = min (start .args .m) 97 in
+    let inv = turn .loop .inv in
+    let within = c .before .before .before .loop-test .taken in
+    let end-below : turn .before .weighable .result ≤ most = rw (inv .3) (min-le-left most _) in
+    let below = le-trans within end-below in
+    let symbol = getD-take most (now (start .args .word)) (turn .loop .i) 0 below ∙ sym (c .before .wide16 .ensures .0) in
+    let odd = c .if-odd .ensures .0 ∙ ap (λ (j : ℕ). c .before .wide16 .result * (j % 2)) (inv .1) in
+    (
+      weighing-next (inv .0) symbol (c .before .wide16 .ensures .1) odd (c .if-odd .ensures .1),
+      omega (arith, inv .1),
+      omega (arith, within),
+      inv .3,
+      inv .4,
+      inv .5,
     )
 
-element-copy-out-wide16-3 : tie.Need-element-copy-out-wide16-3 Inv-loop μ-loop
-element-copy-out-wide16-3 c = search needs
+sub-odd : tie.Need-sub-odd Inv-loop μ-loop
+sub-odd c = search needs
 
-wide16-requires-3 : tie.Need-wide16-requires-3 Inv-loop μ-loop
-wide16-requires-3 c κs = search needs
-
-add-odd-2 : tie.Need-add-odd-2 Inv-loop μ-loop
-add-odd-2 c = search needs
-
--- a last symbol without another, or none
 returns : tie.Need-returns Inv-loop μ-loop
 returns c =
-    let l = c .before .before .before .before in
-    let x = now (l .before .before .args .word) in
-    let a = getD-take (l .before .if1 .end) x (l .loop .i) 0 (c .before .before .if2 .taken) in
-    let few = le-trans (short (l .before)) (c .before .before .before .loop-test .left) in
-    rw (← cap (l .before)) (weighing-last (l .loop .inv .0) (a ∙ sym (c .wide163 .ensures .0)) few)
-
-returns-2 : tie.Need-returns-2 Inv-loop μ-loop
-returns-2 c =
-    let l = c .before .before in
-    rw (← cap (l .before)) (weighing-all (l .loop .inv .0) (le-trans (short (l .before)) (c .if2 .left)))
+    let turn = c .before in
+    let start = turn .before .before .before in
+    let most = min (start .args .m) 97 in
+    let passed : length (take most (now (start .args .word))) ≤ turn .loop .i = rw length-take (rw (← turn .loop .inv .3) (c .loop-test .left)) in
+    weighing-all (turn .loop .inv .0) passed
 
 pub weigh-spec : {M : Type 1} → statement M
 weigh-spec =
@@ -107,20 +99,16 @@ weigh-spec =
     (tie.spec
     Inv-loop
     μ-loop
+    weighable-requires
     loop-holds
-    add-loop
-    element-copy-out-wide16
+    shared-slice-read-wide16
     wide16-requires
-    add-odd
-    add-wide16
-    element-copy-out-wide16-2
-    wide16-requires-2
+    add-all
+    if-odd-requires
     add-even
+    add-index
     add-i
     loop-less
     loop-again
-    element-copy-out-wide16-3
-    wide16-requires-3
-    add-odd-2
-    returns
-    returns-2)
+    sub-odd
+    returns)
