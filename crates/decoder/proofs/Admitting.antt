@@ -26,7 +26,7 @@ use Rattle.profiles.proofs.Refusing.{Admitted, admitted, refused-number, decode
 use Rattle.decoder.specs.declared.totals.Totals.{Totals}
 use Rattle.decoder.specs.declared.reader.Decoded.the-variants.{Refused}
 use Rattle.decoder.specs.Totals.{Word, sumsOf}
-use Rattle.decoder.specs.Written.{Outputs}
+use Rattle.decoder.specs.Outputs.{Outputs}
 use Rattle.decoder.specs.Decode.{Answers}
 use Rattle.decoder.proofs.Answering.{answers-refused}
 use Rattle.decoder.proofs.Totalling.{middle-is}

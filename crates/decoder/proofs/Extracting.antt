@@ -16,7 +16,7 @@ use Rattle.code.proofs.Reduced.{check-count}
 use Rattle.profiles.specs.declared.row.Row.{Row}
 use Rattle.profiles.specs.Row.{parameters, Valid}
 use Rattle.symbols.proofs.Powers.{Spans}
-use Rattle.decoder.specs.Written.{run}
+use Rattle.decoder.specs.Outputs.{copiedRun}
 
 -- What is kept of one symbol more.
 
@@ -118,7 +118,7 @@ module _ {t : Row} (v : Valid t) {q : ℕ} (same : q ≡ t .q) {c out₀ out : L
 
   module _ (x : List ℕ) (side : ℕ) (symbol : (j : ℕ) → j < t .n → getD x (2 * j + side) 0 ≡ getD c j 0) where
     pub extracting-run : (k : ℕ) → i + k ≤ t .n → ((j : ℕ) → i ≤ j → j < i + k → (p : Parameters) → Spans p q (j + 1) → isCheck p (j + 1) ≡ false)
-        → Extracting q (t .n) c out₀ (run x side i k next out) (next + k) (i + k)
+        → Extracting q (t .n) c out₀ (copiedRun x side i k next out) (next + k) (i + k)
     extracting-run zero l h =
         let f : next ≡ next + 0 = omega arith in
         let g : i ≡ i + 0 = omega arith in

@@ -16,7 +16,7 @@ use Rattle.profiles.specs.Row.{parameters, Valid}
 use Rattle.symbols.specs.Syndromes.{part}
 use Rattle.symbols.proofs.Parts.{part-first, part-second, part-length}
 use Rattle.symbols.proofs.Powers.{Spans, Ahead, ahead-first, ahead-power, check-two, check-power, check-neither}
-use Rattle.decoder.specs.Written.{run, Outputs, Messages}
+use Rattle.decoder.specs.Outputs.{copiedRun, Outputs, Messages}
 use Rattle.decoder.proofs.Extracting.{Extracting, extracting-none, extracting-skip, extracting-run, run-room, extracting-all}
 
 -- the power stays ahead of later positions up to it
@@ -87,10 +87,10 @@ module _ {t : Row} (v : Valid t) {q : ℕ} (same : q ≡ t .q) (x : List ℕ) (s
           let y : j + 1 ≤ power = omega arith in
           check-neither (omega (arith, levels)) (ahead-later (p .ahead) (j + 1) z y) (λ e. omega (arith, p .from)) (λ e. omega arith)
 
-      run-first : Extracting q (t .n) (part true (t .n) x) first₀ (run x 1 i k next first) (next + k) (i + k)
+      run-first : Extracting q (t .n) (part true (t .n) x) first₀ (copiedRun x 1 i k next first) (next + k) (i + k)
       run-first = extracting-run v same (p .one) (o .first-long) (part-long true) x 1 first-symbol k l held
 
-      run-second : Extracting q (t .n) (part false (t .n) x) second₀ (run x 2 i k next second) (next + k) (i + k)
+      run-second : Extracting q (t .n) (part false (t .n) x) second₀ (copiedRun x 2 i k next second) (next + k) (i + k)
       run-second = extracting-run v same (p .two) (o .second-long) (part-long false) x 2 second-symbol k l held
 
       room-first : next + k ≤ length first
@@ -120,7 +120,7 @@ module _ {t : Row} (v : Valid t) {q : ℕ} (same : q ≡ t .q) (x : List ℕ) (s
       pub power-small : power * q ≤ 720
       power-small = let b : power ≤ 48 = omega (arith, v .length) in mul-le-mul b few
 
-      pub passed-run : {first′ second′ : List ℕ} → first′ ≡ run x 1 i (power - 1 - i) next first → second′ ≡ run x 2 i (power - 1 - i) next second
+      pub passed-run : {first′ second′ : List ℕ} → first′ ≡ copiedRun x 1 i (power - 1 - i) next first → second′ ≡ copiedRun x 2 i (power - 1 - i) next second
           → Passed q (t .n) x first₀ second₀ first′ second′ (power * q) power (next + (power - 1 - i))
       passed-run e f =
           let k : ℕ = power - 1 - i in
@@ -146,7 +146,7 @@ module _ {t : Row} (v : Valid t) {q : ℕ} (same : q ≡ t .q) (x : List ℕ) (s
         let u : i + k < power = omega arith in
         (m, v .length, room-first k l u, room-second k l u)
 
-    pub passed-all : t .n < power → i ≤ t .n → {first′ second′ : List ℕ} → first′ ≡ run x 1 i (t .n - i) next first → second′ ≡ run x 2 i (t .n - i) next second
+    pub passed-all : t .n < power → i ≤ t .n → {first′ second′ : List ℕ} → first′ ≡ copiedRun x 1 i (t .n - i) next first → second′ ≡ copiedRun x 2 i (t .n - i) next second
         → Messages t x first′ second′
     passed-all h m e f =
         let k : ℕ = t .n - i in

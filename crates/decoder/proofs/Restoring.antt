@@ -30,7 +30,7 @@ use Rattle.symbols.proofs.Parts.{part-first, part-second}
 use Rattle.decoder.specs.Rows.{rowsOf}
 use Rattle.decoder.specs.Sides.{isFirst}
 use Rattle.decoder.specs.Received.{Body}
-use Rattle.decoder.specs.Written.{Restored, Messages, Written}
+use Rattle.decoder.specs.Outputs.{Restored, Messages, RestoredMessages}
 use Rattle.decoder.proofs.Moving.{rows-are}
 
 module _ (t : Row) (v : Valid t) (c s : List ℕ) (n : length c ≤ t .n) (e : (j : ℕ) → j < 4 → getD s j 0 ≡ syndrome (fourRows (t .q) (t .n)) c j) where
@@ -131,7 +131,7 @@ module _ {t : Row} {x : List ℕ} (b : Body t x) (S : List ℕ) where
 
 -- the messages of both components restored, one after the other
 pub written-by : {t : Row} {S S′ x y z first second : List ℕ} → Restored t S true x y → Restored t S′ false y z → Messages t z first second
-    → Written (parameters t) (part true (t .n) x) (part false (t .n) x) S S′ first second
+    → RestoredMessages (parameters t) (part true (t .n) x) (part false (t .n) x) S S′ first second
 written-by {t} {S} {S′} a b m =
     record {
       first-is = m .first-is ∙ ap (message (parameters t)) (b .other ∙ a .this);

@@ -26,7 +26,7 @@ use Rattle.symbols.proofs.Rows.{sums-are}
 use Rattle.syndromes.specs.declared.checks.Checks.{Checks}
 use Rattle.decoder.specs.declared.totals.Totals.{Totals}
 use Rattle.decoder.specs.Rows.{FourRows, rowsOf}
-use Rattle.decoder.specs.Totals.{Apart, checkOf, sumsOf, Totalled}
+use Rattle.decoder.specs.Totals.{BodyAndComponents, checkOf, sumsOf, Totalled}
 use Rattle.decoder.proofs.Levels.{symbols-take, weight-small}
 use Rattle.decoder.proofs.FourRows.{four-rows}
 use Rattle.decoder.proofs.Restoring.{four-are}
@@ -43,7 +43,7 @@ middle-small {t} v =
     let l : t .balanced * (t .q - 1) ≤ 1358 = mul-le-mul m q in
     omega (arith, v .middle)
 
-module _ {t : Row} {word w x : List ℕ} (a : Apart t word w x) where
+module _ {t : Row} {word w x : List ℕ} (a : BodyAndComponents t word w x) where
   q₁ : 1 ≤ t .q
   q₁ = q-positive (parameters t) (a .is .valid .sized)
 

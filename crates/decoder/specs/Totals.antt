@@ -25,7 +25,7 @@ pub record Word (t : Row) (word : List ℕ) : Type 0 where
   pub below : T (symbolsBelow (t .q) word)
 
 -- w begins with the word's body, and x holds its components
-pub record Apart (t : Row) (word w x : List ℕ) : Type 0 where
+pub record BodyAndComponents (t : Row) (word w x : List ℕ) : Type 0 where
   pub is : Word t word
   pub copy : take (t .balanced) w ≡ take (t .balanced) word
   pub parts : (b : Bool) → part b (t .n) x ≡ received (parameters t) b word

@@ -16,7 +16,7 @@ ghost use Rattle.symbols.specs.Syndromes.{rows, part};
 ghost use Rattle.decoder.specs.Rows.{FourRows, rowsOf};
 ghost use Rattle.decoder.specs.Sides.{isFirst};
 ghost use Rattle.decoder.specs.Received.{Body};
-ghost use Rattle.decoder.specs.Written.{Restored, Outputs, Messages, Written, run};
+ghost use Rattle.decoder.specs.Outputs.{Restored, Outputs, Messages, RestoredMessages, copiedRun};
 
 // One component restored by its syndrome: as it is, or with 1 taken from the symbol that the syndrome names.
 fn restore(row: Row, s: Syndrome, side: usize, x: &mut [u8; 97])
@@ -33,8 +33,8 @@ fn restore(row: Row, s: Syndrome, side: usize, x: &mut [u8; 97])
 // The symbols of both components at the indices i to end - 1, into the outputs from `next` on.
 fn copy_run(x: &[u8; 97], i: usize, end: usize, next: usize, first: &mut [u8], second: &mut [u8])
     requires { ⌜ (i ≤ end) × (end ≤ 48) × (next + (end - i) ≤ length (now first)) × (next + (end - i) ≤ length (now second)) ⌝ }
-    ensures { λ _. ⌜ now (first .exit) ≡ run (now (x .entry)) 1 i (end - i) next (now (first .entry)) ⌝ }
-    ensures { λ _. ⌜ now (second .exit) ≡ run (now (x .entry)) 2 i (end - i) next (now (second .entry)) ⌝ }
+    ensures { λ _. ⌜ now (first .exit) ≡ copiedRun (now (x .entry)) 1 i (end - i) next (now (first .entry)) ⌝ }
+    ensures { λ _. ⌜ now (second .exit) ≡ copiedRun (now (x .entry)) 2 i (end - i) next (now (second .entry)) ⌝ }
 {
     let count = end - i;
     let mut k = 0;
@@ -74,7 +74,7 @@ pub(crate) fn write_pair(
     second: &mut [u8],
 )
     requires { ⌜ Body row (now x) × FourRows row (rows s) × FourRows row (rows t) × T (nearSyndromes (parameters row) (rowsOf row (rows s)) (rowsOf row (rows t))) × Outputs row (now first) (now second) ⌝ }
-    ensures { λ _. ⌜ Written (parameters row) (part true (row .n) (now (x .entry))) (part false (row .n) (now (x .entry))) (rowsOf row (rows s)) (rowsOf row (rows t)) (now (first .exit)) (now (second .exit)) ⌝ }
+    ensures { λ _. ⌜ RestoredMessages (parameters row) (part true (row .n) (now (x .entry))) (part false (row .n) (now (x .entry))) (rowsOf row (rows s)) (rowsOf row (rows t)) (now (first .exit)) (now (second .exit)) ⌝ }
 {
     restore(row, s, 0, x);
     restore(row, t, 1, x);

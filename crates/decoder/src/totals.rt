@@ -14,7 +14,7 @@ ghost use Rattle.profiles.specs.Row.{parameters};
 ghost use Rattle.symbols.specs.Columns.{Columns};
 ghost use Rattle.decoding.specs.Decoded.{sums};
 ghost use lib.ListN.{length};
-ghost use Rattle.decoder.specs.Totals.{Word, Apart, sumsOf, Totalled, Summed};
+ghost use Rattle.decoder.specs.Totals.{Word, BodyAndComponents, sumsOf, Totalled, Summed};
 
 pub(crate) struct Totals {
     // The weight of the body.
@@ -31,16 +31,16 @@ pub(crate) struct Totals {
 
 // The sums over a word, from its body w and the differences x of that.
 fn total(row: Row, columns: &[[u8; 3]; 48], word: &[u8], w: &[u8; 97], x: &[u8; 97]) -> Totals
-    requires { ⌜ Apart row (now word) (now w) (now x) × Columns (row .q) (row .n) (now columns) ⌝ }
+    requires { ⌜ BodyAndComponents row (now word) (now w) (now x) × Columns (row .q) (row .n) (now columns) ⌝ }
     ensures { λ s. ⌜ Totalled row s × (sumsOf row s ≡ sums (parameters row) (now (word .entry))) ⌝ }
 {
     let q = row.q;
     let m = row.balanced;
-    let halves = weigh(w, m);
-    let weight = halves.odd + halves.even;
+    let sums = weigh(w, m);
+    let weight = sums.odd + sums.even;
     let asked = Checks {
-        alpha: remainder(q, halves.odd + wide(row.delta)),
-        beta: remainder(q, halves.even),
+        alpha: remainder(q, sums.odd + wide(row.delta)),
+        beta: remainder(q, sums.even),
     };
     let arrived = Checks {
         alpha: word[m],

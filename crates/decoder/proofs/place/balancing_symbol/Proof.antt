@@ -12,15 +12,21 @@ wide-requires : tie.Need-wide-requires
 wide-requires c κs = search needs
 
 add-difference : tie.Need-add-difference
-add-difference c = omega (arith, c .before .wide .ensures .1, middle-small (c .before .before .pre .0))
+add-difference c =
+    let widened = c .before in
+    omega (arith, widened .wide .ensures .1, middle-small (widened .before .pre .valid))
 
 difference-requires : tie.Need-difference-requires
 difference-requires c κs =
-    let s = c .before .before in
-    omega (arith, q-positive _ (s .pre .0 .sized), c .before .wide .ensures .1, middle-small (s .pre .0), s .pre .1 .light)
+    let widened = c .before in
+    let given = widened .before .pre in
+    omega (arith, q-positive _ (given .valid .sized), widened .wide .ensures .1, middle-small (given .valid), given .totalled .light)
 
 returns : tie.Need-returns
-returns c = let s = c .before .before .before in sent-by (s .pre .0) (s .args .s) (c .before .before .wide .ensures .0) (c .difference .ensures)
+returns c =
+    let widened = c .before .before in
+    let start = widened .before in
+    sent-by (start .pre .valid) (start .args .search .s) (widened .wide .ensures .0) (c .difference .ensures)
 
 pub balancing-symbol-spec : {M : Type 1} → statement M
 balancing-symbol-spec =
