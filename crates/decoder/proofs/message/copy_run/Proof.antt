@@ -76,26 +76,6 @@ returns c = running-all (c .before .loop .inv) (c .loop-test .left)
 pub copy-run-spec : {M : Type 1} → statement M
 copy-run-spec =
     tie.close
-    (tie.spec
-    Inv-loop
-    μ-loop
-    sub-count
-    loop-holds
-    add-first
-    mul-first
-    add-first-2
-    element-copy-out-first
-    add-first-3
-    slice-write-first
-    add-second
-    mul-second
-    add-second-2
-    element-copy-out-second
-    add-second-3
-    slice-write-second
-    add-k
-    loop-less
-    loop-again
-    same-length
-    same-length-2
-    returns)
+    (tie.spec Inv-loop μ-loop sub-count loop-holds add-first mul-first add-first-2 element-copy-out-first add-first-3
+    slice-write-first add-second mul-second add-second-2 element-copy-out-second add-second-3 slice-write-second add-k
+    loop-less loop-again same-length same-length-2 returns)

@@ -2,7 +2,8 @@
 -- Assumes nothing.
 use mathlib.Core.Path.{_≡_, sym, _∙_}
 use mathlib.Core.Bool.{false}
-use Prim.Native.Nat.{_+_, _-_, _*_, _≤_, _<_}
+use mathlib.Core.List.{List}
+use Prim.Native.Nat.{ℕ, _+_, _-_, _*_, _≤_, _<_}
 use native.Mathlib.Omega.{arith}
 use Rattle.decoding.specs.Syndromes.{zeroSyndrome, columnPosition}
 use Rattle.profiles.specs.Row.{parameters}
@@ -15,64 +16,79 @@ use borrow.Author.Needs.{needs}
 use Rattle.decoder.proofs.message.restore.Statement.{statement}
 use Rattle.decoder.proofs.message.restore.Tie as tie
 
+-- the test of four rows is that of the r rows
+module _ (c : tie.After-is-zero) where
+  abbrev start : tie.Start
+  start = c .before
+
+  -- the syndrome
+  abbrev S : List ℕ
+  S = rowsOf (start .args .row) (rows (start .args .s))
+
+  tested : zeroSyndrome (parameters (start .args .row)) S ≡ c .is-zero .result
+  tested = sym (zero-same _ (start .pre .0 .valid) _ (start .pre .1)) ∙ sym (c .is-zero .ensures)
+
+-- what is known of the position that the syndrome names
+module _ (c : tie.After-position) where
+  abbrev not-zero : tie.After-is-zero
+  not-zero = c .before .before
+
+  abbrev asked : tie.Start
+  asked = start not-zero
+
+  is-false : zeroSyndrome (parameters (asked .args .row)) (S not-zero) ≡ false
+  is-false = tested not-zero ∙ c .before .if1 .left
+
+  place : c .position .result ≡ columnPosition (parameters (asked .args .row)) (S not-zero)
+  place = c .position .ensures ∙ position-same _ (asked .pre .0 .valid) _ (asked .pre .1)
+
+  some : 1 ≤ c .position .result
+  some = lowered-some (asked .pre .0) _ is-false (asked .pre .2) place (asked .pre .3)
+
+  within : 2 * c .position .result - 1 + asked .args .side < asked .args .row .balanced
+  within = lowered-within (asked .pre .0) _ is-false (asked .pre .2) place (asked .pre .3)
+
+  -- and fits the array
+  small : 2 * c .position .result - 1 + asked .args .side < 97
+  small = omega (arith, within, short (asked .pre .0))
+
 is-zero-requires : tie.Need-is-zero-requires
 is-zero-requires c κs = search needs
 
 returns : tie.Need-returns
-returns c = restored-same (c .before .before .pre .0) _ (c .before .before .args .side) (sym (zero-same _ (c .before .before .pre .0 .valid) _ (c .before .before .pre .1)) ∙ sym (c .before .is-zero .ensures) ∙ c .if1 .taken)
+returns c = restored-same (start (c .before) .pre .0) _ (start (c .before) .args .side) (tested (c .before) ∙ c .if1 .taken)
 
 position-requires : tie.Need-position-requires
 position-requires c κs = search needs
 
--- what is known of the position that the syndrome names
-named : (c : tie.After-position) → zeroSyndrome (parameters (c .before .before .before .args .row)) (rowsOf (c .before .before .before .args .row) (rows (c .before .before .before .args .s))) ≡ false
-named c = sym (zero-same _ (c .before .before .before .pre .0 .valid) _ (c .before .before .before .pre .1)) ∙ sym (c .before .before .is-zero .ensures) ∙ c .before .if1 .left
-
-place : (c : tie.After-position) → c .position .result ≡ columnPosition (parameters (c .before .before .before .args .row)) (rowsOf (c .before .before .before .args .row) (rows (c .before .before .before .args .s)))
-place c = c .position .ensures ∙ position-same _ (c .before .before .before .pre .0 .valid) _ (c .before .before .before .pre .1)
-
-some : (c : tie.After-position) → 1 ≤ c .position .result
-some c = let s = c .before .before .before in lowered-some (s .pre .0) _ (named c) (s .pre .2) (place c) (s .pre .3)
-
-within : (c : tie.After-position) → 2 * c .position .result - 1 + c .before .before .before .args .side < c .before .before .before .args .row .balanced
-within c = let s = c .before .before .before in lowered-within (s .pre .0) _ (named c) (s .pre .2) (place c) (s .pre .3)
-
 mul-i : tie.Need-mul-i
-mul-i c = omega (arith, within c, short (c .before .before .before .pre .0))
+mul-i c = omega (arith, small c)
 
 sub-i : tie.Need-sub-i
 sub-i c = omega (arith, some c)
 
 add-i : tie.Need-add-i
-add-i c = omega (arith, within c, short (c .before .before .before .pre .0))
+add-i c = omega (arith, small c)
 
 element-copy-out-sub : tie.Need-element-copy-out-sub
-element-copy-out-sub c = omega (arith, within c, short (c .before .before .before .pre .0))
+element-copy-out-sub c = omega (arith, small c)
 
 sub-requires : tie.Need-sub-requires
 sub-requires c κs =
-    let b = c .before .before .before .before .pre .0 in
-    (b .below _ (within (c .before)), omega (arith, b .valid .sized .levels), b .valid .levels)
+    let body = asked (c .before) .pre .0 in
+    (body .below _ (within (c .before)), omega (arith, body .valid .sized .levels), body .valid .levels)
 
 element-write-x : tie.Need-element-write-x
-element-write-x c = omega (arith, within (c .before .before), short (c .before .before .before .before .before .pre .0))
+element-write-x c = omega (arith, small (c .before .before))
 
 returns-2 : tie.Need-returns-2
 returns-2 c =
-    let s = c .before .before .before .before .before in
-    restored-lowered (s .pre .0) _ (named (c .before .before)) (s .pre .2) (place (c .before .before)) (s .pre .3) (c .sub .ensures)
+    let at = c .before .before in
+    let given = asked at .pre in
+    restored-lowered (given .0) _ (is-false at) (given .2) (place at) (given .3) (c .sub .ensures)
 
 pub restore-spec : {M : Type 1} → statement M
 restore-spec =
     tie.close
-    (tie.spec
-    is-zero-requires
-    returns
-    position-requires
-    mul-i
-    sub-i
-    add-i
-    element-copy-out-sub
-    sub-requires
-    element-write-x
-    returns-2)
+    (tie.spec is-zero-requires returns position-requires mul-i sub-i add-i element-copy-out-sub sub-requires
+    element-write-x returns-2)
