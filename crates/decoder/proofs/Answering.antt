@@ -6,15 +6,15 @@ use mathlib.Core.List.{List}
 use Prim.Native.Nat.{ℕ, _+_, _≤_, _<_}
 use native.Mathlib.Omega.{arith}
 use lib.Dec.{T}
-use lib.ListN.{getD, set}
+use lib.ListN.{getD}
 use borrow.Author.Tests.{lt-ltb, le-ltb}
 use Rattle.modular.proofs.Search.{least-hit, holds}
 use Rattle.code.specs.Parameters.{Parameters, balancedLength}
 use Rattle.code.specs.Codeword.{received}
-use Rattle.code.specs.Reading.{Finding, correctionAt, corrected, Reading, unreadable}
+use Rattle.code.specs.Reading.{Finding, Reading, unreadable}
 use Rattle.code.specs.Operations.{Answer, refused, answered, success}
 use Rattle.decoding.specs.Syndromes.{nearSyndromes, index, movedOf}
-use Rattle.decoding.specs.Decoded.{Sums, checkIndex, gain, balancingSymbol, inRange, offByLack, nearAfter, fits, places, firstFit}
+use Rattle.decoding.specs.Decoded.{Sums, checkIndex, gain, inRange, offByLack, nearAfter, fits, places, firstFit}
 use Rattle.decoding.specs.Decoded.{readBy, readFit, decodedBody, decodedCheck, agrees, decodedBalanced, decodedUnbalanced}
 use Rattle.decoding.proofs.Tests.{three-parts}
 use Rattle.syndromes.specs.declared.checks.Verdict as verdicts
@@ -116,17 +116,12 @@ module _ (p : Parameters) (s : Sums) where
       body-none e = let l : places p b ≤ firstFit p s b v = omega arith in rw (le-ltb (firstFit p s b v) (places p b) l, decodedBody)
 
       module _ {k : ℕ} (e : firstFit p s b v ≡ k) (l : k < places p b) where
-        -- the symbol received at k, and the one sent
+        -- the symbol received there
         abbrev arrived : ℕ
         arrived = getD v (index b k) 0
 
-        abbrev sent : ℕ
-        sent = balancingSymbol p s arrived
-
-        pub body-found : decodedBody p s b v
-            ≡ readBy p (corrected (correctionAt (index b k) arrived sent)) (set v (index b k) sent)
-            (movedOf p true b k (gain p s) (s .first)) (movedOf p false b k (gain p s) (s .second))
-        unfolding decodedBody readFit
+        pub body-found : decodedBody p s b v ≡ readFit p s b k v
+        unfolding decodedBody
         body-found = let m : firstFit p s b v < places p b = omega arith in rw (lt-ltb (firstFit p s b v) (places p b) m, decodedBody, e)
 
         hit : T (fits p s b k arrived)

@@ -15,7 +15,7 @@ use Rattle.code.proofs.Weights.{length-difference}
 use Rattle.code.proofs.Columns.{q-positive}
 use Rattle.profiles.specs.declared.row.Row.{Row}
 use Rattle.profiles.specs.Row.{parameters}
-use Rattle.decoder.specs.Received.{Body}
+use Rattle.decoder.specs.Received.{Body, Differenced}
 
 -- the first k symbols of the list d stand in the array
 pub record Copied (d array : List ℕ) (m k : ℕ) : Type 0 where
@@ -26,7 +26,8 @@ pub record Copied (d array : List ℕ) (m k : ℕ) : Type 0 where
 pub copied-none : (d array : List ℕ) (m : ℕ) → length array ≡ 97 → Copied d array m 0
 copied-none d array m e = record { within = zero-le; size = e; at = λ j h. absurd (not-suc-le-zero h) }
 
-pub copied-more : {d array : List ℕ} {m k : ℕ} → Copied d array m k → k < m → m ≤ 97 → {y : ℕ} → y ≡ getD d k 0 → Copied d (set array k y) m (k + 1)
+pub copied-more : {d array : List ℕ} {m k : ℕ} → Copied d array m k → k < m → m ≤ 97 → {y : ℕ} → y ≡ getD d k 0
+    → Copied d (set array k y) m (k + 1)
 copied-more {d} {array} {m} {k} c l h {y} e =
     record { within = omega arith; size = length-set array k y ∙ c .size; at = λ j i. at j i (ℕ-discrete j k) }
   where
@@ -45,7 +46,8 @@ copied-all {d} {array} {m} {k} c h n b =
 
 -- Differences.
 
-difference-at : (q a : ℕ) (w : List ℕ) (j : ℕ) → suc j < length w → getD (difference q a w) (suc j) 0 ≡ minus q (getD w (suc j) 0) (getD w j 0)
+difference-at : (q a : ℕ) (w : List ℕ) (j : ℕ) → suc j < length w
+    → getD (difference q a w) (suc j) 0 ≡ minus q (getD w (suc j) 0) (getD w j 0)
 difference-at q a [] j h = absurd (not-suc-le-zero h)
 difference-at q a (x ∷ []) j h = absurd (not-suc-le-zero (le-of-suc-le-suc h))
 difference-at q a (x ∷ y ∷ w) zero h = refl
@@ -93,20 +95,19 @@ module _ {t : Row} {w : List ℕ} (b : Body t w) where
   differenced-more {i = suc j} c n l e =
       let f : suc j - 1 ≡ j = omega arith in
       let k : j < t .balanced = omega arith in
+      let this = sym (getD-take (t .balanced) w (suc j) 0 l) in
+      let last = ap (λ (a : ℕ). getD w a 0) f ∙ sym (getD-take (t .balanced) w j 0 k) in
       copied-more c l short
       (e
-      ∙ ap₂ (minus (t .q)) (sym (getD-take (t .balanced) w (suc j) 0 l)) (ap (λ (a : ℕ). getD w a 0) f ∙ sym (getD-take (t .balanced) w j 0 k))
+      ∙ ap₂ (minus (t .q)) this last
       ∙ sym (difference-at (t .q) 0 (take (t .balanced) w) j (omega (arith, whole))))
 
-  pub differenced-all : {x : List ℕ} {i : ℕ} → Copied differencesOf x (t .balanced) i → t .balanced ≤ i
-      → Body t x × (take (t .balanced) x ≡ differencesOf)
+  pub differenced-all : {x : List ℕ} {i : ℕ} → Copied differencesOf x (t .balanced) i → t .balanced ≤ i → Differenced t w x
   differenced-all {x} {i} c h =
       let n : length differencesOf ≡ t .balanced = length-difference (t .q) 0 (take (t .balanced) w) ∙ whole in
-      let m : t .balanced ≤ length differencesOf = omega arith in (
-        record {
-          valid = b .valid;
-          size = c .size;
-          below = λ j l. rw (c .at j (omega arith)) (difference-below (t .q) 0 q₁ (take (t .balanced) w) j);
-        },
-        copied-all c h m short ∙ take-all (t .balanced) differencesOf (omega arith),
-      )
+      let m : t .balanced ≤ length differencesOf = omega arith in
+      let below = difference-below (t .q) 0 q₁ (take (t .balanced) w) in
+      record {
+        levels = record { valid = b .valid; size = c .size; below = λ j l. rw (c .at j (omega arith)) (below j) };
+        are = copied-all c h m short ∙ take-all (t .balanced) differencesOf (omega arith);
+      }

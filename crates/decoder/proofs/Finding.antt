@@ -1,7 +1,7 @@
 -- What is known of the position that the search found, and of the body corrected there.
 -- Assumes nothing.
 use mathlib.Core.Path.{_≡_, sym, ap, _∙_}
-use mathlib.Core.Bool.{Bool, true, false}
+use mathlib.Core.Bool.{Bool}
 use mathlib.Core.List.{List}
 use Prim.Native.Nat.{ℕ, _+_, _*_, _≤_, _<_}
 use native.Mathlib.Omega.{arith}
@@ -16,7 +16,7 @@ use Rattle.code.specs.Reading.{correctionAt, corrected}
 use Rattle.code.proofs.Columns.{q-positive}
 use Rattle.code.proofs.Symbols.{symbol-below, symbols-set}
 use Rattle.decoding.specs.Syndromes.{nearSyndromes, index}
-use Rattle.decoding.specs.Decoded.{inRange, readBy, decodedBody}
+use Rattle.decoding.specs.Decoded.{inRange, readBy, readFit, decodedBody}
 use Rattle.decoding.proofs.Changed.{index-within}
 use Rattle.profiles.specs.declared.row.Row.{Row}
 use Rattle.profiles.specs.Row.{parameters, Valid}
@@ -91,17 +91,14 @@ module _ {x : Search} {word : List ℕ} {k : ℕ} (found : Located x word k) whe
   fit-level y-is = rw y-is (sent-is p (sumsIn x) (getD word i 0) fit-range .1)
 
   module _ {z : Syndromes} (moved : After x k z) where
-    abbrev S : List ℕ
-    S = rowsOf (x .row) (rows (z .first))
-
-    abbrev S′ : List ℕ
-    S′ = rowsOf (x .row) (rows (z .second))
-
-    pub fit-near : T (nearSyndromes p S S′)
+    pub fit-near : T (nearSyndromes p (rowsOf (x .row) (rows (z .first))) (rowsOf (x .row) (rows (z .second))))
     fit-near = rw (moved .first-is, moved .second-is) (found-near p (sumsIn x) word (parityOf x) (found .fit .0) (found .fit .1))
 
     pub fit-read : {y : ℕ} → y ≡ symbolSent p (sumsIn x) (getD word i 0)
-        → decodedBody p (sumsIn x) (parityOf x) word ≡ readBy p (corrected (correctionAt i (getD word i 0) y)) (set word i y) S S′
+        → decodedBody p (sumsIn x) (parityOf x) word
+        ≡ readBy p (corrected (correctionAt i (getD word i 0) y)) (set word i y) (rowsOf (x .row) (rows (z .first)))
+        (rowsOf (x .row) (rows (z .second)))
+    unfolding readFit
     fit-read {y} y-is =
         let sent = y-is ∙ sent-is p (sumsIn x) (getD word i 0) fit-range .0 in
         rw (moved .first-is, moved .second-is, sent, ← index-here)

@@ -44,15 +44,15 @@ not-first zero z = absurd (z refl)
 not-first (suc parity) z = refl
 
 -- the multiples of the lack and of its negative move the syndromes, by the parity
-module _ (x : Search) {more less : List ℕ} (m : Multiples (x .row .q) more × (getD more 1 0 ≡ x .s .lack))
-    (l : Multiples (x .row .q) less × (getD less 1 0 ≡ minus (x .row .q) 0 (x .s .lack))) where
+module _ (x : Search) {more less : List ℕ} {f : ℕ} (m : Multiples (x .row .q) more × (getD more 1 0 ≡ x .s .lack))
+    (l : Multiples (x .row .q) less × (getD less 1 0 ≡ f)) (e : f ≡ minus (x .row .q) 0 (x .s .lack)) where
   pub moves-odd : x .parity ≡ 0 → Moves x less more
-  moves-odd z = record { first-table = l .0; second-table = m .0; first-by = rw z (l .1); second-by = rw z (m .1) }
+  moves-odd z = record { first-table = l .0; second-table = m .0; first-by = rw z (l .1 ∙ e); second-by = rw z (m .1) }
 
   pub moves-even : (x .parity ≡ 0 → ⊥) → Moves x more less
   moves-even z =
       let even : parityOf x ≡ false = not-first (x .parity) z in
-      record { first-table = m .0; second-table = l .0; first-by = rw even (m .1); second-by = rw even (l .1) }
+      record { first-table = m .0; second-table = l .0; first-by = rw even (m .1); second-by = rw even (l .1 ∙ e) }
 
 -- the check symbol of the parity
 module _ (x : Search) (w : Totalled (x .row) (x .s)) {y : ℕ} where

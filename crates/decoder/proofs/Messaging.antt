@@ -54,15 +54,12 @@ module _ {t : Row} {q : ℕ} {x first₀ second₀ : List ℕ} (given : Given t 
   few : q ≤ 15
   few = rw (given .same) (v .levels)
 
-  -- the symbols of both components in turn
-  abbrev symbols : List ℕ
-  symbols = drop 1 (take (2 * t .n + 1) x)
-
   part-long : (b : Bool) → t .n ≤ length (part b (t .n) x)
   part-long b =
       let e : length (take (2 * t .n + 1) x) ≡ 2 * t .n + 1 = length-take-le (2 * t .n + 1) x (omega (arith, v .length, given .size)) in
-      let f : length symbols ≡ double (t .n) = length-drop 1 (take (2 * t .n + 1) x) ∙ omega (arith, double-is (t .n)) in
-      let g = length-alternate (t .n) b symbols f in
+      let f : length (drop 1 (take (2 * t .n + 1) x)) ≡ double (t .n) =
+      length-drop 1 (take (2 * t .n + 1) x) ∙ omega (arith, double-is (t .n)) in
+      let g = length-alternate (t .n) b (drop 1 (take (2 * t .n + 1) x)) f in
       omega arith
 
   -- positions 1 and 2 are check positions

@@ -26,7 +26,8 @@ running-none x i next count first second =
     record { within = zero-le; first-is = refl; second-is = refl; first-long = refl; second-long = refl }
 
 pub running-more : {x : List ℕ} {i next count : ℕ} {first₀ second₀ first second : List ℕ} {k : ℕ}
-    → Running x i next count first₀ second₀ first second k → k < count → {y z : ℕ} → y ≡ getD x (2 * (i + k) + 1) 0 → z ≡ getD x (2 * (i + k) + 2) 0
+    → Running x i next count first₀ second₀ first second k → k < count
+    → {y z : ℕ} → y ≡ getD x (2 * (i + k) + 1) 0 → z ≡ getD x (2 * (i + k) + 2) 0
     → Running x i next count first₀ second₀ (set first (next + k) y) (set second (next + k) z) (k + 1)
 running-more {x} {i} {next} {count} {first₀} {second₀} {first} {second} {k} r l {y} {z} e f =
     record {
@@ -38,5 +39,6 @@ running-more {x} {i} {next} {count} {first₀} {second₀} {first} {second} {k} 
     }
 
 pub running-all : {x : List ℕ} {i next count : ℕ} {first₀ second₀ first second : List ℕ} {k : ℕ}
-    → Running x i next count first₀ second₀ first second k → count ≤ k → (first ≡ copiedRun x 1 i count next first₀) × (second ≡ copiedRun x 2 i count next second₀)
+    → Running x i next count first₀ second₀ first second k → count ≤ k
+    → (first ≡ copiedRun x 1 i count next first₀) × (second ≡ copiedRun x 2 i count next second₀)
 running-all {count = count} {k = k} r h = let e : k ≡ count = omega (arith, r .within) in (rw (← e) (r .first-is), rw (← e) (r .second-is))

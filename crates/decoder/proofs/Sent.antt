@@ -40,7 +40,8 @@ module _ (p : Parameters) (s : Sums) (x : ℕ) where
   sent-is h =
       let e : inRange p s x ≡ true = passes h in
       let f : symbolSent p s x ≡ balancingSymbol p s x = rw (e, symbolSent) in
-      let l : balancingSymbol p s x < p .q = ltb→lt _ _ (and-right (leb (s .weighs) (x + target p)) (ltb (balancingSymbol p s x) (p .q)) h) in
+      let below = and-right (leb (s .weighs) (x + target p)) (ltb (balancingSymbol p s x) (p .q)) h in
+      let l : balancingSymbol p s x < p .q = ltb→lt _ _ below in
       (f, rw f l)
 
   -- q is no level, so it says that there is none
@@ -60,6 +61,7 @@ module _ (p : Parameters) (s : Sums) (x : ℕ) where
       go false f = absurd (n (rw (f, symbolSent)))
 
 -- the symbol as the code computes it
-pub sent-by : {t : Row} → Valid t → (s : Totals) {x y r : ℕ} → y ≡ x → r ≡ level (t .q) (y + t .middle) (s .weight) → r ≡ symbolSent (parameters t) (sumsOf t s) x
+pub sent-by : {t : Row} → Valid t → (s : Totals) {x y r : ℕ} → y ≡ x
+    → r ≡ level (t .q) (y + t .middle) (s .weight) → r ≡ symbolSent (parameters t) (sumsOf t s) x
 sent-by {t} v s {x} e f =
     f ∙ ap₂ (λ (a b : ℕ). level (t .q) (a + b) (s .weight)) e (middle-is v) ∙ sent-level (parameters t) (sumsOf t s) x

@@ -53,12 +53,9 @@ module _ {t : Row} {word w x : List ℕ} (a : BodyAndComponents t word w x) wher
   body-light : weight (body (parameters t) word) ≤ 1358
   unfolding body
   body-light =
-      omega (
-        arith,
-        weight-small (t .q) (a .is .valid .levels) (body (parameters t) word) (symbols-take (t .q) (balancedLength (parameters t)) word (a .is .below)),
-        body-long,
-        a .is .valid .length,
-      )
+      let below = symbols-take (t .q) (balancedLength (parameters t)) word (a .is .below) in
+      let light = weight-small (t .q) (a .is .valid .levels) (body (parameters t) word) below in
+      omega (arith, light, body-long, a .is .valid .length)
 
   -- the array begins with the body
   copy-is : take (min (t .balanced) 97) w ≡ body (parameters t) word
@@ -79,7 +76,8 @@ module _ {t : Row} {word w x : List ℕ} (a : BodyAndComponents t word w x) wher
     pub alpha-is : {d r : ℕ} → d ≡ t .delta → r ≡ residue (t .q) (odd + d) → r ≡ checkSymbol (t .q) true (body (parameters t) word)
     unfolding alpha
     alpha-is {d} {r} g h =
-        let m : delta (t .q) (t .balanced) ≡ delta (t .q) (length (body (parameters t) word)) = ap (delta (t .q)) (a .is .valid .balanced ∙ sym body-long) in
+        let m : delta (t .q) (t .balanced) ≡ delta (t .q) (length (body (parameters t) word)) =
+        ap (delta (t .q)) (a .is .valid .balanced ∙ sym body-long) in
         h ∙ residue-is (odd + d) q₁
         ∙ ap₂ (λ (x y : ℕ). (x + y) % t .q) (e ∙ ap (λ (l : List ℕ). weight (alternate true l)) copy-is) (g ∙ a .is .valid .delta ∙ m)
 
@@ -88,7 +86,8 @@ module _ {t : Row} {word w x : List ℕ} (a : BodyAndComponents t word w x) wher
     beta-is h = h ∙ residue-is even q₁ ∙ ap (λ (x : ℕ). x % t .q) (f ∙ ap (λ (l : List ℕ). weight (alternate false l)) copy-is)
 
   -- the syndrome of a component, as four rows
-  pub rows-of-part : {columns : List (List ℕ)} → Columns (t .q) (t .n) columns → (b : Bool) {s : List ℕ} → s ≡ rowSums (t .q) columns (part b (min (t .n) 48) x)
+  pub rows-of-part : {columns : List (List ℕ)} → Columns (t .q) (t .n) columns → (b : Bool) {s : List ℕ}
+      → s ≡ rowSums (t .q) columns (part b (min (t .n) 48) x)
       → FourRows t s × (rowsOf t s ≡ syndromes (parameters t) (received (parameters t) b word))
   rows-of-part {columns} k b {s} e =
       let c : List ℕ = part b (t .n) x in
@@ -117,7 +116,8 @@ module _ {t : Row} {word w x : List ℕ} (a : BodyAndComponents t word w x) wher
         arrived-is : _≡_ {A = Bool → ℕ} (checkOf (s .arrived)) (λ b. getD word (checkIndex (parameters t) b) 0)
         arrived-is = fun-ext arrived
 
-    pub totalled : s .lack ≡ (t .middle + (t .q - 1) * s .weight) % t .q → FourRows t (rows (s .first)) → FourRows t (rows (s .second)) → Totalled t s
+    pub totalled : s .lack ≡ (t .middle + (t .q - 1) * s .weight) % t .q → FourRows t (rows (s .first)) → FourRows t (rows (s .second))
+        → Totalled t s
     unfolding lack
     totalled l f h =
         record {

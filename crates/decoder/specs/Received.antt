@@ -3,7 +3,8 @@
 use mathlib.Core.Path.{_≡_}
 use mathlib.Core.List.{List}
 use Prim.Native.Nat.{ℕ, _<_}
-use lib.ListN.{length, getD}
+use lib.ListN.{length, getD, take}
+use Rattle.code.specs.Balance.{difference}
 use Rattle.profiles.specs.declared.row.Row.{Row}
 use Rattle.profiles.specs.Row.{Valid}
 
@@ -12,3 +13,8 @@ pub record Body (t : Row) (w : List ℕ) : Type 0 where
   pub valid : Valid t
   pub size : length w ≡ 97
   pub below : (i : ℕ) → i < t .balanced → getD w i 0 < t .q
+
+-- x begins with the differences of the m symbols that w begins with
+pub record Differenced (t : Row) (w x : List ℕ) : Type 0 where
+  pub levels : Body t x
+  pub are : take (t .balanced) x ≡ difference (t .q) 0 (take (t .balanced) w)

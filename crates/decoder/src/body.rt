@@ -4,8 +4,7 @@ use profiles::Row;
 ghost use mathlib.Core.Path.{_≡_};
 ghost use Prim.Native.Nat.{_≤_, _<_};
 ghost use lib.ListN.{length, take, set};
-ghost use Rattle.code.specs.Balance.{difference};
-ghost use Rattle.decoder.specs.Received.{Body};
+ghost use Rattle.decoder.specs.Received.{Body, Differenced};
 ghost use Rattle.decoder.specs.Totals.{Word, Components};
 
 // The first m symbols of a word copied into w.
@@ -23,7 +22,7 @@ pub(crate) fn copy_body(word: &[u8], m: usize, w: &mut [u8; 97])
 // 01: w differenced mod q, into x.
 pub(crate) fn difference_body(row: Row, w: &[u8; 97], x: &mut [u8; 97])
     requires { ⌜ Body row (now w) × (length (now x) ≡ 97) ⌝ }
-    ensures { λ _. ⌜ Body row (now (x .exit)) × (take (row .balanced) (now (x .exit)) ≡ difference (row .q) 0 (take (row .balanced) (now (w .entry)))) ⌝ }
+    ensures { λ _. ⌜ Differenced row (now (w .entry)) (now (x .exit)) ⌝ }
 {
     let q = row.q;
     let m = row.balanced;

@@ -58,14 +58,15 @@ fn near_after(
     requires { ⌜ Tries search (now columns) (now «by_first») (now «by_second») × (k ≤ 48) ⌝ }
     ensures { λ b. ⌜ b ≡ nearAfter (parametersOf search) (sumsIn search) (parityOf search) k ⌝ }
 {
-    let parity = search.parity;
-    if !moves_to_zero(search.row, columns, search.s.first, by_first, k + 1) {
-        if !moves_to_zero(search.row, columns, search.s.second, by_second, k + parity) {
+    let a = k + 1;
+    let b = k + search.parity;
+    if !moves_to_zero(search.row, columns, search.s.first, by_first, a) {
+        if !moves_to_zero(search.row, columns, search.s.second, by_second, b) {
             return false;
         }
     }
-    let first = moved(search.row, columns, search.s.first, by_first, k + 1);
-    let second = moved(search.row, columns, search.s.second, by_second, k + parity);
+    let first = moved(search.row, columns, search.s.first, by_first, a);
+    let second = moved(search.row, columns, search.s.second, by_second, b);
     near(search.row.q, search.row.n, first, second)
 }
 

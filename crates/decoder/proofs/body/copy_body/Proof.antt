@@ -29,21 +29,17 @@ loop-less : tie.Need-loop-less Inv-loop μ-loop
 loop-less c = search needs
 
 loop-again : tie.Need-loop-again Inv-loop μ-loop
-loop-again c = copied-more (c .before .before .loop .inv) (c .before .loop-test .taken) (c .before .before .before .pre .1) refl
+loop-again c =
+    let in-loop = c .before in
+    let at = in-loop .before in
+    copied-more (at .loop .inv) (in-loop .loop-test .taken) (at .before .pre .1) refl
 
 returns : tie.Need-returns Inv-loop μ-loop
-returns c = let s = c .before .before in (c .before .loop .inv .size, copied-all (c .before .loop .inv) (c .loop-test .left) (s .pre .0) (s .pre .1))
+returns c =
+    let at = c .before in
+    let asked = at .before .pre in
+    (at .loop .inv .size, copied-all (at .loop .inv) (c .loop-test .left) (asked .0) (asked .1))
 
 pub copy-body-spec : {M : Type 1} → statement M
 copy-body-spec =
-    tie.close
-    (tie.spec
-    Inv-loop
-    μ-loop
-    loop-holds
-    shared-slice-read-w
-    element-write-w
-    add-i
-    loop-less
-    loop-again
-    returns)
+    tie.close (tie.spec Inv-loop μ-loop loop-holds shared-slice-read-w element-write-w add-i loop-less loop-again returns)

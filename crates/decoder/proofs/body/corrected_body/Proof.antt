@@ -7,25 +7,28 @@ use Rattle.decoder.proofs.body.corrected_body.Statement.{statement}
 use Rattle.decoder.proofs.body.corrected_body.Tie as tie
 
 copy-body-requires : tie.Need-copy-body-requires
-copy-body-requires c κs = let w = c .before .before .pre .0 in (omega (arith, w .long, w .valid .balanced), omega (arith, w .valid .balanced, w .valid .length), refl)
+copy-body-requires c κs =
+    let word = c .before .before .pre .0 in
+    (omega (arith, word .long, word .valid .balanced), omega (arith, word .valid .balanced, word .valid .length), refl)
 
 array-write-w : tie.Need-array-write-w
-array-write-w c = let p = c .before .before .before .pre in omega (arith, p .1, p .0 .valid .balanced, p .0 .valid .length)
+array-write-w c =
+    let asked = c .before .before .before .pre in
+    omega (arith, asked .1, asked .0 .valid .balanced, asked .0 .valid .length)
 
 difference-body-requires : tie.Need-difference-body-requires
 difference-body-requires c κs =
-    let p = c .before .before .before .before .before .pre in
-    let e = c .before .before .copy-body .ensures in
-    (corrected-levels (p .0) _ _ (p .1) (p .2) _ (e .1) (e .0), p .3)
+    let copied = c .before .before in
+    let (word, inside, level, size) = copied .before .before .before .pre in
+    (corrected-levels word _ _ inside level _ (copied .copy-body .ensures .1) (copied .copy-body .ensures .0), size)
 
 returns : tie.Need-returns
 returns c =
-    let p = c .before .before .before .before .before .before .pre in
-    record {
-      levels = c .difference-body .ensures .0;
-      parts = parts-of (p .0 .valid) _ _ _ (corrected-copy (p .0) _ _ (p .1) (p .2) _ (c .before .before .before .copy-body .ensures .1)) (c .difference-body .ensures .1);
-    }
+    let copied = c .before .before .before in
+    let (word, inside, level, size) = copied .before .before .before .pre in
+    let copy = corrected-copy word _ _ inside level _ (copied .copy-body .ensures .1) in
+    let differences = c .difference-body .ensures in
+    record { levels = differences .levels; parts = parts-of (word .valid) _ _ _ copy (differences .are) }
 
 pub corrected-body-spec : {M : Type 1} → statement M
-corrected-body-spec =
-    tie.close (tie.spec copy-body-requires array-write-w difference-body-requires returns)
+corrected-body-spec = tie.close (tie.spec copy-body-requires array-write-w difference-body-requires returns)

@@ -1,4 +1,5 @@
--- `decoder::body::difference_body` meets its contract. The invariant: the symbols passed are differences of neighbours. The measure is what is left.
+-- `decoder::body::difference_body` meets its contract. The invariant: the symbols passed are differences of neighbours. The measure is what
+-- is left.
 -- Assumes nothing.
 use native.Mathlib.Omega.{arith}
 use denote.Ref.{now}
@@ -23,7 +24,7 @@ element-write-x : tie.Need-element-write-x Inv-loop μ-loop
 element-write-x c = search needs
 
 loop-holds : tie.Need-loop-holds Inv-loop μ-loop
-loop-holds c = (search needs, differenced-first (c .before .pre .0) (now (c .before .args .x)) (c .before .pre .1))
+loop-holds c = let start = c .before in (search needs, differenced-first (start .pre .0) (now (start .args .x)) (start .pre .1))
 
 element-copy-out-sub : tie.Need-element-copy-out-sub Inv-loop μ-loop
 element-copy-out-sub c = search needs
@@ -36,9 +37,10 @@ element-copy-out-sub-2 c = search needs
 
 sub-requires : tie.Need-sub-requires Inv-loop μ-loop
 sub-requires c κs =
-    let b = c .before .before .before .before .before .pre .0 in
-    let l = c .before .before .loop-test .taken in
-    (b .below _ l, b .below _ (omega (arith, l)), b .valid .levels)
+    let in-loop = c .before .before in
+    let body = in-loop .before .before .before .pre .0 in
+    let inside = in-loop .loop-test .taken in
+    (body .below _ inside, body .below _ (omega (arith, inside)), body .valid .levels)
 
 element-write-x-2 : tie.Need-element-write-x-2 Inv-loop μ-loop
 element-write-x-2 c = search needs
@@ -50,26 +52,16 @@ loop-less : tie.Need-loop-less Inv-loop μ-loop
 loop-less c = search needs
 
 loop-again : tie.Need-loop-again Inv-loop μ-loop
-loop-again c = let e = c .before .before .before .before .loop .inv in (search needs, differenced-more (c .before .before .before .before .before .before .pre .0) (e .1) (e .0) (c .before .before .before .loop-test .taken) (c .sub .ensures .0))
+loop-again c =
+    let in-loop = c .before .before .before in
+    let at = in-loop .before in
+    let (from, passed) = at .loop .inv in
+    (search needs, differenced-more (at .before .before .pre .0) passed from (in-loop .loop-test .taken) (c .sub .ensures .0))
 
 returns : tie.Need-returns Inv-loop μ-loop
-returns c = differenced-all (c .before .before .before .pre .0) (c .before .loop .inv .1) (c .loop-test .left)
+returns c = let at = c .before in differenced-all (at .before .before .pre .0) (at .loop .inv .1) (c .loop-test .left)
 
 pub difference-body-spec : {M : Type 1} → statement M
 difference-body-spec =
-    tie.close
-    (tie.spec
-    Inv-loop
-    μ-loop
-    element-copy-out-x
-    element-write-x
-    loop-holds
-    element-copy-out-sub
-    sub-sub
-    element-copy-out-sub-2
-    sub-requires
-    element-write-x-2
-    add-i
-    loop-less
-    loop-again
-    returns)
+    tie.close (tie.spec Inv-loop μ-loop element-copy-out-x element-write-x loop-holds element-copy-out-sub sub-sub
+    element-copy-out-sub-2 sub-requires element-write-x-2 add-i loop-less loop-again returns)

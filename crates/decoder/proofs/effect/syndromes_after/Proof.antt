@@ -25,10 +25,10 @@ returns c =
     let first = moved-first .moved .ensures in
     let second = c .moved2 .ensures in
     record {
-      first-rows = first .0;
-      second-rows = second .0;
-      first-is = first .1 ∙ first-moved tries _ _;
-      second-is = second .1 ∙ second-moved tries _ _;
+      first-rows = first .levels;
+      second-rows = second .levels;
+      first-is = first .are ∙ first-moved tries _ _;
+      second-is = second .are ∙ second-moved tries _ _;
     }
 
 pub syndromes-after-spec : {M : Type 1} → statement M

@@ -4,8 +4,8 @@
 use native.Mathlib.Omega.{arith}
 use Prim.Native.Nat.{_+_, _-_, _≤_}
 use denote.Ref.{now}
-use Rattle.decoder.proofs.Messaging.{Passed, Given, passed-two, run-requires, last-requires}
-use Rattle.decoder.proofs.Messaging.{power-grows, power-small, passed-run, passed-all}
+use Rattle.decoder.proofs.Messaging.{Passed, Given, passed-two, run-requires, last-requires, power-grows, power-small}
+use Rattle.decoder.proofs.Messaging.{passed-run, passed-all}
 use borrow.Author.Needs.{needs}
 use Rattle.decoder.proofs.message.extract.Statement.{statement}
 use Rattle.decoder.proofs.message.extract.Tie as tie
@@ -22,7 +22,9 @@ module _ (c : tie.After-wide Inv-loop μ-loop) where
   start = c .before .before .before
 
   given : Given (start .args .row) (c .wide .result) (now (start .args .x)) (now (start .args .first)) (now (start .args .second))
-  given = let (body, outputs) = start .pre in record { valid = body .valid; same = c .wide .ensures .0; size = body .size; outputs = outputs }
+  given =
+      let (body, outputs) = start .pre in
+      record { valid = body .valid; same = c .wide .ensures .0; size = body .size; outputs = outputs }
 
 -- where a run was copied, and the moment before it
 abbrev inside : tie.After-slice-known4 Inv-loop μ-loop → tie.In-loop Inv-loop μ-loop
@@ -34,8 +36,8 @@ wide-requires c κs = search needs
 loop-holds : tie.Need-loop-holds Inv-loop μ-loop
 loop-holds c = (start c .pre .0 .valid .sized .second, passed-two (given c))
 
-sub-copy-run : tie.Need-sub-copy-run Inv-loop μ-loop
-sub-copy-run c = omega (arith, c .before .loop .inv .1 .ahead .some)
+sub-end : tie.Need-sub-end Inv-loop μ-loop
+sub-end c = omega (arith, c .before .loop .inv .1 .ahead .some)
 
 copy-run-requires : tie.Need-copy-run-requires Inv-loop μ-loop
 copy-run-requires c κs =
@@ -44,12 +46,7 @@ copy-run-requires c κs =
     run-requires (given (at .before)) (at .loop .inv .1) (in-loop .loop-test .taken)
 
 sub-next : tie.Need-sub-next Inv-loop μ-loop
-sub-next c = omega (arith, inside c .before .loop .inv .1 .ahead .some)
-
-sub-next-2 : tie.Need-sub-next-2 Inv-loop μ-loop
-sub-next-2 c =
-    let at = inside c .before in
-    run-requires (given (at .before)) (at .loop .inv .1) (inside c .loop-test .taken) .0
+sub-next c = let at = inside c .before in run-requires (given (at .before)) (at .loop .inv .1) (inside c .loop-test .taken) .0
 
 add-next : tie.Need-add-next Inv-loop μ-loop
 add-next c =
@@ -98,6 +95,5 @@ returns c =
 
 pub extract-spec : {M : Type 1} → statement M
 extract-spec =
-    tie.close
-    (tie.spec Inv-loop μ-loop wide-requires loop-holds sub-copy-run copy-run-requires sub-next sub-next-2 add-next mul-power
-    loop-less loop-again copy-run-requires-2 same-length same-length-2 returns)
+    tie.close (tie.spec Inv-loop μ-loop wide-requires loop-holds sub-end copy-run-requires sub-next add-next
+    mul-power loop-less loop-again copy-run-requires-2 same-length same-length-2 returns)

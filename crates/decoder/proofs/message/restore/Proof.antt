@@ -30,23 +30,20 @@ module _ (c : tie.After-is-zero) where
 
 -- what is known of the position that the syndrome names
 module _ (c : tie.After-position) where
-  abbrev not-zero : tie.After-is-zero
-  not-zero = c .before .before
-
   abbrev asked : tie.Start
-  asked = start not-zero
+  asked = start (c .before .before)
 
-  is-false : zeroSyndrome (parameters (asked .args .row)) (S not-zero) ≡ false
-  is-false = tested not-zero ∙ c .before .if1 .left
+  is-false : zeroSyndrome (parameters (asked .args .row)) (S (c .before .before)) ≡ false
+  is-false = tested (c .before .before) ∙ c .before .if1 .left
 
-  place : c .position .result ≡ columnPosition (parameters (asked .args .row)) (S not-zero)
-  place = c .position .ensures ∙ position-same _ (asked .pre .0 .valid) _ (asked .pre .1)
+  position-is : c .position .result ≡ columnPosition (parameters (asked .args .row)) (S (c .before .before))
+  position-is = c .position .ensures ∙ position-same _ (asked .pre .0 .valid) _ (asked .pre .1)
 
   some : 1 ≤ c .position .result
-  some = lowered-some (asked .pre .0) _ is-false (asked .pre .2) place (asked .pre .3)
+  some = lowered-some (asked .pre .0) _ is-false (asked .pre .2) position-is (asked .pre .3)
 
   within : 2 * c .position .result - 1 + asked .args .side < asked .args .row .balanced
-  within = lowered-within (asked .pre .0) _ is-false (asked .pre .2) place (asked .pre .3)
+  within = lowered-within (asked .pre .0) _ is-false (asked .pre .2) position-is (asked .pre .3)
 
   -- and fits the array
   small : 2 * c .position .result - 1 + asked .args .side < 97
@@ -85,10 +82,9 @@ returns-2 : tie.Need-returns-2
 returns-2 c =
     let at = c .before .before in
     let given = asked at .pre in
-    restored-lowered (given .0) _ (is-false at) (given .2) (place at) (given .3) (c .sub .ensures)
+    restored-lowered (given .0) _ (is-false at) (given .2) (position-is at) (given .3) (c .sub .ensures)
 
 pub restore-spec : {M : Type 1} → statement M
 restore-spec =
-    tie.close
-    (tie.spec is-zero-requires returns position-requires mul-i sub-i add-i element-copy-out-sub sub-requires
+    tie.close (tie.spec is-zero-requires returns position-requires mul-i sub-i add-i element-copy-out-sub sub-requires
     element-write-x returns-2)

@@ -9,19 +9,19 @@ use Rattle.decoder.proofs.message.write_pair.Tie as tie
 
 restore-requires : tie.Need-restore-requires
 restore-requires c κs =
-    let (body, first, second, near, outputs) = c .before .before .before .pre in
-    (body, first, near-parts _ _ _ near .0, omega arith)
+    let (body, near, outputs) = c .before .before .before .pre in
+    (body, near .first-rows, near-parts _ _ _ (near .near) .0, omega arith)
 
 restore-requires-2 : tie.Need-restore-requires-2
 restore-requires-2 c κs =
     let restored = c .before in
-    let (body, first, second, near, outputs) = restored .before .before .before .before .pre in
-    (restored .restore .ensures .levels, second, near-parts _ _ _ near .1, omega arith)
+    let (body, near, outputs) = restored .before .before .before .before .pre in
+    (restored .restore .ensures .levels, near .second-rows, near-parts _ _ _ (near .near) .1, omega arith)
 
 extract-requires : tie.Need-extract-requires
 extract-requires c κs =
     let both = c .before .before .before in
-    let outputs = both .before .before .before .before .before .before .pre .4 in
+    let outputs = both .before .before .before .before .before .before .pre .2 in
     (both .restore2 .ensures .levels, record { first-long = outputs .first-long; second-long = outputs .second-long })
 
 same-length : tie.Need-same-length
@@ -38,6 +38,4 @@ returns c =
     written-by (restored .restore .ensures) (both .restore2 .ensures) (extracted .extract .ensures)
 
 pub write-pair-spec : {M : Type 1} → statement M
-write-pair-spec =
-    tie.close
-    (tie.spec restore-requires restore-requires-2 extract-requires same-length same-length-2 returns)
+write-pair-spec = tie.close (tie.spec restore-requires restore-requires-2 extract-requires same-length same-length-2 returns)

@@ -12,9 +12,7 @@ wide-requires : tie.Need-wide-requires
 wide-requires c κs = search needs
 
 add-difference : tie.Need-add-difference
-add-difference c =
-    let widened = c .before in
-    omega (arith, widened .wide .ensures .1, middle-small (widened .before .pre .valid))
+add-difference c = let widened = c .before in omega (arith, widened .wide .ensures .1, middle-small (widened .before .pre .valid))
 
 difference-requires : tie.Need-difference-requires
 difference-requires c κs =
@@ -29,5 +27,4 @@ returns c =
     sent-by (start .pre .valid) (start .args .search .s) (widened .wide .ensures .0) (c .difference .ensures)
 
 pub balancing-symbol-spec : {M : Type 1} → statement M
-balancing-symbol-spec =
-    tie.close (tie.spec wide-requires add-difference difference-requires returns)
+balancing-symbol-spec = tie.close (tie.spec wide-requires add-difference difference-requires returns)

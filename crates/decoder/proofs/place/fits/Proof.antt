@@ -1,23 +1,12 @@
 -- `decoder::place::fits` meets its contract: the three tests of the definition, in its order.
 -- Assumes nothing.
 use borrow.Author.Needs.{needs}
-use mathlib.Core.Path.{_≡_, sym, _∙_}
-use mathlib.Core.Bool.{true}
+use mathlib.Core.Path.{sym, _∙_}
 use borrow.Author.Tests.{not-true, not-false}
-use Rattle.decoding.specs.Decoded.{inRange}
-use Rattle.decoder.specs.Search.{parametersOf, sumsIn}
 use Rattle.decoder.proofs.Sent.{sent-none, sent-some}
 use Rattle.decoder.proofs.Fitting.{fits-range, fits-check, fits-near}
 use Rattle.decoder.proofs.place.fits.Statement.{statement}
 use Rattle.decoder.proofs.place.fits.Tie as tie
-
--- the symbol that balances the body is a level
-module _ (c : tie.Else1) where
-  abbrev start : tie.Start
-  start = c .before .before .before
-
-  in-range : inRange (parametersOf (start .args .search)) (sumsIn (start .args .search)) (start .args .x) ≡ true
-  in-range = sent-some _ _ _ (λ e. c .if1 .left (c .before .before .balancing-symbol .ensures ∙ e))
 
 balancing-symbol-requires : tie.Need-balancing-symbol-requires
 balancing-symbol-requires c κs = search needs
@@ -33,7 +22,9 @@ off-by-lack-requires c κs = search needs
 returns-2 : tie.Need-returns-2
 returns-2 c =
     let tested = c .before in
-    fits-check _ _ _ _ _ (in-range (tested .before)) (sym (tested .off-by-lack .ensures) ∙ not-true _ (c .if2 .taken))
+    let level = tested .before in
+    let in-range = sent-some _ _ _ (λ e. level .if1 .left (level .before .before .balancing-symbol .ensures ∙ e)) in
+    fits-check _ _ _ _ _ in-range (sym (tested .off-by-lack .ensures) ∙ not-true _ (c .if2 .taken))
 
 near-after-requires : tie.Need-near-after-requires
 near-after-requires c κs = search needs
@@ -42,10 +33,10 @@ returns-3 : tie.Need-returns-3
 returns-3 c =
     let off = c .before in
     let tested = off .before in
+    let level = tested .before in
+    let in-range = sent-some _ _ _ (λ e. level .if1 .left (level .before .before .balancing-symbol .ensures ∙ e)) in
     let by-lack = sym (tested .off-by-lack .ensures) ∙ not-false _ (off .if2 .left) in
-    fits-near _ _ _ _ _ (in-range (tested .before)) by-lack (c .near-after .ensures)
+    fits-near _ _ _ _ _ in-range by-lack (c .near-after .ensures)
 
 pub fits-spec : {M : Type 1} → statement M
-fits-spec =
-    tie.close
-    (tie.spec balancing-symbol-requires returns off-by-lack-requires returns-2 near-after-requires returns-3)
+fits-spec = tie.close (tie.spec balancing-symbol-requires returns off-by-lack-requires returns-2 near-after-requires returns-3)

@@ -11,10 +11,7 @@ add-requires c κs =
     (given .totalled .asked-below true, given .totalled .lack-below, given .valid .levels)
 
 returns : tie.Need-returns
-returns c =
-    let odd = c .before .before in
-    let start = odd .before .before in
-    off-odd _ (start .pre .totalled) (odd .if1 .taken) (c .before .add .ensures .0)
+returns c = let odd = c .before .before in off-odd _ (odd .before .before .pre .totalled) (odd .if1 .taken) (c .before .add .ensures .0)
 
 add-requires-2 : tie.Need-add-requires-2
 add-requires-2 c κs =
@@ -24,8 +21,7 @@ add-requires-2 c κs =
 returns-2 : tie.Need-returns-2
 returns-2 c =
     let even = c .before .before in
-    let start = even .before .before in
-    off-even _ (start .pre .totalled) (even .if1 .left) (c .before .add2 .ensures .0)
+    off-even _ (even .before .before .pre .totalled) (even .if1 .left) (c .before .add2 .ensures .0)
 
 pub off-by-lack-spec : {M : Type 1} → statement M
 off-by-lack-spec = tie.close (tie.spec add-requires returns add-requires-2 returns-2)

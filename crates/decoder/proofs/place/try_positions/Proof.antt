@@ -3,25 +3,20 @@
 use borrow.Author.Needs.{needs}
 use mathlib.Core.Path.{_≡_, sym, _∙_}
 use mathlib.Core.Bool.{false}
-use mathlib.Core.List.{List}
 use Prim.Native.Nat.{ℕ, _+_, _-_, _*_, _≤_, _<_}
 use lib.ListN.{getD}
 use native.Mathlib.Omega.{arith}
 use borrow.Author.Count.{below-none, below-more}
 use Rattle.decoding.specs.Decoded.{fits}
-use Rattle.decoder.specs.declared.place.Search.{Search}
 use Rattle.decoder.specs.Sides.{isFirst}
 use Rattle.decoder.specs.Search.{parametersOf, sumsIn}
 use Rattle.decoder.proofs.Fitting.{first-found, none-found}
 use Rattle.decoder.proofs.place.try_positions.Statement.{statement}
 use Rattle.decoder.proofs.place.try_positions.Tie as tie
 
--- index k of the parity does not fit
-abbrev Misses : Search → ℕ → List ℕ → ℕ → Type 0
-Misses x parity word k = fits (parametersOf x) (sumsIn x) (isFirst parity) k (getD word (2 * k + parity) 0) ≡ false
-
 abbrev Inv-loop : tie.InvT-loop
-Inv-loop search columns by_first by_second word parity count k₀ k = (k ≤ count) × ((j : ℕ) → j < k → Misses search parity word j)
+Inv-loop search columns by_first by_second word parity count k₀ k =
+    (k ≤ count) × ((j : ℕ) → j < k → fits (parametersOf search) (sumsIn search) (isFirst parity) j (getD word (2 * j + parity) 0) ≡ false)
 
 abbrev μ-loop : tie.MeasureT-loop
 μ-loop search columns by_first by_second word parity count k₀ k = count - k
@@ -79,6 +74,5 @@ returns-2 c =
 
 pub try-positions-spec : {M : Type 1} → statement M
 try-positions-spec =
-    tie.close
-    (tie.spec Inv-loop μ-loop add-count sub-count loop-holds mul-x add-x shared-slice-read-x fits-requires returns add-k
+    tie.close (tie.spec Inv-loop μ-loop add-count sub-count loop-holds mul-x add-x shared-slice-read-x fits-requires returns add-k
     loop-less loop-again returns-2)

@@ -24,9 +24,7 @@ mul-i : tie.Need-mul-i
 mul-i c = let found = c .before .before .before .pre .0 in omega (arith, fit-small found)
 
 add-i : tie.Need-add-i
-add-i c =
-    let found = c .before .before .before .before .pre .0 in
-    omega (arith, fit-small found, found .given .parity-number)
+add-i c = let found = c .before .before .before .before .pre .0 in omega (arith, fit-small found, found .given .parity-number)
 
 shared-slice-read-balancing-symbol : tie.Need-shared-slice-read-balancing-symbol
 shared-slice-read-balancing-symbol c =
@@ -46,9 +44,7 @@ write-pair-requires c κs =
     let body = c .before .before .before in
     let (found, after, outputs) = start (sent body) .pre in (
       body .corrected-body .ensures .levels,
-      after .first-rows,
-      after .second-rows,
-      fit-near found after,
+      record { first-rows = after .first-rows; second-rows = after .second-rows; near = fit-near found after },
       record { first-long = outputs .first-long; second-long = outputs .second-long },
     )
 
@@ -75,6 +71,5 @@ returns c =
 
 pub correct-spec : {M : Type 1} → statement M
 correct-spec =
-    tie.close
-    (tie.spec mul-i add-i shared-slice-read-balancing-symbol balancing-symbol-requires corrected-body-requires
+    tie.close (tie.spec mul-i add-i shared-slice-read-balancing-symbol balancing-symbol-requires corrected-body-requires
     write-pair-requires add-position same-length same-length-2 returns)

@@ -84,6 +84,5 @@ returns-3 c =
 
 pub decode-spec : {M : Type 1} → statement M
 decode-spec =
-    tie.close
-    (tie.spec row-of-requires enum-known-row enum-told returns decode-refusal-requires returns-2 decode-word-requires
+    tie.close (tie.spec row-of-requires enum-known-row enum-told returns decode-refusal-requires returns-2 decode-word-requires
     same-length same-length-2 returns-3)

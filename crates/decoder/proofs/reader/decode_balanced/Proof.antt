@@ -40,11 +40,10 @@ write-pair-requires : tie.Need-write-pair-requires
 write-pair-requires c κs =
     let matched = c .before .before .before .before .before in
     let judged = matched .before in
-    let (levels, totalled, outputs) = judged .before .before .before .pre in (
+    let (levels, totalled, outputs) = judged .before .before .before .pre in
+    let near = judged-near _ _ _ (judged .judge .ensures) (readable matched) in (
       levels,
-      totalled .first-rows,
-      totalled .second-rows,
-      judged-near _ _ _ (judged .judge .ensures) (readable matched),
+      record { first-rows = totalled .first-rows; second-rows = totalled .second-rows; near = near },
       record { first-long = outputs .first-long; second-long = outputs .second-long },
     )
 
@@ -59,11 +58,7 @@ returns-2 c =
     let written = c .before .before .before .before in
     let matched = written .before .before .before .before .before .before in
     let found = matched .before .judge .ensures in
-    record {
-      to = λ v p. judged-read _ _ _ found (readable matched) _ (messages-of (p true) (p false) (written .write-pair .ensures));
-    }
+    record { to = λ v p. judged-read _ _ _ found (readable matched) _ (messages-of (p true) (p false) (written .write-pair .ensures)) }
 
 pub decode-balanced-spec : {M : Type 1} → statement M
-decode-balanced-spec =
-    tie.close
-    (tie.spec judge-requires enum-told returns write-pair-requires same-length same-length-2 returns-2)
+decode-balanced-spec = tie.close (tie.spec judge-requires enum-told returns write-pair-requires same-length same-length-2 returns-2)

@@ -44,12 +44,8 @@ module _ (c : tie.After-k) where
 
   located : Located (x one) (now (start one .args .word)) (c .k .given .0 .0)
   located =
-      let searched = c .before .before in
-      record {
-        given = given one;
-        is = start one .pre .0;
-        fit = subst (Found (x one) (now (start one .args .word))) (c .k .given .1) (searched .locate .ensures);
-      }
+      let fit = subst (Found (x one) (now (start one .args .word))) (c .k .given .1) (c .before .before .locate .ensures) in
+      record { given = given one; is = start one .pre .0; fit = fit }
 
 wrong-parity-requires : tie.Need-wrong-parity-requires
 wrong-parity-requires c κs = search needs
@@ -61,9 +57,7 @@ effect-of-requires : tie.Need-effect-of-requires
 effect-of-requires c κs = given c
 
 locate-requires : tie.Need-locate-requires
-locate-requires c κs =
-    let effect = c .before .before .before in
-    (tries effect, start (effect .before) .pre .0)
+locate-requires c κs = let effect = c .before .before .before in (tries effect, start (effect .before) .pre .0)
 
 enum-known-k : tie.Need-enum-known-k
 enum-known-k c = search needs
@@ -102,6 +96,5 @@ returns-3 c =
 
 pub decode-unbalanced-spec : {M : Type 1} → statement M
 decode-unbalanced-spec =
-    tie.close
-    (tie.spec wrong-parity-requires returns effect-of-requires locate-requires enum-known-k enum-told returns-2
+    tie.close (tie.spec wrong-parity-requires returns effect-of-requires locate-requires enum-known-k enum-told returns-2
     syndromes-after-requires correct-requires same-length same-length-2 returns-3)

@@ -17,9 +17,7 @@ start c = c .before .before .before .before
 
 -- the columns are the row's
 matrix : (c : tie.After-columns) → Columns (start c .args .row .q) (start c .args .row .n) (c .columns .result)
-matrix c =
-    let valid = start c .pre .0 .valid in
-    columns-right (c .columns .ensures) (q-positive _ (valid .sized)) (valid .length)
+matrix c = let valid = start c .pre .0 .valid in columns-right (c .columns .ensures) (q-positive _ (valid .sized)) (valid .length)
 
 -- the moment after the sums, and where their columns were built
 abbrev summed : tie.After-struct-known2 → tie.After-sums-of
@@ -92,6 +90,5 @@ returns-2 c =
 
 pub decode-word-spec : {M : Type 1} → statement M
 decode-word-spec =
-    tie.close
-    (tie.spec columns-requires sums-of-requires decode-unbalanced-requires same-length same-length-2 returns
+    tie.close (tie.spec columns-requires sums-of-requires decode-unbalanced-requires same-length same-length-2 returns
     decode-balanced-requires same-length-3 same-length-4 returns-2)

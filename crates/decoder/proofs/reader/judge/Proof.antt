@@ -63,6 +63,5 @@ returns-4 c = told-as (c .before .before) told.Unreadable (c .enum-told4 .given 
 
 pub judge-spec : {M : Type 1} → statement M
 judge-spec =
-    tie.close
-    (tie.spec verdict-requires enum-told enum-told-2 add-position enum-told-3 add-position-2 enum-told-4 returns
-    returns-2 returns-3 returns-4)
+    tie.close (tie.spec verdict-requires enum-told enum-told-2 add-position enum-told-3 add-position-2 enum-told-4 returns returns-2
+    returns-3 returns-4)
