@@ -26,7 +26,7 @@ use Rattle.profiles.proofs.Refusing.{Admitted, admitted, refused-number, decode
 use Rattle.decoder.specs.declared.totals.Totals.{Totals}
 use Rattle.decoder.specs.declared.reader.Decoded.the-variants.{Refused}
 use Rattle.decoder.specs.Totals.{Word, sumsOf}
-use Rattle.decoder.specs.Written.{Outputs}
+use Rattle.decoder.specs.Outputs.{Outputs}
 use Rattle.decoder.specs.Decode.{Answers}
 use Rattle.decoder.proofs.Answering.{answers-refused}
 use Rattle.decoder.proofs.Totalling.{middle-is}
@@ -79,13 +79,15 @@ module _ {t : Row} (v : Valid t) (u : List ℕ) (s : Totals) (g : sumsOf t s ≡
   unfolding decoded
   by-sums = ap (λ (x : Sums). decodedBy (parameters t) x u) (sym g)
 
-  pub balanced-answer : s .weight ≡ t .middle → answered (decoded (parameters t) u) ≡ answered (decodedBalanced (parameters t) (sumsOf t s) u)
+  pub balanced-answer : s .weight ≡ t .middle
+      → answered (decoded (parameters t) u) ≡ answered (decodedBalanced (parameters t) (sumsOf t s) u)
   unfolding decodedBy
   balanced-answer h =
       let f : eqb (s .weight) (target (parameters t)) ≡ true = eq-eqb _ _ (h ∙ middle-is v) in
       ap answered (by-sums ∙ rw (f, decodedBy))
 
-  pub unbalanced-answer : s .weight ≢ t .middle → answered (decoded (parameters t) u) ≡ answered (decodedUnbalanced (parameters t) (sumsOf t s) u)
+  pub unbalanced-answer : s .weight ≢ t .middle
+      → answered (decoded (parameters t) u) ≡ answered (decodedUnbalanced (parameters t) (sumsOf t s) u)
   unfolding decodedBy
   unbalanced-answer h =
       let f : eqb (s .weight) (target (parameters t)) ≡ false = ne-eqb _ _ (λ n. h (n ∙ sym (middle-is v))) in

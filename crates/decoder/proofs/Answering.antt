@@ -6,15 +6,16 @@ use mathlib.Core.List.{List}
 use Prim.Native.Nat.{ℕ, _+_, _≤_, _<_}
 use native.Mathlib.Omega.{arith}
 use lib.Dec.{T}
-use lib.ListN.{getD, set}
+use lib.ListN.{getD}
 use borrow.Author.Tests.{lt-ltb, le-ltb}
 use Rattle.modular.proofs.Search.{least-hit, holds}
 use Rattle.code.specs.Parameters.{Parameters, balancedLength}
 use Rattle.code.specs.Codeword.{received}
-use Rattle.code.specs.Reading.{Finding, correctionAt, corrected, Reading, unreadable}
+use Rattle.code.specs.Reading.{Finding, Reading, unreadable}
 use Rattle.code.specs.Operations.{Answer, refused, answered, success}
 use Rattle.decoding.specs.Syndromes.{nearSyndromes, index, movedOf}
-use Rattle.decoding.specs.Decoded.{Sums, checkIndex, gain, balancingSymbol, inRange, offByLack, nearAfter, fits, places, firstFit, readBy, readFit, decodedBody, decodedCheck, agrees, decodedBalanced, decodedUnbalanced}
+use Rattle.decoding.specs.Decoded.{Sums, checkIndex, gain, inRange, offByLack, nearAfter, fits, places, firstFit}
+use Rattle.decoding.specs.Decoded.{readBy, readFit, decodedBody, decodedCheck, agrees, decodedBalanced, decodedUnbalanced}
 use Rattle.decoding.proofs.Tests.{three-parts}
 use Rattle.syndromes.specs.declared.checks.Verdict as verdicts
 use Rattle.syndromes.specs.declared.checks.Verdict.the-variants as told
@@ -22,7 +23,7 @@ use Rattle.syndromes.specs.Verdict.{verdictOf}
 use Rattle.decoder.specs.declared.reader.Decoded.{Decoded}
 use Rattle.decoder.specs.declared.reader.Decoded.the-variants.{Clean, Corrected, Unreadable, Refused}
 use Rattle.decoder.specs.Sides.{isFirst}
-use Rattle.decoder.specs.Written.{Written}
+use Rattle.decoder.specs.Outputs.{RestoredMessages}
 use Rattle.decoder.specs.Decode.{decodedReport, Answers}
 use Rattle.decoder.specs.Steps.{Judged, wrongParity}
 
@@ -39,14 +40,15 @@ pub answers-as : {a a′ : Answer} {r : Decoded} {first first′ second second�
 answers-as e h = rw e h
 
 pub answers-read : (p : Parameters) (u : List ℕ) {d : Reading} {k : Finding} {S S′ first first′ second second′ : List ℕ} {r : Decoded}
-    → d ≡ readBy p k u S S′ → Written p (received p true u) (received p false u) S S′ first′ second′ → decodedReport r ≡ success k
+    → d ≡ readBy p k u S S′ → RestoredMessages p (received p true u) (received p false u) S S′ first′ second′ → decodedReport r ≡ success k
     → Answers (answered d) r first first′ second second′
 unfolding readBy
 answers-read p u e w f = record { answer = rw e f; first-out = rw e (w .first-is); second-out = rw e (w .second-is) }
 
 -- the messages of equal components
-pub written-of : {p : Parameters} {c c′ d d′ S S′ first second : List ℕ} → c ≡ c′ → d ≡ d′ → Written p c d S S′ first second → Written p c′ d′ S S′ first second
-written-of e f w = rw (← e, ← f) w
+pub messages-of : {p : Parameters} {c c′ d d′ S S′ first second : List ℕ} → c ≡ c′ → d ≡ d′
+    → RestoredMessages p c d S S′ first second → RestoredMessages p c′ d′ S S′ first second
+messages-of e f w = rw (← e, ← f) w
 
 -- what a verdict is answered as, where the body has m symbols
 abbrev pub verdictAnswer : ℕ → Sums → verdicts.Verdict → Decoded
@@ -62,7 +64,9 @@ module _ (p : Parameters) (s : Sums) where
   unfolding decodedBalanced decodedCheck
   judged-by false a b n e f = λ v. rw (n, decodedBalanced)
   judged-by true true true n e f = (holds _ n, λ v. rw (n, decodedBalanced, e, f))
-  judged-by true true false n e f = let g : balancedLength p + 2 ≡ checkIndex p false + 1 = omega arith in (holds _ n, λ v. rw (n, decodedBalanced, e, f, g))
+  judged-by true true false n e f =
+      let g : balancedLength p + 2 ≡ checkIndex p false + 1 = omega arith in
+      (holds _ n, λ v. rw (n, decodedBalanced, e, f, g))
   judged-by true false true n e f = (holds _ n, λ v. rw (n, decodedBalanced, e, f))
   judged-by true false false n e f = λ v. rw (n, decodedBalanced, e, f)
 
@@ -81,7 +85,7 @@ module _ (p : Parameters) (s : Sums) where
   judged-none {r} e d v first second = let f : Judged p s Unreadable = rw e at d in answers-unreadable first second (f v)
 
   pub judged-read : (r : Decoded) → Judged p s r → (r ≡ Unreadable → ⊥) → (v : List ℕ) {first first′ second second′ : List ℕ}
-      → Written p (received p true v) (received p false v) (s .first) (s .second) first′ second′
+      → RestoredMessages p (received p true v) (received p false v) (s .first) (s .second) first′ second′
       → Answers (answered (decodedBalanced p s v)) r first first′ second second′
   judged-read Clean d n v w = answers-read p v (d .1 v) w refl
   judged-read (Corrected c) d n v w = answers-read p v (d .1 v) w refl
@@ -112,22 +116,24 @@ module _ (p : Parameters) (s : Sums) where
       body-none e = let l : places p b ≤ firstFit p s b v = omega arith in rw (le-ltb (firstFit p s b v) (places p b) l, decodedBody)
 
       module _ {k : ℕ} (e : firstFit p s b v ≡ k) (l : k < places p b) where
-        pub body-found : decodedBody p s b v
-            ≡ readBy p (corrected (correctionAt (index b k) (getD v (index b k) 0) (balancingSymbol p s (getD v (index b k) 0)))) (set v (index b k) (balancingSymbol p s (getD v (index b k) 0)))
-            (movedOf p true b k (gain p s) (s .first)) (movedOf p false b k (gain p s) (s .second))
-        unfolding decodedBody readFit
+        -- the symbol received there
+        abbrev arrived : ℕ
+        arrived = getD v (index b k) 0
+
+        pub body-found : decodedBody p s b v ≡ readFit p s b k v
+        unfolding decodedBody
         body-found = let m : firstFit p s b v < places p b = omega arith in rw (lt-ltb (firstFit p s b v) (places p b) m, decodedBody, e)
 
-        hit : T (fits p s b k (getD v (index b k) 0))
+        hit : T (fits p s b k arrived)
         unfolding firstFit
         hit =
             let m : firstFit p s b v < places p b = omega arith in
             rw e at (least-hit (λ k. fits p s b k (getD v (index b k) 0)) (places p b) m)
 
-        pub found-range : T (inRange p s (getD v (index b k) 0))
+        pub found-range : T (inRange p s arrived)
         unfolding fits
-        found-range = three-parts (inRange p s (getD v (index b k) 0)) (offByLack p s b) (nearAfter p s b k) hit .0
+        found-range = three-parts (inRange p s arrived) (offByLack p s b) (nearAfter p s b k) hit .0
 
         pub found-near : T (nearSyndromes p (movedOf p true b k (gain p s) (s .first)) (movedOf p false b k (gain p s) (s .second)))
         unfolding fits nearAfter
-        found-near = three-parts (inRange p s (getD v (index b k) 0)) (offByLack p s b) (nearAfter p s b k) hit .2
+        found-near = three-parts (inRange p s arrived) (offByLack p s b) (nearAfter p s b k) hit .2

@@ -16,7 +16,8 @@ use Rattle.code.specs.Reading.{Finding, Reading, read, unreadable, readAs, read
 use Rattle.code.specs.Profiles.{isProfile, profile}
 use Rattle.code.specs.Claims as Reads
 use Rattle.code.specs.Refusal.{Test, asks, firstRefusal}
-use Rattle.code.specs.Operations.{Answer, refused, answered, readUnless, decodeTests, decodeAnswer, report, reportNumber, success, decodeOutput}
+use Rattle.code.specs.Operations.{Answer, refused, answered, readUnless, decodeTests, decodeAnswer}
+use Rattle.code.specs.Operations.{report, reportNumber, success, decodeOutput}
 use Rattle.code.proofs.Merge.{word-length, word-of}
 use Rattle.code.proofs.Profiles.{profiles-fit}
 use Rattle.code.proofs.Reading.{codeword-word, changed-word, reading-corrects}
@@ -49,9 +50,11 @@ module _ (i : ℕ) (t : T (isProfile i)) where
       let long : T (lengthsFit i v k l) =
       and-three (eqb (length v) (codewordLength (profile i))) (eqb k (messageLength (profile i))) (eqb l (messageLength (profile i)))
       (eq-test (word-length (profile i .q) (codewordLength (profile i)) v w)) (eq-test (a .first-long)) (eq-test (a .second-long)) in
-      let below : T (symbolsBelow (profile i .q) v) = and-right (eqb (length v) (codewordLength (profile i))) (symbolsBelow (profile i .q) v) w in
+      let below : T (symbolsBelow (profile i .q) v) =
+      and-right (eqb (length v) (codewordLength (profile i))) (symbolsBelow (profile i .q) v) w in
       let none : firstRefusal (decodeTests i v k l) ≡ 0 = past (decodeTests i v k l) [] (t, (long, (below, tt))) in
-      subst (λ (n : ℕ). Answers (readUnless n (reading (profile i) v)) r (a .before-first) first (a .before-second) second) none (a .allowed)
+      subst (λ (n : ℕ). Answers (readUnless n (reading (profile i) v)) r (a .before-first) first (a .before-second) second) none
+      (a .allowed)
 
   -- where the reading gives the pair of u, so does the answer
   answered-by : (v u : List ℕ) {f : Finding} {r : Decoded} {bf first bs second : List ℕ}
@@ -64,10 +67,14 @@ module _ (i : ℕ) (t : T (isProfile i)) where
   pub decode-corrects-at : Corrects i
   decode-corrects-at =
       record {
-        unchanged = λ u c r first second a. answered-by u u (corrects .unchanged u c) (let-through u (codeword-word (profile i) sized u c) a);
+        unchanged =
+            λ u c r first second a.
+            let word = codeword-word (profile i) sized u c in
+            answered-by u u (corrects .unchanged u c) (let-through u word a);
         changed =
             λ u c j y l h n r first second a.
-            answered-by (set u j y) u (corrects .changed u c j y l h n) (let-through (set u j y) (changed-word (profile i) sized u c j y h) a);
+            let word = changed-word (profile i) sized u c j y h in
+            answered-by (set u j y) u (corrects .changed u c j y l h n) (let-through (set u j y) word a);
         others = corrects .others;
         refused =
             λ v w r first second a.
@@ -81,7 +88,8 @@ module _ (i : ℕ) (t : T (isProfile i)) where
 -- What refuses a call, by its answer's number.
 
 -- a number of 4 is none of the tests'
-four-read : (ts : List Test) (d : Reading) → T (absent 4 ts) → T (absent 0 ts) → reportNumber (report (readUnless (firstRefusal ts) d)) ≡ 4 → AllPass ts
+four-read : (ts : List Test) (d : Reading) → T (absent 4 ts) → T (absent 0 ts)
+    → reportNumber (report (readUnless (firstRefusal ts) d)) ≡ 4 → AllPass ts
 four-read ts d four none e = go (firstRefusal ts) refl e
   where
     go : (n : ℕ) → firstRefusal ts ≡ n → reportNumber (report (readUnless n d)) ≡ 4 → AllPass ts

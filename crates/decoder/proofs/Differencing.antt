@@ -5,7 +5,7 @@ use mathlib.Core.Logic.{_≢_}
 use mathlib.Core.Bool.{Bool}
 use mathlib.Core.List.{List, [], _∷_}
 use Prim.Native.Nat.{ℕ, zero, suc, _+_, _-_, _*_, _≤_, _<_}
-use native.Mathlib.Nat.{not-suc-le-zero, le-of-suc-le-suc, le-trans, add-one}
+use native.Mathlib.Nat.{not-suc-le-zero, le-of-suc-le-suc, le-trans}
 use native.Mathlib.Omega.{arith}
 use native.Mathlib.Decide.{ℕ-discrete}
 use lib.ListN.{length, getD, take, drop, set, length-set, length-drop}
@@ -14,12 +14,12 @@ use Rattle.modular.proofs.Residue.{minus-below}
 use Rattle.code.specs.Parameters.{Parameters}
 use Rattle.code.specs.Balance.{neighbourDifference, differences}
 use Rattle.code.specs.Codeword.{alternate, body, received}
-use Rattle.code.proofs.Symbols.{symbol-below}
+use Rattle.code.proofs.Symbols.{symbol-below, symbols-set}
 use Rattle.code.proofs.Weights.{length-differences}
 use Rattle.code.proofs.Columns.{q-positive}
-use Rattle.residues.proofs.Filling.{FilledTo}
+use Rattle.residues.proofs.Filling.{FilledTo, filled-none, filled-more}
 use Rattle.profiles.specs.declared.row.Row.{Row}
-use Rattle.profiles.specs.Row.{parameters}
+use Rattle.profiles.specs.Row.{parameters, Valid}
 use Rattle.symbols.specs.Syndromes.{part}
 use Rattle.decoder.specs.Received.{Body}
 use Rattle.decoder.specs.Totals.{Word, Components}
@@ -43,15 +43,16 @@ abbrev pub held : Row → List ℕ → ℕ → ℕ
 held t u zero = getD u 0 0
 held t u (suc j) = between t u j
 
+-- the differences fit the array
+pub short : {t : Row} → Valid t → t .balanced ≤ 97
+short v = omega (arith, v .balanced, v .length)
+
 module _ {t : Row} {u : List ℕ} (w : Word t u) where
   q₁ : 1 ≤ t .q
   q₁ = q-positive (parameters t) (w .valid .sized)
 
   pub symbols-long : t .balanced ≤ length u
   symbols-long = omega (arith, w .long, w .valid .balanced)
-
-  pub short : t .balanced ≤ 97
-  short = omega (arith, w .valid .balanced, w .valid .length)
 
   pub level : (j : ℕ) → getD u j 0 < t .q
   level = symbol-below (t .q) q₁ u (w .below)
@@ -73,7 +74,7 @@ module _ {t : Row} {u : List ℕ} (w : Word t u) where
           let some : 1 ≤ length (take (t .balanced) u) = omega (arith, long, w .valid .balanced) in
           let rest : suc (length (differences (parameters t) (take (t .balanced) u))) ≡ t .balanced =
           length-differences (parameters t) (take (t .balanced) u) some ∙ long in
-          let whole : length (take (t .balanced) x) ≡ t .balanced = length-take-le (t .balanced) x (omega (arith, b .size, short)) in
+          let whole : length (take (t .balanced) x) ≡ t .balanced = length-take-le (t .balanced) x (omega (arith, b .size, short (w .valid))) in
           let size : length (drop 1 (take (t .balanced) x)) ≡ length (differences (parameters t) (take (t .balanced) u)) =
           length-drop 1 (take (t .balanced) x) ∙ omega (arith, whole, rest) in
           ext-getD 0 (drop 1 (take (t .balanced) x)) (differences (parameters t) (take (t .balanced) u)) size
@@ -87,11 +88,25 @@ module _ {t : Row} {u : List ℕ} (w : Word t u) where
           ∙ sym (difference-at (parameters t) (take (t .balanced) u) j (omega (arith, long))
           ∙ ap₂ (neighbourDifference (parameters t)) own after))
 
+  pub differenced-first : (x : List ℕ) → length x ≡ 97 → FilledTo (held t u) 97 (set x 0 (getD u 0 0)) 1
+  differenced-first x e = filled-more (filled-none (held t u) x e) (omega arith) refl
+
+  pub differenced-more : {x : List ℕ} {i : ℕ} → FilledTo (held t u) 97 x i → 1 ≤ i → i < t .balanced
+      → {y : ℕ} → y ≡ neighbourDifference (parameters t) (getD u (i - 1) 0) (getD u i 0) → FilledTo (held t u) 97 (set x i y) (i + 1)
+  differenced-more {i = zero} f n l e = absurd (not-suc-le-zero n)
+  differenced-more {i = suc j} f n l e =
+      let before : suc j - 1 ≡ j = omega arith in
+      filled-more f (omega (arith, short (w .valid))) (e ∙ ap (λ (k : ℕ). neighbourDifference (parameters t) (getD u k 0) (getD u (suc j) 0)) before)
+
   -- all of it filled
   pub differenced : {x : List ℕ} {i : ℕ} → FilledTo (held t u) 97 x i → t .balanced ≤ i → Components t u x
   differenced f h =
       components (record { valid = w .valid; size = f .size; below = λ j l. rw (f .at j (omega arith)) (held-below j) })
       (λ j l. f .at (suc j) (omega arith))
+
+word-set : {t : Row} {u : List ℕ} → Word t u → (i : ℕ) {y : ℕ} → y < t .q → Word t (set u i y)
+word-set {t} {u} w i {y} l =
+    record { valid = w .valid; long = length-set u i y ∙ w .long; below = symbols-set (t .q) u i y l (w .below) }
 
 -- The symbol at index i corrected to y.
 module _ {t : Row} {u : List ℕ} (w : Word t u) {i y : ℕ} (h : i < t .balanced) (l : y < t .q) where
@@ -121,7 +136,7 @@ module _ {t : Row} {u : List ℕ} (w : Word t u) {i y : ℕ} (h : i < t .balance
       }
     where
       at : (j : ℕ) → j < t .balanced → Dec (j ≡ k) → getD (set x k d) j 0 < t .q
-      at j g (yes f) = let o : k < length x = omega (arith, b .size, short w) in rw (f, getD-set-same x k d 0 o) e
+      at j g (yes f) = let o : k < length x = omega (arith, b .size, short (w .valid)) in rw (f, getD-set-same x k d 0 o) e
       at j g (no n) = rw (getD-set-other x k j d 0 n) (b .below j g)
 
   -- the difference before i
@@ -133,7 +148,7 @@ module _ {t : Row} {u : List ℕ} (w : Word t u) {i y : ℕ} (h : i < t .balance
       at : (j : ℕ) → suc j < t .balanced → j ≢ i → Dec (suc j ≡ i) → getD (set x i d) (suc j) 0 ≡ between t sent j
       at j o n (yes f) =
           let before : i - 1 ≡ j = omega (arith, f) in
-          let size : i < length x = omega (arith, c .levels .size, short w) in
+          let size : i < length x = omega (arith, c .levels .size, short (w .valid)) in
           ap (λ (k : ℕ). getD (set x i d) k 0) f ∙ getD-set-same x i d 0 size ∙ e .0
           ∙ ap₂ (neighbourDifference (parameters t)) (ap (λ (k : ℕ). getD u k 0) before ∙ sym (elsewhere j n)) (sym (rw f here))
       at j o n (no f) = getD-set-other x i (suc j) d 0 f ∙ kept c j o n f
@@ -145,8 +160,23 @@ module _ {t : Row} {u : List ℕ} (w : Word t u) {i y : ℕ} (h : i < t .balance
   -- the difference after i
   pub next-corrected : {x : List ℕ} → UpTo x → i + 1 < t .balanced
       → {d : ℕ} → (d ≡ neighbourDifference (parameters t) y (getD u (i + 1) 0)) × (d < t .q) → Components t sent (set x (i + 1) d)
-  next-corrected c g e = ?
+  next-corrected {x} c g {d} e =
+      components (word-set w i l) (set-level (c .levels) (i + 1) (e .1)) (λ j o. at j o (ℕ-discrete j i))
+    where
+      at : (j : ℕ) → suc j < t .balanced → Dec (j ≡ i) → getD (set x (i + 1) d) (suc j) 0 ≡ between t sent j
+      at j o (yes f) =
+          let next : suc j ≡ i + 1 = omega (arith, f) in
+          let size : i + 1 < length x = omega (arith, c .levels .size, short (w .valid)) in
+          ap (λ (k : ℕ). getD (set x (i + 1) d) k 0) next ∙ getD-set-same x (i + 1) d 0 size ∙ e .0
+          ∙ ap₂ (neighbourDifference (parameters t)) (sym (rw f here)) (ap (λ (k : ℕ). getD u k 0) (sym next) ∙ sym (elsewhere (suc j) (λ z. n j z f)))
+        where
+          n : (j : ℕ) → suc j ≡ i → j ≡ i → ⊥
+          n j z f = omega (arith, z, f)
+      at j o (no n) =
+          let other : suc j ≢ i + 1 = λ z. n (omega (arith, z)) in
+          getD-set-other x (i + 1) (suc j) d 0 other ∙ c .at j o n
 
   -- there is none where i is the last
   pub none-after : {x : List ℕ} → UpTo x → t .balanced ≤ i + 1 → Components t sent x
-  none-after c g = ?
+  none-after c g =
+      components (word-set w i l) (c .levels) (λ j o. c .at j o (λ f. not-suc-le-zero {n = 0} (omega (arith, o, f))))

@@ -16,15 +16,17 @@ use Rattle.code.proofs.Reduced.{check-count}
 use Rattle.profiles.specs.declared.row.Row.{Row}
 use Rattle.profiles.specs.Row.{parameters, Valid}
 use Rattle.symbols.proofs.Powers.{Spans}
-use Rattle.decoder.specs.Written.{run}
+use Rattle.decoder.specs.Outputs.{copiedRun}
 
 -- What is kept of one symbol more.
 
-keep-pass : (t : ℕ → Bool) (c : List ℕ) (i : ℕ) → i < length c → t i ≡ true → keep t (take (suc i) c) ≡ keep t (take i c) ++ (getD c i 0 ∷ [])
+keep-pass : (t : ℕ → Bool) (c : List ℕ) (i : ℕ) → i < length c → t i ≡ true
+    → keep t (take (suc i) c) ≡ keep t (take i c) ++ (getD c i 0 ∷ [])
 keep-pass t [] i l h = absurd (not-suc-le-zero l)
 keep-pass t (x ∷ xs) zero l h = rw (h, keep)
 keep-pass t (x ∷ xs) (suc i) l h =
-    let e : keep (shift t) (take (suc i) xs) ≡ keep (shift t) (take i xs) ++ (getD xs i 0 ∷ []) = keep-pass (shift t) xs i (le-of-suc-le-suc l) h in
+    let e : keep (shift t) (take (suc i) xs) ≡ keep (shift t) (take i xs) ++ (getD xs i 0 ∷ []) =
+    keep-pass (shift t) xs i (le-of-suc-le-suc l) h in
     cases (t 0) (λ b. rw (b, keep) (ap (λ (l : List ℕ). x ∷ l) e)) (λ b. rw (b, keep) e)
 
 keep-fail : (t : ℕ → Bool) (c : List ℕ) (i : ℕ) → i < length c → t i ≡ false → keep t (take (suc i) c) ≡ keep t (take i c)
@@ -46,6 +48,10 @@ count-upto t (suc i) (suc n) l =
 -- the positions that hold the message
 abbrev pub held : Parameters → ℕ → Bool
 held p i = not (checkAt p i)
+
+-- index i holds a symbol of the message, whatever r is
+abbrev pub Holds : ℕ → ℕ → Type 0
+Holds q i = (p : Parameters) → Spans p q (i + 1) → isCheck p (i + 1) ≡ false
 
 -- The symbols passed.
 
@@ -76,8 +82,7 @@ module _ {q n : ℕ} {c out₀ out : List ℕ} {next i : ℕ} (e : Extracting q 
           ap not (rw add-one at s)
 
   -- a position of the message
-  extracting-more : ((p : Parameters) → Spans p q (i + 1) → isCheck p (i + 1) ≡ false) → next < length out₀
-      → {x : ℕ} → x ≡ getD c i 0 → Extracting q n c out₀ (set out next x) (next + 1) (i + 1)
+  extracting-more : Holds q i → next < length out₀ → {x : ℕ} → x ≡ getD c i 0 → Extracting q n c out₀ (set out next x) (next + 1) (i + 1)
   extracting-more h b {x} f =
       record {
         within = omega arith;
@@ -93,7 +98,8 @@ module _ {q n : ℕ} {c out₀ out : List ℕ} {next i : ℕ} (e : Extracting q 
 
       stored : (p : Parameters) → Spans p q n → set out next x ≡ keep (held p) (take (suc i) c) ++ drop (suc next) out₀
       stored p m =
-          let d : out ≡ keep (held p) (take i c) ++ (getD out₀ next 0 ∷ drop (suc next) out₀) = e .done p m ∙ rw (drop-cons out₀ next 0 b) in
+          let d : out ≡ keep (held p) (take i c) ++ (getD out₀ next 0 ∷ drop (suc next) out₀) =
+          e .done p m ∙ rw (drop-cons out₀ next 0 b) in
           let s : length (keep (held p) (take i c)) ≡ next =
           length-keep (held p) (take i c) ∙ ap (count (held p)) (length-take-le i c (omega arith)) ∙ sym (e .counted p m) in
           ap (λ (y : List ℕ). set y next x) d
@@ -117,8 +123,8 @@ module _ {t : Row} (v : Valid t) {q : ℕ} (same : q ≡ t .q) {c out₀ out : L
   room {k} {j} a f = omega (arith, f .counted (parameters t) named, count-upto (held (parameters t)) j (t .n) (f .within), total)
 
   module _ (x : List ℕ) (side : ℕ) (symbol : (j : ℕ) → j < t .n → getD x (2 * j + side) 0 ≡ getD c j 0) where
-    pub extracting-run : (k : ℕ) → i + k ≤ t .n → ((j : ℕ) → i ≤ j → j < i + k → (p : Parameters) → Spans p q (j + 1) → isCheck p (j + 1) ≡ false)
-        → Extracting q (t .n) c out₀ (run x side i k next out) (next + k) (i + k)
+    pub extracting-run : (k : ℕ) → i + k ≤ t .n → ((j : ℕ) → i ≤ j → j < i + k → Holds q j)
+        → Extracting q (t .n) c out₀ (copiedRun x side i k next out) (next + k) (i + k)
     extracting-run zero l h =
         let f : next ≡ next + 0 = omega arith in
         let g : i ≡ i + 0 = omega arith in
@@ -133,15 +139,15 @@ module _ {t : Row} (v : Valid t) {q : ℕ} (same : q ≡ t .q) {c out₀ out : L
         rw (← y, ← z) f
       where
         -- one more fits, since it is counted among all
-        below : {a : List ℕ} {n′ j : ℕ} → Extracting q (t .n) c out₀ a n′ j → j < t .n → ((p : Parameters) → Spans p q (j + 1) → isCheck p (j + 1) ≡ false) → n′ < length out₀
+        below : {a : List ℕ} {n′ j : ℕ} → Extracting q (t .n) c out₀ a n′ j → j < t .n → Holds q j → n′ < length out₀
         below {a} {n′} {j} f m g =
-            let s : isCheck (parameters t) (j + 1) ≡ false = g (parameters t) (record { levels = named .levels; room = omega (arith, named .room) }) in
-            let u : checkAt (parameters t) j ≡ false = rw add-one at s in
-            let w : count (held (parameters t)) (suc j) ≡ suc (count (held (parameters t)) j) = count-pass (held (parameters t)) j (ap not u) in
-            omega (arith, f .counted (parameters t) named, count-upto (held (parameters t)) (suc j) (t .n) m, total)
+            let p : Parameters = parameters t in
+            let s : isCheck p (j + 1) ≡ false = g p (record { levels = named .levels; room = omega (arith, named .room) }) in
+            let u : checkAt p j ≡ false = rw add-one at s in
+            let w : count (held p) (suc j) ≡ suc (count (held p) j) = count-pass (held p) j (ap not u) in
+            omega (arith, f .counted p named, count-upto (held p) (suc j) (t .n) m, total)
 
-    pub run-room : (k : ℕ) → i + k ≤ t .n → ((j : ℕ) → i ≤ j → j < i + k → (p : Parameters) → Spans p q (j + 1) → isCheck p (j + 1) ≡ false)
-        → next + k ≤ length out₀
+    pub run-room : (k : ℕ) → i + k ≤ t .n → ((j : ℕ) → i ≤ j → j < i + k → Holds q j) → next + k ≤ length out₀
     run-room k l h = room _ (extracting-run k l h)
 
   pub extracting-all : t .n ≤ i → out ≡ message (parameters t) (take (t .n) c)

@@ -20,13 +20,11 @@ use Rattle.code.proofs.Merge.{cases}
 use Rattle.decoding.specs.Syndromes.{nearSyndromes, index, moved, movedOf}
 use Rattle.decoding.specs.Decoded.{Sums, gain, inRange, offByLack, nearAfter, fits, places, firstFit}
 use Rattle.decoding.proofs.Tests.{false-test}
-use Rattle.profiles.specs.declared.row.Row.{Row}
-use Rattle.decoder.specs.declared.totals.Totals.{Totals}
-use Rattle.profiles.specs.Row.{parameters, Valid}
+use Rattle.decoder.specs.declared.place.Search.{Search}
 use Rattle.decoder.specs.Multiples.{Multiples}
 use Rattle.decoder.specs.Sides.{isFirst}
-use Rattle.decoder.specs.Totals.{sumsOf, Totalled}
-use Rattle.decoder.specs.Place.{factor, Moves}
+use Rattle.decoder.specs.Totals.{Totalled}
+use Rattle.decoder.specs.Search.{parametersOf, sumsIn, parityOf, factor, Moves, Tries, after}
 use Rattle.decoder.proofs.Moving.{moved-congruent}
 
 -- Parities by number.
@@ -41,56 +39,63 @@ places-are p zero h = omega arith
 places-are p (suc zero) h = omega arith
 places-are p (suc (suc j)) h = absurd (omega arith)
 
-other-side : (parity : ℕ) → parity ≤ 1 → isFirst (1 - parity) ≡ not (isFirst parity)
-other-side zero h = refl
-other-side (suc zero) h = refl
-other-side (suc (suc j)) h = absurd (omega arith)
+not-first : (parity : ℕ) → (parity ≡ 0 → ⊥) → isFirst parity ≡ false
+not-first zero z = absurd (z refl)
+not-first (suc parity) z = refl
 
--- the multiples for the parity and those for the other
-pub moves-are : (t : Row) (s : Totals) (parity : ℕ) {x y : List ℕ} → parity ≤ 1
-    → Multiples (t .q) x × (getD x 1 0 ≡ factor (t .q) (s .lack) (isFirst parity))
-    → Multiples (t .q) y × (getD y 1 0 ≡ factor (t .q) (s .lack) (isFirst (1 - parity))) → Moves t s parity x y
-moves-are t s parity h f g =
-    record { first-table = f .0; second-table = g .0; first-by = f .1; second-by = g .1 ∙ ap (factor (t .q) (s .lack)) (other-side parity h) }
+-- the multiples of the lack and of its negative move the syndromes, by the parity
+module _ (x : Search) {more less : List ℕ} {f : ℕ} (m : Multiples (x .row .q) more × (getD more 1 0 ≡ x .s .lack))
+    (l : Multiples (x .row .q) less × (getD less 1 0 ≡ f)) (e : f ≡ minus (x .row .q) 0 (x .s .lack)) where
+  pub moves-odd : x .parity ≡ 0 → Moves x less more
+  moves-odd z = record { first-table = l .0; second-table = m .0; first-by = rw z (l .1 ∙ e); second-by = rw z (m .1) }
 
-pub factor-odd : (q e parity : ℕ) → parity ≡ 0 → minus q 0 e ≡ factor q e (isFirst parity)
-factor-odd q e parity z = rw z
+  pub moves-even : (x .parity ≡ 0 → ⊥) → Moves x more less
+  moves-even z =
+      let even : parityOf x ≡ false = not-first (x .parity) z in
+      record { first-table = m .0; second-table = l .0; first-by = rw even (m .1); second-by = rw even (l .1 ∙ e) }
 
-pub factor-even : (q e parity : ℕ) → (parity ≡ 0 → ⊥) → e ≡ factor q e (isFirst parity)
-factor-even q e zero z = absurd (z refl)
-factor-even q e (suc parity) z = refl
-
-module _ {t : Row} {s : Totals} (w : Totalled t s) where
-  pub off-odd : (parity : ℕ) → parity ≡ 0 → {y : ℕ} → y ≡ (s .asked .alpha + s .lack) % t .q
-      → eqb y (s .arrived .alpha) ≡ offByLack (parameters t) (sumsOf t s) (isFirst parity)
+-- the check symbol of the parity
+module _ (x : Search) (w : Totalled (x .row) (x .s)) {y : ℕ} where
+  pub off-odd : x .parity ≡ 0 → y ≡ (x .s .asked .alpha + x .s .lack) % x .row .q
+      → eqb y (x .s .arrived .alpha) ≡ offByLack (parametersOf x) (sumsIn x) (parityOf x)
   unfolding offByLack
-  off-odd parity z e = rw (z, ← w .lacks, e)
+  off-odd z e = rw (z, ← w .lacks, e)
 
-  pub off-even : (parity : ℕ) → (parity ≡ 0 → ⊥) → {y : ℕ} → y ≡ (s .asked .beta + s .lack) % t .q
-      → eqb y (s .arrived .beta) ≡ offByLack (parameters t) (sumsOf t s) (isFirst parity)
+  pub off-even : (x .parity ≡ 0 → ⊥) → y ≡ (x .s .asked .beta + x .s .lack) % x .row .q
+      → eqb y (x .s .arrived .beta) ≡ offByLack (parametersOf x) (sumsIn x) (parityOf x)
   unfolding offByLack
-  off-even zero z e = absurd (z refl)
-  off-even (suc parity) z e = rw (← w .lacks, e)
+  off-even z e = rw (not-first (x .parity) z, ← w .lacks, e)
 
-module _ {t : Row} (v : Valid t) {s : Totals} (w : Totalled t s) (S : List ℕ) (k : ℕ) where
+-- A syndrome with a multiple of its column added is the one after the correction.
+module _ {x : Search} {columns : List (List ℕ)} {F G : List ℕ} (a : Tries x columns F G) (k : ℕ) (S : List ℕ) where
   -- less a column
-  less : {f : ℕ} (a : ℕ) → f ≡ minus (t .q) 0 (s .lack) → moved (parameters t) f a S ≡ moved (parameters t) (t .q - s .lack) a S
-  less {f} a e =
-      let g : f ≡ (0 + (t .q - s .lack)) % t .q = e ∙ sym (minus-is (t .q) 0 (s .lack) (q-positive (parameters t) (v .sized)) (omega (arith, w .lack-below))) in
-      moved-congruent (parameters t) a S (of-eq g then reduce (t .q) (0 + (t .q - s .lack)) then of-eq (zero-add (t .q - s .lack)))
+  less : {f : ℕ} → f ≡ minus (x .row .q) 0 (x .s .lack)
+      → moved (parametersOf x) f (suc k) S ≡ moved (parametersOf x) (x .row .q - x .s .lack) (suc k) S
+  less {f} f-is =
+      let q : ℕ = x .row .q in
+      let e : ℕ = x .s .lack in
+      let some : 1 ≤ q = q-positive (parametersOf x) (a .given .valid .sized) in
+      let g : f ≡ (0 + (q - e)) % q = f-is ∙ sym (minus-is q 0 e some (omega (arith, a .given .totalled .lack-below))) in
+      moved-congruent (parametersOf x) (suc k) S (of-eq g then reduce q (0 + (q - e)) then of-eq (zero-add (q - e)))
 
-  pub first-moved : {parity : ℕ} {x y : List ℕ} → Moves t s parity x y
-      → moved (parameters t) (getD x 1 0) (k + 1) S ≡ movedOf (parameters t) true (isFirst parity) k (gain (parameters t) (sumsOf t s)) S
+  pub first-moved : moved (parametersOf x) (getD F 1 0) (k + 1) S ≡ after x k true S
   unfolding movedOf
-  first-moved {parity = zero} m = rw (← w .lacks, add-one) (less (suc k) (m .first-by))
-  first-moved {parity = suc parity} m = rw (← w .lacks, add-one, m .first-by)
+  first-moved = go (x .parity) (a .moves .first-by)
+    where
+      go : (parity : ℕ) {f : ℕ} → f ≡ factor (x .row .q) (x .s .lack) (isFirst parity)
+          → moved (parametersOf x) f (k + 1) S ≡ movedOf (parametersOf x) true (isFirst parity) k (gain (parametersOf x) (sumsIn x)) S
+      go zero f-is = rw (← a .given .totalled .lacks, add-one) (less f-is)
+      go (suc parity) f-is = rw (← a .given .totalled .lacks, add-one, f-is)
 
-  pub second-moved : {parity : ℕ} {x y : List ℕ} → parity ≤ 1 → Moves t s parity x y
-      → moved (parameters t) (getD y 1 0) (k + parity) S ≡ movedOf (parameters t) false (isFirst parity) k (gain (parameters t) (sumsOf t s)) S
+  pub second-moved : moved (parametersOf x) (getD G 1 0) (k + x .parity) S ≡ after x k false S
   unfolding movedOf
-  second-moved {parity = zero} h m = rw (← w .lacks, add-zero, m .second-by)
-  second-moved {parity = suc zero} h m = rw (← w .lacks, add-one) (less (suc k) (m .second-by))
-  second-moved {parity = suc (suc j)} h m = absurd (omega arith)
+  second-moved = go (x .parity) (a .given .parity-number) (a .moves .second-by)
+    where
+      go : (parity : ℕ) → parity ≤ 1 → {f : ℕ} → f ≡ factor (x .row .q) (x .s .lack) (not (isFirst parity))
+          → moved (parametersOf x) f (k + parity) S ≡ movedOf (parametersOf x) false (isFirst parity) k (gain (parametersOf x) (sumsIn x)) S
+      go zero h f-is = rw (← a .given .totalled .lacks, add-zero, f-is)
+      go (suc zero) h f-is = rw (← a .given .totalled .lacks, add-one) (less f-is)
+      go (suc (suc j)) h f-is = absurd (omega arith)
 
 -- A position fits where it passes the three tests.
 module _ (p : Parameters) (S : Sums) (b : Bool) (k x : ℕ) where
@@ -127,7 +132,11 @@ module _ (p : Parameters) (S : Sums) (word : List ℕ) (parity : ℕ) (h : parit
   abbrev testAt : ℕ → Bool
   testAt k = fits p S (isFirst parity) k (getD word (2 * k + parity) 0)
 
-  same : (k : ℕ) → fits p S (isFirst parity) k (getD word (index (isFirst parity) k) 0) ≡ testAt k
+  -- as the definition has it
+  abbrev testOf : ℕ → Bool
+  testOf k = fits p S (isFirst parity) k (getD word (index (isFirst parity) k) 0)
+
+  same : (k : ℕ) → testOf k ≡ testAt k
   same k = ap (λ (i : ℕ). fits p S (isFirst parity) k (getD word i 0)) (index-is parity k h)
 
   pub first-found : (k : ℕ) → k < p .n + 1 - parity → ((j : ℕ) → j < k → testAt j ≡ false) → testAt k ≡ true
@@ -135,8 +144,7 @@ module _ (p : Parameters) (S : Sums) (word : List ℕ) (parity : ℕ) (h : parit
   unfolding firstFit
   first-found k l f e =
       let m : k < places p (isFirst parity) = omega (arith, places-are p parity h) in (
-        least-is (λ k. fits p S (isFirst parity) k (getD word (index (isFirst parity) k) 0)) (places p (isFirst parity)) k m (holds _ (same k ∙ e))
-            (λ j i. false-test (same j ∙ f j i)),
+        least-is testOf (places p (isFirst parity)) k m (holds _ (same k ∙ e)) (λ j i. false-test (same j ∙ f j i)),
         m,
       )
 
@@ -144,8 +152,7 @@ module _ (p : Parameters) (S : Sums) (word : List ℕ) (parity : ℕ) (h : parit
       → firstFit p S (isFirst parity) word ≡ places p (isFirst parity)
   unfolding firstFit
   none-found k l f =
-      least-none (λ k. fits p S (isFirst parity) k (getD word (index (isFirst parity) k) 0)) (places p (isFirst parity))
-      (λ j i. same j ∙ f j (omega (arith, places-are p parity h)))
+      least-none testOf (places p (isFirst parity)) (λ j i. same j ∙ f j (omega (arith, places-are p parity h)))
 
   -- nothing fits where the check symbol is off by something else than the weight
   pub none-off : offByLack p S (isFirst parity) ≡ false → firstFit p S (isFirst parity) word ≡ places p (isFirst parity)

@@ -70,15 +70,16 @@ module _ (t : Row) (v : Valid t) where
     zero-from : FourRows t s → T (zeroSyndrome (parameters t) (rowsOf t s)) → (j : ℕ) → j < 4 → getD s j 0 ≡ 0
     unfolding zeroSyndrome
     zero-from w h j l =
-        ⊎-elim (λ (k : t .r - 1 ≤ j). past j k l) (λ (k : j < t .r - 1). sym (rows-digit s j k) ∙ at j (omega arith)) (le-or-lt (t .r - 1) j)
+        ⊎-elim (λ (k : t .r - 1 ≤ j). past j k l) (λ (k : j < t .r - 1). sym (rows-digit s j k) ∙ at j (omega arith))
+        (le-or-lt (t .r - 1) j)
       where
         at : (i : ℕ) → i < t .r → getD (rowsOf t s) i 0 ≡ 0
         at i k = eqb→eq _ 0 (all-at (λ j. eqb (getD (rowsOf t s) j 0) 0) (t .r) h i k)
 
         past : (i : ℕ) → t .r - 1 ≤ i → i < 4 → getD s i 0 ≡ 0
         past i k m =
-            ⊎-elim (λ (g : 3 ≤ i). let e : i ≡ 3 = omega arith in rw e (sym (rows-last s) ∙ at (t .r - 1) (last-below (parameters t) (v .sized))))
-            (λ (g : i < 3). w .unused i k g) (le-or-lt 3 i)
+            let last : getD s 3 0 ≡ 0 = sym (rows-last s) ∙ at (t .r - 1) (last-below (parameters t) (v .sized)) in
+            ⊎-elim (λ (g : 3 ≤ i). let e : i ≡ 3 = omega arith in rw e last) (λ (g : i < 3). w .unused i k g) (le-or-lt 3 i)
 
     pub zero-same : FourRows t s → zeroRows s ≡ zeroSyndrome (parameters t) (rowsOf t s)
     unfolding zeroRows

@@ -13,7 +13,8 @@ pub symbols-take : (q m : ℕ) (c : List ℕ) → T (symbolsBelow q c) → T (sy
 symbols-take q zero c t = tt
 symbols-take q (suc m) [] t = tt
 symbols-take q (suc m) (x ∷ xs) t =
-    and-intro (ltb x q) (symbolsBelow q (take m xs)) (and-left (ltb x q) (symbolsBelow q xs) t) (symbols-take q m xs (and-right (ltb x q) (symbolsBelow q xs) t))
+    let rest = symbols-take q m xs (and-right (ltb x q) (symbolsBelow q xs) t) in
+    and-intro (ltb x q) (symbolsBelow q (take m xs)) (and-left (ltb x q) (symbolsBelow q xs) t) rest
 
 -- symbols below q, of at most 15 levels, weigh at most 14 each
 pub weight-small : (q : ℕ) → q ≤ 15 → (c : List ℕ) → T (symbolsBelow q c) → weight c ≤ 14 * length c

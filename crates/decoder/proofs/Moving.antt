@@ -24,7 +24,8 @@ use Rattle.profiles.specs.Row.{parameters, Valid}
 use Rattle.symbols.specs.Columns.{Columns}
 use Rattle.syndromes.specs.FourRows.{zeroRows}
 use Rattle.syndromes.proofs.Rows.{zero-not}
-use Rattle.decoder.specs.Rows.{FourRows, rowIndex, rowsOf, movedRows}
+use Rattle.decoder.specs.Multiples.{Multiples}
+use Rattle.decoder.specs.Rows.{FourRows, rowIndex, rowsOf, movedRows, Movable, Moved}
 use Rattle.symbols.proofs.Counting.{digit-below}
 use Rattle.symbols.proofs.Digits.{digits-same, digits-high}
 use Rattle.decoder.proofs.FourRows.{row-cases, rows-digit, rows-last, zero-same}
@@ -64,12 +65,28 @@ module _ (t : Row) (v : Valid t) where
       at j (inl e) = ap (λ (i : ℕ). getD (rowsOf t s) i 0) e ∙ rows-last t v s ∙ l ∙ ap g (sym e)
       at j (inr h) = rows-digit t v s j h ∙ d j h
 
-  -- a digit of a column of the matrix
-  pub column-level : {columns : List (List ℕ)} → Columns (t .q) (t .n) columns → (a : ℕ) → a ≢ 0 → a ≤ t .n → (j : ℕ) → getD (getD columns (a - 1) []) j 0 < t .q
-  column-level k a z l j = digit-below (q-positive (parameters t) (v .sized)) k (a - 1) j (omega arith)
+  -- what a column of the matrix asks
+  pub movable : {columns : List (List ℕ)} → Columns (t .q) (t .n) columns → {s : List ℕ} → FourRows t s → {table : List ℕ}
+      → Multiples (t .q) table → (a : ℕ) → a ≢ 0 → a ≤ t .n → Movable (t .q) (getD columns (a - 1) []) s table
+  movable {columns} k w m a z l =
+      record {
+        some = omega (arith, v .sized .levels);
+        levels = v .levels;
+        first-digit = digit 0;
+        second-digit = digit 1;
+        third-digit = digit 2;
+        low = w .below 0 (omega arith);
+        middle = w .below 1 (omega arith);
+        high = w .below 2 (omega arith);
+        ones = w .below 3 (omega arith);
+        table = m;
+      }
+    where
+      digit : (j : ℕ) → getD (getD columns (a - 1) []) j 0 < t .q
+      digit j = digit-below (q-positive (parameters t) (v .sized)) k (a - 1) j (omega arith)
 
   module _ (s : List ℕ) (w : FourRows t s) (f : ℕ) where
-    pub moved-none : (a : ℕ) → (a ≡ 0) ⊎ (t .n < a) → rowsOf t s ≡ moved (parameters t) f a (rowsOf t s)
+    moved-none : (a : ℕ) → (a ≡ 0) ⊎ (t .n < a) → rowsOf t s ≡ moved (parameters t) f a (rowsOf t s)
     unfolding moved
     moved-none a h =
         rows-are s (λ j. (getD (rowsOf t s) j 0 + f * columnEntry (parameters t) j a) % t .q)
@@ -79,6 +96,9 @@ module _ (t : Row) (v : Valid t) where
         still : (j i : ℕ) → getD (rowsOf t s) j 0 ≡ getD s i 0 → i < 4
             → (getD (rowsOf t s) j 0 + f * columnEntry (parameters t) j a) % t .q ≡ getD s i 0
         still j i e l = rw (e, entry-none (parameters t) j a h, mul-zero, add-zero) (mod-eq-of-lt (w .below i l))
+
+    pub moved-still : (a : ℕ) → (a ≡ 0) ⊎ (t .n < a) → Moved t f a s s
+    moved-still a h = record { levels = w; are = moved-none a h }
 
     pub zero-none : (a : ℕ) → (a ≡ 0) ⊎ (t .n < a) → zeroRows s ≡ zeroSyndrome (parameters t) (moved (parameters t) f a (rowsOf t s))
     zero-none a h = zero-same t v s w ∙ ap (zeroSyndrome (parameters t)) (moved-none a h)
@@ -93,9 +113,9 @@ module _ (t : Row) (v : Valid t) where
 
       moved-some : ((j : ℕ) → j < 3 → getD d j 0 ≡ (getD s j 0 + f * getD (getD columns i []) j 0) % t .q)
           → getD d 3 0 ≡ (getD s 3 0 + f * 1) % t .q
-          → FourRows t d × (rowsOf t d ≡ moved (parameters t) f (suc i) (rowsOf t s))
+          → Moved t f (suc i) s d
       unfolding moved digit
-      moved-some e l = (record { below = below; unused = unused }, rows-are d rows digits-are last-is)
+      moved-some e l = record { levels = record { below = below; unused = unused }; are = rows-are d rows digits-are last-is }
         where
           rows : ℕ → ℕ
           rows j = (getD (rowsOf t s) j 0 + f * columnEntry (parameters t) j (suc i)) % t .q
@@ -103,12 +123,14 @@ module _ (t : Row) (v : Valid t) where
           below : (j : ℕ) → j < 4 → getD d j 0 < t .q
           below j m =
               let q : 1 ≤ t .q = q-positive (parameters t) (v .sized) in
-              ⊎-elim (λ (g : 3 ≤ j). let z : j ≡ 3 = omega arith in rw (z, l) (mod-lt _ q)) (λ (g : j < 3). rw (e j g) (mod-lt _ q)) (le-or-lt 3 j)
+              ⊎-elim (λ (g : 3 ≤ j). let z : j ≡ 3 = omega arith in rw (z, l) (mod-lt _ q)) (λ (g : j < 3). rw (e j g) (mod-lt _ q))
+              (le-or-lt 3 j)
 
           unused : (j : ℕ) → t .r - 1 ≤ j → j < 3 → getD d j 0 ≡ 0
           unused j m n =
               let z : digit j ≡ 0 = digit-is j
-              ∙ digits-high (t .q) (t .r - 1) 3 (suc i) j (q-positive (parameters t) (v .sized)) (le-trans (suc-le-suc h) (v .sized .columns)) m in
+              ∙ digits-high (t .q) (t .r - 1) 3 (suc i) j (q-positive (parameters t) (v .sized))
+              (le-trans (suc-le-suc h) (v .sized .columns)) m in
               e j n ∙ rw (w .unused j m n, z, mul-zero) (zero-mod (t .q))
 
           digits-are : (j : ℕ) → j < t .r - 1 → getD d j 0 ≡ rows j
@@ -123,12 +145,11 @@ module _ (t : Row) (v : Valid t) where
 
     module _ {columns : List (List ℕ)} (k : Columns (t .q) (t .n) columns) (a : ℕ) (z : a ≢ 0) (l : a ≤ t .n) where
       -- the four rows so moved
-      pub moved-column : {d : List ℕ} → d ≡ movedRows (t .q) f (getD columns (a - 1) []) s
-          → FourRows t d × (rowsOf t d ≡ moved (parameters t) f a (rowsOf t s))
+      pub moved-column : {d : List ℕ} → d ≡ movedRows (t .q) f (getD columns (a - 1) []) s → Moved t f a s d
       moved-column {d} g =
           let e : suc (a - 1) ≡ a = omega arith in
           let m = moved-some k (a - 1) (omega arith) d digit-rows (ap (λ (x : List ℕ). getD x 3 0) g) in
-          (m .0, m .1 ∙ ap (λ (x : ℕ). moved (parameters t) f x (rowsOf t s)) e)
+          record { levels = m .levels; are = m .are ∙ ap (λ (x : ℕ). moved (parameters t) f x (rowsOf t s)) e }
         where
           digit-rows : (j : ℕ) → j < 3 → getD d j 0 ≡ (getD s j 0 + f * getD (getD columns (a - 1) []) j 0) % t .q
           digit-rows zero h = ap (λ (x : List ℕ). getD x 0 0) g
@@ -136,10 +157,12 @@ module _ (t : Row) (v : Valid t) where
           digit-rows (suc (suc zero)) h = ap (λ (x : List ℕ). getD x 2 0) g
           digit-rows (suc (suc (suc j))) h = absurd (omega arith)
 
-      pub zero-column : zeroRows (movedRows (t .q) f (getD columns (a - 1) []) s) ≡ zeroSyndrome (parameters t) (moved (parameters t) f a (rowsOf t s))
+      pub zero-column : zeroRows (movedRows (t .q) f (getD columns (a - 1) []) s)
+          ≡ zeroSyndrome (parameters t) (moved (parameters t) f a (rowsOf t s))
       zero-column =
-          let m = moved-column {d = movedRows (t .q) f (getD columns (a - 1) []) s} refl in
-          zero-same t v (movedRows (t .q) f (getD columns (a - 1) []) s) (m .0) ∙ ap (zeroSyndrome (parameters t)) (m .1)
+          let d = movedRows (t .q) f (getD columns (a - 1) []) s in
+          let m = moved-column {d = d} refl in
+          zero-same t v d (m .levels) ∙ ap (zeroSyndrome (parameters t)) (m .are)
 
 -- four rows, one by one
 pub four-equal : {a b c d a′ b′ c′ d′ : ℕ} → a ≡ a′ → b ≡ b′ → c ≡ c′ → d ≡ d′ → a ∷ b ∷ c ∷ d ∷ [] ≡ a′ ∷ b′ ∷ c′ ∷ d′ ∷ []

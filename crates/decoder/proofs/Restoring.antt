@@ -30,22 +30,27 @@ use Rattle.symbols.proofs.Parts.{part-first, part-second}
 use Rattle.decoder.specs.Rows.{rowsOf}
 use Rattle.decoder.specs.Sides.{isFirst}
 use Rattle.decoder.specs.Received.{Body}
-use Rattle.decoder.specs.Written.{Restored, Messages, Written}
+use Rattle.decoder.specs.Outputs.{Restored, Messages, RestoredMessages}
 use Rattle.decoder.proofs.Moving.{rows-are}
 
-module _ (t : Row) (v : Valid t) (c s : List ℕ) (n : length c ≤ t .n) (e : (j : ℕ) → j < 4 → getD s j 0 ≡ syndrome (fourRows (t .q) (t .n)) c j) where
+module _ (t : Row) (v : Valid t) (c s : List ℕ) (n : length c ≤ t .n)
+    (e : (j : ℕ) → j < 4 → getD s j 0 ≡ syndrome (fourRows (t .q) (t .n)) c j) where
+  abbrev four : Parameters
+  four = fourRows (t .q) (t .n)
+
   -- a row among four that agrees with one among r
-  agree : (j k : ℕ) → j < 4 → ((i : ℕ) → i < t .n → checkRow (fourRows (t .q) (t .n)) j i ≡ checkRow (parameters t) k i) → getD s j 0 ≡ syndrome (parameters t) c k
+  agree : (j k : ℕ) → j < 4 → ((i : ℕ) → i < t .n → checkRow four j i ≡ checkRow (parameters t) k i)
+      → getD s j 0 ≡ syndrome (parameters t) c k
   unfolding syndrome
-  agree j k h f = e j h ∙ ap (λ (x : ℕ). x % t .q) (dot-same (checkRow (fourRows (t .q) (t .n)) j) (checkRow (parameters t) k) c (λ i l. f i (omega arith)))
+  agree j k h f = e j h ∙ ap (λ (x : ℕ). x % t .q) (dot-same (checkRow four j) (checkRow (parameters t) k) c (λ i l. f i (omega arith)))
 
   -- the r rows are the syndrome
   pub four-are : rowsOf t s ≡ syndromes (parameters t) c
   four-are =
       rows-are t v s (syndrome (parameters t) c)
-      (λ j h. agree j j (omega (arith, v .checks)) (λ i l. digit-row (fourRows (t .q) (t .n)) j i (omega (arith, v .checks))
+      (λ j h. agree j j (omega (arith, v .checks)) (λ i l. digit-row four j i (omega (arith, v .checks))
       ∙ digits-same (t .q) 3 (t .r - 1) (suc i) j (omega (arith, v .checks)) h ∙ sym (digit-row (parameters t) j i h)))
-      (agree 3 (t .r - 1) (omega arith) (λ i l. last-row (fourRows (t .q) (t .n)) i ∙ sym (last-row (parameters t) i)))
+      (agree 3 (t .r - 1) (omega arith) (λ i l. last-row four i ∙ sym (last-row (parameters t) i)))
 
 -- One symbol of a component set in the array of both.
 module _ (n : ℕ) (x : List ℕ) (i y : ℕ) (h : i < n) where
@@ -82,7 +87,9 @@ part-at n x i (suc (suc side)) h l = absurd (omega arith)
 module _ (p : Parameters) (S : List ℕ) (z : zeroSyndrome p S ≡ false) (near : T (nearSyndrome p S)) where
   names : T (columnSyndrome p S)
   unfolding nearSyndrome
-  names = ⊎-elim (λ (h : T (zeroSyndrome p S)). absurd (false-test z h)) (λ (h : T (columnSyndrome p S)). h) (or-cases (zeroSyndrome p S) (columnSyndrome p S) near)
+  names =
+      ⊎-elim (λ (h : T (zeroSyndrome p S)). absurd (false-test z h)) (λ (h : T (columnSyndrome p S)). h)
+      (or-cases (zeroSyndrome p S) (columnSyndrome p S) near)
 
   position-some : 1 ≤ columnPosition p S
   position-some = named p S names .some
@@ -95,43 +102,50 @@ module _ {t : Row} {x : List ℕ} (b : Body t x) (S : List ℕ) where
   unfolding restoredBy
   restored-same side z = record { levels = b; this = rw (z, restoredBy); other = refl }
 
-  module _ (z : zeroSyndrome (parameters t) S ≡ false) (near : T (nearSyndrome (parameters t) S)) {at : ℕ} (e : at ≡ columnPosition (parameters t) S)
-      {side : ℕ} (l : side ≤ 1) where
+  module _ (z : zeroSyndrome (parameters t) S ≡ false) (near : T (nearSyndrome (parameters t) S)) {at : ℕ}
+      (e : at ≡ columnPosition (parameters t) S) {side : ℕ} (l : side ≤ 1) where
+    -- the component, and the index in the array of its symbol that is too high
+    abbrev component : List ℕ
+    component = part (isFirst side) (t .n) x
+
+    abbrev i : ℕ
+    i = 2 * at - 1 + side
+
     inside : at - 1 < t .n
     inside = omega (arith, position-some (parameters t) S z near, position-within (parameters t) S z near)
 
     pub lowered-some : 1 ≤ at
     lowered-some = omega (arith, position-some (parameters t) S z near)
 
-    -- the index of the symbol that is too high
-    pub lowered-within : 2 * at - 1 + side < t .balanced
+    pub lowered-within : i < t .balanced
     lowered-within = omega (arith, inside, lowered-some, b .valid .balanced)
 
-    pub restored-lowered : {y : ℕ} → (y ≡ minus (t .q) (getD x (2 * at - 1 + side) 0) 1) × (y < t .q)
-        → Restored t S (isFirst side) x (set x (2 * at - 1 + side) y)
+    pub restored-lowered : {y : ℕ} → (y ≡ minus (t .q) (getD x i 0) 1) × (y < t .q) → Restored t S (isFirst side) x (set x i y)
     unfolding restoredBy
     restored-lowered {y} g =
-        let f : 2 * at - 1 + side ≡ 2 * (at - 1) + 1 + side = omega (arith, lowered-some) in
-        let h : y ≡ minus (t .q) (getD (part (isFirst side) (t .n) x) (at - 1) 0) 1 =
-        g .0 ∙ ap (λ (v : ℕ). minus (t .q) v 1) (ap (λ (i : ℕ). getD x i 0) f ∙ sym (part-at (t .n) x (at - 1) side inside l)) in
+        let f : i ≡ 2 * (at - 1) + 1 + side = omega (arith, lowered-some) in
+        let h : y ≡ minus (t .q) (getD component (at - 1) 0) 1 =
+        g .0 ∙ ap (λ (v : ℕ). minus (t .q) v 1) (ap (λ (j : ℕ). getD x j 0) f ∙ sym (part-at (t .n) x (at - 1) side inside l)) in
         record {
-          levels = record { valid = b .valid; size = length-set x (2 * at - 1 + side) y ∙ b .size; below = λ j m. below j m (ℕ-discrete j (2 * at - 1 + side)) };
+          levels = record { valid = b .valid; size = length-set x i y ∙ b .size; below = λ j m. below j m (ℕ-discrete j i) };
           this =
-              ap (λ (i : ℕ). part (isFirst side) (t .n) (set x i y)) f
+              ap (λ (j : ℕ). part (isFirst side) (t .n) (set x j y)) f
               ∙ part-set (t .n) x (at - 1) y inside side l
-              ∙ ap₂ (λ (i v : ℕ). set (part (isFirst side) (t .n) x) (i - 1) v) e h
-              ∙ ap (λ (i : ℕ). set (part (isFirst side) (t .n) x) (columnPosition (parameters t) S - 1) (minus (t .q) (getD (part (isFirst side) (t .n) x) (i - 1) 0) 1)) e
+              ∙ ap₂ (λ (j v : ℕ). set component (j - 1) v) e h
+              ∙ ap (λ (j : ℕ). set component (columnPosition (parameters t) S - 1) (minus (t .q) (getD component (j - 1) 0) 1)) e
               ∙ rw (z, restoredBy);
-          other = ap (λ (i : ℕ). part (not (isFirst side)) (t .n) (set x i y)) f ∙ part-kept (t .n) x (at - 1) y inside side l;
+          other = ap (λ (j : ℕ). part (not (isFirst side)) (t .n) (set x j y)) f ∙ part-kept (t .n) x (at - 1) y inside side l;
         }
       where
-        below : (j : ℕ) → j < t .balanced → Dec (j ≡ 2 * at - 1 + side) → getD (set x (2 * at - 1 + side) y) j 0 < t .q
-        below j m (yes i) = let k : 2 * at - 1 + side < length x = omega (arith, lowered-within, b .size, b .valid .balanced, b .valid .length) in rw (i, getD-set-same x (2 * at - 1 + side) y 0 k) (g .1)
-        below j m (no n) = rw (getD-set-other x (2 * at - 1 + side) j y 0 n) (b .below j m)
+        below : (j : ℕ) → j < t .balanced → Dec (j ≡ i) → getD (set x i y) j 0 < t .q
+        below j m (yes j-is) =
+            let k : i < length x = omega (arith, lowered-within, b .size, b .valid .balanced, b .valid .length) in
+            rw (j-is, getD-set-same x i y 0 k) (g .1)
+        below j m (no n) = rw (getD-set-other x i j y 0 n) (b .below j m)
 
 -- the messages of both components restored, one after the other
 pub written-by : {t : Row} {S S′ x y z first second : List ℕ} → Restored t S true x y → Restored t S′ false y z → Messages t z first second
-    → Written (parameters t) (part true (t .n) x) (part false (t .n) x) S S′ first second
+    → RestoredMessages (parameters t) (part true (t .n) x) (part false (t .n) x) S S′ first second
 written-by {t} {S} {S′} a b m =
     record {
       first-is = m .first-is ∙ ap (message (parameters t)) (b .other ∙ a .this);

@@ -29,7 +29,7 @@ use Rattle.symbols.proofs.Parts.{part-length}
 use Rattle.symbols.proofs.Rows.{sums-are}
 use Rattle.decoder.specs.declared.totals.Totals.{Totals}
 use Rattle.decoder.specs.Rows.{FourRows, rowsOf}
-use Rattle.decoder.specs.Totals.{Apart, checkOf, sumsOf, Totalled}
+use Rattle.decoder.specs.Totals.{Word, Components, checkOf, sumsOf, Totalled}
 use Rattle.decoder.proofs.Levels.{symbols-take, weight-small}
 use Rattle.decoder.proofs.FourRows.{four-rows}
 use Rattle.decoder.proofs.Restoring.{four-are}
@@ -46,44 +46,44 @@ middle-small {t} v =
     let l : t .balanced * (t .q - 1) ≤ 1358 = mul-le-mul m q in
     omega (arith, v .middle)
 
-module _ {t : Row} {word w x : List ℕ} (a : Apart t word w x) where
+module _ {t : Row} {word x : List ℕ} (is : Word t word) (held : Components t word x) where
   q₁ : 1 ≤ t .q
-  q₁ = q-positive (parameters t) (a .is .valid .sized)
+  q₁ = q-positive (parameters t) (is .valid .sized)
 
   body-long : length (body (parameters t) word) ≡ balancedLength (parameters t)
-  body-long = body-length (parameters t) word (a .is .long)
+  body-long = body-length (parameters t) word (is .long)
 
   body-light : weight (body (parameters t) word) ≤ 1358
   unfolding body
   body-light =
-      let below = symbols-take (t .q) (balancedLength (parameters t)) word (a .is .below) in
-      omega (arith, weight-small (t .q) (a .is .valid .levels) (body (parameters t) word) below, body-long, a .is .valid .length)
+      let below = symbols-take (t .q) (balancedLength (parameters t)) word (is .below) in
+      let light = weight-small (t .q) (is .valid .levels) (body (parameters t) word) below in
+      omega (arith, light, body-long, is .valid .length)
 
-  -- the array begins with the body
   room : t .balanced ≤ 97
-  room = omega (arith, a .is .valid .balanced, a .is .valid .length)
+  room = omega (arith, is .valid .balanced, is .valid .length)
 
-  begins : take (t .balanced) w ≡ body (parameters t) word
+  begins : take (t .balanced) word ≡ body (parameters t) word
   unfolding body
-  begins = a .copy ∙ ap (λ (m : ℕ). take m word) (a .is .valid .balanced)
+  begins = ap (λ (m : ℕ). take m word) (is .valid .balanced)
 
-  copy-is : take (min (t .balanced) 97) w ≡ body (parameters t) word
-  copy-is = ap (λ (m : ℕ). take m w) (min-eq-left room) ∙ begins
+  copy-is : take (min (t .balanced) 97) word ≡ body (parameters t) word
+  copy-is = ap (λ (m : ℕ). take m word) (min-eq-left room) ∙ begins
 
   -- The weight and the check symbols that the body asks for, by the sums over its odd and its even positions.
-  module _ {k : Weight} (e : k ≡ weightsOf (take (min (t .balanced) 97) w)) where
+  module _ {k : Weight} (e : k ≡ weightsOf (take (min (t .balanced) 97) word)) where
     pub weight-is : k .odd + k .even ≡ weight (body (parameters t) word)
     weight-is = rw (e, copy-is) (alternate-weight (body (parameters t) word))
 
     pub asked-are : {c : Checks} → c ≡ checksOf (t .q) (t .delta) k
         → (b : Bool) → checkOf c b ≡ checkSymbol (t .q) b (body (parameters t) word)
     asked-are f b =
-        let long : length (take (t .balanced) w) ≡ t .balanced = ap length begins ∙ body-long ∙ sym (a .is .valid .balanced) in
-        let is = f ∙ ap (checksOf (t .q) (t .delta)) e ∙ checks-are w q₁ room long (a .is .valid .delta) in
+        let long : length (take (t .balanced) word) ≡ t .balanced = ap length begins ∙ body-long ∙ sym (is .valid .balanced) in
+        let is = f ∙ ap (checksOf (t .q) (t .delta)) e ∙ checks-are word q₁ room long (is .valid .delta) in
         at b (ap (λ (c : Checks). checkOf c b) is)
       where
         l : List ℕ
-        l = take (t .balanced) w
+        l = take (t .balanced) word
 
         at : (b : Bool) {y : ℕ} → y ≡ checkOf (record { alpha = alpha (t .q) l; beta = beta (t .q) l }) b → y ≡ checkSymbol (t .q) b (body (parameters t) word)
         at true h = h ∙ ap (alpha (t .q)) begins
@@ -95,10 +95,10 @@ module _ {t : Row} {word w x : List ℕ} (a : Apart t word w x) where
       → FourRows t s × (rowsOf t s ≡ syndromes (parameters t) (received (parameters t) b word))
   rows-of-part {columns} k b {s} e =
       let c : List ℕ = part b (t .n) x in
-      let f : s ≡ rowSums (t .q) columns c = e ∙ ap (λ (n : ℕ). rowSums (t .q) columns (part b n x)) (min-eq-left (a .is .valid .length)) in
+      let f : s ≡ rowSums (t .q) columns c = e ∙ ap (λ (n : ℕ). rowSums (t .q) columns (part b n x)) (min-eq-left (is .valid .length)) in
       let n : length c ≤ t .n = part-length b (t .n) x in (
-        rw f (four-rows t (a .is .valid) k c n),
-        rw f (four-are t (a .is .valid) c (rowSums (t .q) columns c) n (sums-are q₁ k c n)) ∙ ap (syndromes (parameters t)) (a .parts b),
+        rw f (four-rows t (is .valid) k c n),
+        rw f (four-are t (is .valid) c (rowSums (t .q) columns c) n (sums-are q₁ k c n)) ∙ ap (syndromes (parameters t)) (held .parts b),
       )
 
   -- the sums, as the code has them
@@ -111,8 +111,8 @@ module _ {t : Row} {word w x : List ℕ} (a : Apart t word w x) where
     totals-are f i h k = rw (e, asked-is, arrived-is, h, k)
       where
         arrived : (b : Bool) → checkOf (s .arrived) b ≡ getD word (checkIndex (parameters t) b) 0
-        arrived true = f ∙ ap (λ (m : ℕ). getD word m 0) (a .is .valid .balanced)
-        arrived false = i ∙ ap (λ (m : ℕ). getD word (m + 1) 0) (a .is .valid .balanced)
+        arrived true = f ∙ ap (λ (m : ℕ). getD word m 0) (is .valid .balanced)
+        arrived false = i ∙ ap (λ (m : ℕ). getD word (m + 1) 0) (is .valid .balanced)
 
         asked-is : _≡_ {A = Bool → ℕ} (checkOf (s .asked)) (λ b. checkSymbol (t .q) b (body (parameters t) word))
         asked-is = fun-ext g
@@ -127,7 +127,7 @@ module _ {t : Row} {word w x : List ℕ} (a : Apart t word w x) where
         let l : s .lack ≡ (t .middle + (t .q - 1) * s .weight) % t .q = d ∙ difference-is (t .middle) (s .weight) q₁ in
         record {
           light = omega (arith, e, body-light);
-          lacks = l ∙ ap (λ (m : ℕ). (m + (t .q - 1) * s .weight) % t .q) (middle-is (a .is .valid));
+          lacks = l ∙ ap (λ (m : ℕ). (m + (t .q - 1) * s .weight) % t .q) (middle-is (is .valid));
           lack-below = rw l (mod-lt (t .middle + (t .q - 1) * s .weight) q₁);
           asked-below = λ b. rw (g b) (check-below (t .q) q₁ b (body (parameters t) word));
           first-rows = f;

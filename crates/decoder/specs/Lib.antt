@@ -3,8 +3,9 @@ pub mod Rows
 pub mod Sides
 pub mod Received
 pub mod Totals
+pub mod Search
 pub mod Place
-pub mod Written
+pub mod Outputs
 pub mod Decode
 pub mod Steps
 pub mod Claims

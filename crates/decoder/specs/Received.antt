@@ -3,8 +3,7 @@
 use mathlib.Core.Path.{_≡_}
 use mathlib.Core.List.{List}
 use Prim.Native.Nat.{ℕ, _<_}
-use lib.ListN.{length, getD, take, drop}
-use Rattle.code.specs.Balance.{differences}
+use lib.ListN.{length, getD}
 use Rattle.profiles.specs.declared.row.Row.{Row}
 use Rattle.profiles.specs.Row.{parameters, Valid}
 
@@ -13,7 +12,3 @@ pub record Body (t : Row) (w : List ℕ) : Type 0 where
   pub valid : Valid t
   pub size : length w ≡ 97
   pub below : (i : ℕ) → i < t .balanced → getD w i 0 < t .q
-
--- x holds the differences of the body w, after a symbol that is not looked at
-abbrev pub Differenced : Row → List ℕ → List ℕ → Type 0
-Differenced t w x = drop 1 (take (t .balanced) x) ≡ differences (parameters t) (take (t .balanced) w)

@@ -7,7 +7,7 @@ use Prim.Native.Nat.{ℕ}
 use lib.Dec.{T}
 use Rattle.code.specs.Parameters.{Parameters}
 use Rattle.code.specs.Codeword.{received}
-use Rattle.code.specs.Reading.{clean, corrected, unreadable}
+use Rattle.code.specs.Reading.{Finding, clean, corrected, unreadable}
 use Rattle.code.specs.Operations.{answered}
 use Rattle.decoding.specs.Syndromes.{nearSyndromes}
 use Rattle.decoding.specs.Decoded.{Sums, readBy, decodedBalanced}
@@ -27,11 +27,14 @@ wrongParity true false = 1
 wrongParity false true = 0
 wrongParity false false = 2
 
--- r is what a balanced body with the sums s is read as: its components are then near codewords
+-- a balanced body with the sums s is read with the finding f: its components are then near codewords
+abbrev pub JudgedAs : Parameters → Sums → Finding → Type 0
+JudgedAs p s f = T (nearSyndromes p (s .first) (s .second)) × ((v : List ℕ) → decodedBalanced p s v ≡ readBy p f v (s .first) (s .second))
+
+-- r is what a balanced body with the sums s is read as
 abbrev pub Judged : Parameters → Sums → Decoded → Type 0
-Judged p s Clean = T (nearSyndromes p (s .first) (s .second)) × ((v : List ℕ) → decodedBalanced p s v ≡ readBy p clean v (s .first) (s .second))
-Judged p s (Corrected c) =
-    T (nearSyndromes p (s .first) (s .second)) × ((v : List ℕ) → decodedBalanced p s v ≡ readBy p (corrected (correctionOf c)) v (s .first) (s .second))
+Judged p s Clean = JudgedAs p s clean
+Judged p s (Corrected c) = JudgedAs p s (corrected (correctionOf c))
 Judged p s Unreadable = (v : List ℕ) → decodedBalanced p s v ≡ unreadable
 Judged p s (Refused k) = ⊥
 

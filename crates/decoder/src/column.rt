@@ -5,7 +5,7 @@ use residues::add;
 use symbols::Syndrome;
 use syndromes::is_zero;
 ghost use mathlib.Core.Path.{_≡_};
-ghost use Prim.Native.Nat.{ℕ, _+_, _*_, _%_, _≤_, _<_};
+ghost use Prim.Native.Nat.{_+_, _*_, _%_, _≤_, _<_};
 ghost use lib.ListN.{getD};
 ghost use Rattle.decoding.specs.Syndromes.{zeroSyndrome, moved};
 ghost use Rattle.profiles.specs.Row.{Valid, parameters};
@@ -13,7 +13,7 @@ ghost use Rattle.symbols.specs.Columns.{Columns};
 ghost use Rattle.symbols.specs.Syndromes.{rows};
 ghost use Rattle.syndromes.specs.FourRows.{zeroRows};
 ghost use Rattle.decoder.specs.Multiples.{Multiples};
-ghost use Rattle.decoder.specs.Rows.{FourRows, rowsOf, movedRows};
+ghost use Rattle.decoder.specs.Rows.{FourRows, rowsOf, movedRows, Movable, RowsMoved, Moved};
 
 // One row s of a syndrome with a multiple of the column's digit d added.
 fn moved_row(q: u8, s: u8, multiples: &[u8; 16], d: u8) -> u8
@@ -25,8 +25,8 @@ fn moved_row(q: u8, s: u8, multiples: &[u8; 16], d: u8) -> u8
 
 // The syndrome with a multiple of a column added.
 fn moved_rows(q: u8, column: [u8; 3], s: Syndrome, multiples: &[u8; 16]) -> Syndrome
-    requires { ⌜ (2 ≤ q) × (q ≤ 15) × ((j : ℕ) → getD column j 0 < q) × ((j : ℕ) → j < 4 → getD (rows s) j 0 < q) × Multiples q (now multiples) ⌝ }
-    ensures { λ t. ⌜ rows t ≡ movedRows q (getD (now (multiples .entry)) 1 0) column (rows s) ⌝ }
+    requires { ⌜ Movable q column (rows s) (now multiples) ⌝ }
+    ensures { λ t. ⌜ RowsMoved q (getD (now (multiples .entry)) 1 0) column s t ⌝ }
 {
     Syndrome {
         low: moved_row(q, s.low, multiples, column[0]),
@@ -45,7 +45,7 @@ pub(crate) fn moved(
     a: usize,
 ) -> Syndrome
     requires { ⌜ Valid row × Columns (row .q) (row .n) (now columns) × FourRows row (rows s) × Multiples (row .q) (now multiples) ⌝ }
-    ensures { λ t. ⌜ FourRows row (rows t) × (rowsOf row (rows t) ≡ moved (parameters row) (getD (now (multiples .entry)) 1 0) a (rowsOf row (rows s))) ⌝ }
+    ensures { λ t. ⌜ Moved row (getD (now (multiples .entry)) 1 0) a (rows s) (rows t) ⌝ }
 {
     if a == 0 {
         return s;
@@ -57,9 +57,10 @@ pub(crate) fn moved(
     moved_rows(row.q, columns[i], s, multiples)
 }
 
-// Whether the syndrome with a multiple of a column added is zero: one row after the other, and first the row of ones, which is the same for every column.
+// Whether the syndrome with a multiple of a column added is zero: one row after the other, and first the row of ones, which is the
+// same for every column.
 fn rows_to_zero(q: u8, column: [u8; 3], s: Syndrome, multiples: &[u8; 16]) -> bool
-    requires { ⌜ (2 ≤ q) × (q ≤ 15) × ((j : ℕ) → getD column j 0 < q) × ((j : ℕ) → j < 4 → getD (rows s) j 0 < q) × Multiples q (now multiples) ⌝ }
+    requires { ⌜ Movable q column (rows s) (now multiples) ⌝ }
     ensures { λ b. ⌜ b ≡ zeroRows (movedRows q (getD (now (multiples .entry)) 1 0) column (rows s)) ⌝ }
 {
     if moved_row(q, s.ones, multiples, 1) != 0 {
@@ -83,7 +84,8 @@ pub(crate) fn moves_to_zero(
     a: usize,
 ) -> bool
     requires { ⌜ Valid row × Columns (row .q) (row .n) (now columns) × FourRows row (rows s) × Multiples (row .q) (now multiples) ⌝ }
-    ensures { λ b. ⌜ b ≡ zeroSyndrome (parameters row) (moved (parameters row) (getD (now (multiples .entry)) 1 0) a (rowsOf row (rows s))) ⌝ }
+    ensures { λ b. ⌜
+        b ≡ zeroSyndrome (parameters row) (moved (parameters row) (getD (now (multiples .entry)) 1 0) a (rowsOf row (rows s))) ⌝ }
 {
     if a == 0 {
         return is_zero(s);

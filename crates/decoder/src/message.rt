@@ -10,13 +10,13 @@ ghost use mathlib.Core.Bool.{true, false};
 ghost use Prim.Native.Nat.{_+_, _-_, _*_, _≤_, _<_};
 ghost use lib.Dec.{T};
 ghost use lib.ListN.{length};
-ghost use Rattle.decoding.specs.Syndromes.{nearSyndrome, nearSyndromes};
+ghost use Rattle.decoding.specs.Syndromes.{nearSyndrome};
 ghost use Rattle.profiles.specs.Row.{parameters};
 ghost use Rattle.symbols.specs.Syndromes.{rows, part};
-ghost use Rattle.decoder.specs.Rows.{FourRows, rowsOf};
+ghost use Rattle.decoder.specs.Rows.{FourRows, rowsOf, Near};
 ghost use Rattle.decoder.specs.Sides.{isFirst};
 ghost use Rattle.decoder.specs.Received.{Body};
-ghost use Rattle.decoder.specs.Written.{Restored, Outputs, Messages, Written, run};
+ghost use Rattle.decoder.specs.Outputs.{Restored, Outputs, Messages, RestoredMessages, copiedRun};
 
 // One component restored by its syndrome: as it is, or with 1 taken from the symbol that the syndrome names.
 fn restore(row: Row, s: Syndrome, side: usize, x: &mut [u8; 97])
@@ -33,14 +33,16 @@ fn restore(row: Row, s: Syndrome, side: usize, x: &mut [u8; 97])
 // The symbols of both components at the indices i to end - 1, into the outputs from `next` on.
 fn copy_run(x: &[u8; 97], i: usize, end: usize, next: usize, first: &mut [u8], second: &mut [u8])
     requires { ⌜ (i ≤ end) × (end ≤ 48) × (next + (end - i) ≤ length (now first)) × (next + (end - i) ≤ length (now second)) ⌝ }
-    ensures { λ _. ⌜ now (first .exit) ≡ run (now (x .entry)) 1 i (end - i) next (now (first .entry)) ⌝ }
-    ensures { λ _. ⌜ now (second .exit) ≡ run (now (x .entry)) 2 i (end - i) next (now (second .entry)) ⌝ }
+    ensures { λ _. ⌜ now (first .exit) ≡ copiedRun (now (x .entry)) 1 i (end - i) next (now (first .entry)) ⌝ }
+    ensures { λ _. ⌜ now (second .exit) ≡ copiedRun (now (x .entry)) 2 i (end - i) next (now (second .entry)) ⌝ }
 {
     let count = end - i;
     let mut k = 0;
     while k < count {
-        first[next + k] = x[2 * (i + k) + 1];
-        second[next + k] = x[2 * (i + k) + 2];
+        let from = 2 * (i + k);
+        let to = next + k;
+        first[to] = x[from + 1];
+        second[to] = x[from + 2];
         k += 1;
     }
 }
@@ -56,8 +58,9 @@ fn extract(row: Row, x: &[u8; 97], first: &mut [u8], second: &mut [u8])
     let mut i = 2;
     let mut next = 0;
     while power <= n {
-        copy_run(x, i, power - 1, next, first, second);
-        next += power - 1 - i;
+        let end = power - 1;
+        copy_run(x, i, end, next, first, second);
+        next += end - i;
         i = power;
         power *= q;
     }
@@ -73,8 +76,10 @@ pub(crate) fn write_pair(
     first: &mut [u8],
     second: &mut [u8],
 )
-    requires { ⌜ Body row (now x) × FourRows row (rows s) × FourRows row (rows t) × T (nearSyndromes (parameters row) (rowsOf row (rows s)) (rowsOf row (rows t))) × Outputs row (now first) (now second) ⌝ }
-    ensures { λ _. ⌜ Written (parameters row) (part true (row .n) (now (x .entry))) (part false (row .n) (now (x .entry))) (rowsOf row (rows s)) (rowsOf row (rows t)) (now (first .exit)) (now (second .exit)) ⌝ }
+    requires { ⌜ Body row (now x) × Near row (rows s) (rows t) × Outputs row (now first) (now second) ⌝ }
+    ensures { λ _. ⌜
+        RestoredMessages (parameters row) (part true (row .n) (now (x .entry))) (part false (row .n) (now (x .entry)))
+        (rowsOf row (rows s)) (rowsOf row (rows t)) (now (first .exit)) (now (second .exit)) ⌝ }
 {
     restore(row, s, 0, x);
     restore(row, t, 1, x);

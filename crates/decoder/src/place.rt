@@ -1,7 +1,6 @@
 // Which position of an unbalanced word changed: each of the parity that the check symbols name is tried, in rising order.
 use crate::column::moved;
 use crate::column::moves_to_zero;
-use crate::multiples::multiples;
 use crate::totals::Totals;
 use profiles::Row;
 use residues::add;
@@ -9,15 +8,19 @@ use residues::sub;
 use residues::wide;
 use syndromes::near;
 ghost use mathlib.Core.Path.{_≡_};
-ghost use Prim.Native.Nat.{_+_, _*_, _≤_, _<_};
-ghost use lib.ListN.{getD};
-ghost use Rattle.decoding.specs.Decoded.{offByLack, nearAfter, fits, places, firstFit};
-ghost use Rattle.profiles.specs.Row.{Valid, parameters};
-ghost use Rattle.symbols.specs.Columns.{Columns};
-ghost use Rattle.decoder.specs.Multiples.{Multiples};
-ghost use Rattle.decoder.specs.Sides.{isFirst};
-ghost use Rattle.decoder.specs.Totals.{Word, sumsOf, Totalled};
-ghost use Rattle.decoder.specs.Place.{Found, factor, Moves, symbolSent};
+ghost use Prim.Native.Nat.{_≤_};
+ghost use Rattle.decoding.specs.Decoded.{offByLack, nearAfter, fits};
+ghost use Rattle.decoder.specs.Totals.{Word};
+ghost use Rattle.decoder.specs.Search.{parametersOf, sumsIn, parityOf, Searches, Tries};
+ghost use Rattle.decoder.specs.Place.{Found, symbolSent};
+
+// What the search for the changed symbol goes by: the sums over the word, and the parity whose check symbol disagrees, 0 for the odd
+// positions and 1 for the even ones.
+pub(crate) struct Search {
+    pub(crate) row: Row,
+    pub(crate) s: Totals,
+    pub(crate) parity: usize,
+}
 
 // What trying the positions of one parity finds: an index among them.
 pub(crate) enum Place {
@@ -26,108 +29,86 @@ pub(crate) enum Place {
 }
 
 // The symbol that balances the body in place of x, by plain subtraction; q where it is no level.
-pub(crate) fn balancing_symbol(row: Row, s: Totals, x: u8) -> u8
-    requires { ⌜ Valid row × Totalled row s ⌝ }
-    ensures { λ y. ⌜ y ≡ symbolSent (parameters row) (sumsOf row s) x ⌝ }
+pub(crate) fn balancing_symbol(search: Search, x: u8) -> u8
+    requires { ⌜ Searches search ⌝ }
+    ensures { λ y. ⌜ y ≡ symbolSent (parametersOf search) (sumsIn search) x ⌝ }
 {
-    residues::plain::difference(row.q, wide(x) + row.middle, s.weight)
+    residues::plain::difference(search.row.q, wide(x) + search.row.middle, search.s.weight)
 }
 
 // Whether the check symbol of the parity is off by as much as the weight, mod q.
-fn off_by_lack(row: Row, s: Totals, parity: usize) -> bool
-    requires { ⌜ Valid row × Totalled row s × (parity ≤ 1) ⌝ }
-    ensures { λ b. ⌜ b ≡ offByLack (parameters row) (sumsOf row s) (isFirst parity) ⌝ }
+fn off_by_lack(search: Search) -> bool
+    requires { ⌜ Searches search ⌝ }
+    ensures { λ b. ⌜ b ≡ offByLack (parametersOf search) (sumsIn search) (parityOf search) ⌝ }
 {
-    if parity == 0 {
-        return add(row.q, s.asked.alpha, s.lack) == s.arrived.alpha;
+    if search.parity == 0 {
+        return add(search.row.q, search.s.asked.alpha, search.s.lack) == search.s.arrived.alpha;
     }
-    add(row.q, s.asked.beta, s.lack) == s.arrived.beta
+    add(search.row.q, search.s.asked.beta, search.s.lack) == search.s.arrived.beta
 }
 
-// The multiples by which a corrected symbol of the parity moves the first component's syndrome: of the negative of what the weight lacks, or of the lack.
-// The second component's syndrome moves by those of the other parity.
-pub(crate) fn moves(row: Row, s: Totals, parity: usize) -> [u8; 16]
-    requires { ⌜ Valid row × Totalled row s ⌝ }
-    ensures { λ r. ⌜ Multiples (row .q) r × (getD r 1 0 ≡ factor (row .q) (s .lack) (isFirst parity)) ⌝ }
-{
-    if parity == 0 {
-        return multiples(row.q, sub(row.q, 0, s.lack));
-    }
-    multiples(row.q, s.lack)
-}
-
-// Whether the syndromes are near once the symbol at index k of the parity is corrected. At most positions neither is zero then, and that is seen first.
+// Whether the syndromes are near once the symbol at index k of the parity is corrected. At most positions neither is zero then, and
+// that is seen first.
 fn near_after(
-    row: Row,
+    search: Search,
     columns: &[[u8; 3]; 48],
-    s: Totals,
     by_first: &[u8; 16],
     by_second: &[u8; 16],
-    parity: usize,
     k: usize,
 ) -> bool
-    requires { ⌜ Valid row × Columns (row .q) (row .n) (now columns) × Totalled row s × Moves row s parity (now «by_first») (now «by_second») × (parity ≤ 1) × (k ≤ 48) ⌝ }
-    ensures { λ b. ⌜ b ≡ nearAfter (parameters row) (sumsOf row s) (isFirst parity) k ⌝ }
+    requires { ⌜ Tries search (now columns) (now «by_first») (now «by_second») × (k ≤ 48) ⌝ }
+    ensures { λ b. ⌜ b ≡ nearAfter (parametersOf search) (sumsIn search) (parityOf search) k ⌝ }
 {
-    if !moves_to_zero(row, columns, s.first, by_first, k + 1) {
-        if !moves_to_zero(row, columns, s.second, by_second, k + parity) {
+    let a = k + 1;
+    let b = k + search.parity;
+    if !moves_to_zero(search.row, columns, search.s.first, by_first, a) {
+        if !moves_to_zero(search.row, columns, search.s.second, by_second, b) {
             return false;
         }
     }
-    let first = moved(row, columns, s.first, by_first, k + 1);
-    let second = moved(row, columns, s.second, by_second, k + parity);
-    near(row.q, row.n, first, second)
+    let first = moved(search.row, columns, search.s.first, by_first, a);
+    let second = moved(search.row, columns, search.s.second, by_second, b);
+    near(search.row.q, search.row.n, first, second)
 }
 
 // Whether the symbol x at index k of the parity can be the one that changed: the three tests of a position.
 fn fits(
-    row: Row,
+    search: Search,
     columns: &[[u8; 3]; 48],
-    s: Totals,
     by_first: &[u8; 16],
     by_second: &[u8; 16],
-    parity: usize,
     k: usize,
     x: u8,
 ) -> bool
-    requires { ⌜ Valid row × Columns (row .q) (row .n) (now columns) × Totalled row s × Moves row s parity (now «by_first») (now «by_second») × (parity ≤ 1) × (k ≤ 48) ⌝ }
-    ensures { λ b. ⌜ b ≡ fits (parameters row) (sumsOf row s) (isFirst parity) k x ⌝ }
+    requires { ⌜ Tries search (now columns) (now «by_first») (now «by_second») × (k ≤ 48) ⌝ }
+    ensures { λ b. ⌜ b ≡ fits (parametersOf search) (sumsIn search) (parityOf search) k x ⌝ }
 {
-    if balancing_symbol(row, s, x) == row.q {
+    if balancing_symbol(search, x) == search.row.q {
         return false;
     }
-    if !off_by_lack(row, s, parity) {
+    if !off_by_lack(search) {
         return false;
     }
-    near_after(row, columns, s, by_first, by_second, parity, k)
+    near_after(search, columns, by_first, by_second, k)
 }
 
 // The first index of the parity that fits.
 fn try_positions(
-    row: Row,
+    search: Search,
     columns: &[[u8; 3]; 48],
-    s: Totals,
     by_first: &[u8; 16],
     by_second: &[u8; 16],
     word: &[u8],
-    parity: usize,
 ) -> Place
-    requires { ⌜ Word row (now word) × Columns (row .q) (row .n) (now columns) × Totalled row s × Moves row s parity (now «by_first») (now «by_second») × (parity ≤ 1) ⌝ }
-    ensures { λ r. ⌜ Found (firstFit (parameters row) (sumsOf row s) (isFirst parity) (now (word .entry))) (places (parameters row) (isFirst parity)) r ⌝ }
+    requires { ⌜ Tries search (now columns) (now «by_first») (now «by_second») × Word (search .row) (now word) ⌝ }
+    ensures { λ r. ⌜ Found search (now (word .entry)) r ⌝ }
 {
-    let count = row.n + 1 - parity;
+    let parity = search.parity;
+    let count = search.row.n + 1 - parity;
     let mut k = 0;
     while k < count {
-        if fits(
-            row,
-            columns,
-            s,
-            by_first,
-            by_second,
-            parity,
-            k,
-            word[2 * k + parity],
-        ) {
+        let x = word[2 * k + parity];
+        if fits(search, columns, by_first, by_second, k, x) {
             return Place::At(k);
         }
         k += 1;
@@ -136,20 +117,18 @@ fn try_positions(
 }
 
 // The same. Where the check symbol is off by something else than the weight, no position fits, and none is tried.
-pub(crate) fn locate(
-    row: Row,
+pub(crate) fn locate<'a>(
+    search: Search,
     columns: &[[u8; 3]; 48],
-    s: Totals,
-    by_first: &[u8; 16],
-    by_second: &[u8; 16],
+    by_first: &'a [u8; 16],
+    by_second: &'a [u8; 16],
     word: &[u8],
-    parity: usize,
 ) -> Place
-    requires { ⌜ Word row (now word) × Columns (row .q) (row .n) (now columns) × Totalled row s × Moves row s parity (now «by_first») (now «by_second») × (parity ≤ 1) ⌝ }
-    ensures { λ r. ⌜ Found (firstFit (parameters row) (sumsOf row s) (isFirst parity) (now (word .entry))) (places (parameters row) (isFirst parity)) r ⌝ }
+    requires { ⌜ Tries search (now columns) (now «by_first») (now «by_second») × Word (search .row) (now word) ⌝ }
+    ensures { λ r. ⌜ Found search (now (word .entry)) r ⌝ }
 {
-    if !off_by_lack(row, s, parity) {
+    if !off_by_lack(search) {
         return Place::Nothing;
     }
-    try_positions(row, columns, s, by_first, by_second, word, parity)
+    try_positions(search, columns, by_first, by_second, word)
 }

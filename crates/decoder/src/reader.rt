@@ -1,33 +1,33 @@
 // Decoding of a received word, by its sums.
-use crate::body::corrected_body;
-use crate::column::moved;
+use crate::body::correct_differences;
+use crate::effect::effect_of;
+use crate::effect::syndromes_after;
 use crate::message::write_pair;
 use crate::place::Place;
+use crate::place::Search;
 use crate::place::balancing_symbol;
 use crate::place::locate;
-use crate::place::moves;
 use crate::totals::Totals;
 use crate::totals::sums_of;
 use profiles::Lookup;
 use profiles::Row;
 use profiles::decode_refusal;
 use profiles::row_of;
+use symbols::Syndromes;
 use symbols::columns;
 use syndromes::Verdict;
 use syndromes::verdict;
 ghost use mathlib.Core.Path.{_≡_};
-ghost use Prim.Native.Nat.{_≤_};
 ghost use lib.Dec.{eqb};
-ghost use lib.ListN.{length};
-ghost use Rattle.code.specs.Operations.{answered, decodeAnswer};
+ghost use Rattle.code.specs.Operations.{answered};
 ghost use Rattle.decoding.specs.Decoded.{decodedBody, decodedUnbalanced, decoded};
 ghost use Rattle.profiles.specs.Row.{Valid, parameters};
 ghost use Rattle.symbols.specs.Columns.{Columns};
 ghost use Rattle.decoder.specs.Received.{Body};
-ghost use Rattle.decoder.specs.Totals.{Word, sumsOf, Totalled};
-ghost use Rattle.decoder.specs.Sides.{isFirst};
-ghost use Rattle.decoder.specs.Place.{Located, Moves};
-ghost use Rattle.decoder.specs.Written.{Outputs};
+ghost use Rattle.decoder.specs.Totals.{Word, sumsOf, Components, Totalled};
+ghost use Rattle.decoder.specs.Search.{parametersOf, sumsIn, parityOf, After};
+ghost use Rattle.decoder.specs.Place.{Located};
+ghost use Rattle.decoder.specs.Outputs.{Outputs};
 ghost use Rattle.decoder.specs.Decode.{Answers, DecodeAllows};
 ghost use Rattle.decoder.specs.Steps.{Judged, wrongParity, BalancedAnswers};
 
@@ -48,7 +48,7 @@ pub enum Decoded {
 }
 
 // A balanced body: clean, or one check symbol is wrong.
-fn check(row: Row, s: Totals) -> Decoded
+fn judge(row: Row, s: Totals) -> Decoded
     requires { ⌜ Valid row × Totalled row s ⌝ }
     ensures { λ r. ⌜ Judged (parameters row) (sumsOf row s) r ⌝ }
 {
@@ -93,68 +93,63 @@ fn wrong_parity(s: Totals) -> usize
     2
 }
 
-// The symbol at index k of the parity corrected, where that is the first that fits.
+// The symbol at index k of the parity corrected, where that is the first that fits and the syndromes are then those given. The
+// components of the word are in x.
 fn correct(
-    row: Row,
-    columns: &[[u8; 3]; 48],
-    s: Totals,
-    by_first: &[u8; 16],
-    by_second: &[u8; 16],
+    search: Search,
+    after: Syndromes,
     word: &[u8],
-    parity: usize,
     k: usize,
+    x: &mut [u8; 97],
     first: &mut [u8],
     second: &mut [u8],
 ) -> Decoded
-    requires { ⌜ Word row (now word) × Columns (row .q) (row .n) (now columns) × Totalled row s × Moves row s parity (now «by_first») (now «by_second») × (parity ≤ 1) × Located (parameters row) (sumsOf row s) (isFirst parity) (now word) k × Outputs row (now first) (now second) ⌝ }
-    ensures { λ r. ⌜ Answers (answered (decodedBody (parameters row) (sumsOf row s) (isFirst parity) (now (word .entry)))) r (now (first .entry)) (now (first .exit)) (now (second .entry)) (now (second .exit)) ⌝ }
+    requires { ⌜
+        Located search (now word) k × After search k after × Components (search .row) (now word) (now x)
+        × Outputs (search .row) (now first) (now second) ⌝ }
+    ensures { λ r. ⌜
+        Answers (answered (decodedBody (parametersOf search) (sumsIn search) (parityOf search) (now (word .entry)))) r
+        (now (first .entry)) (now (first .exit)) (now (second .entry)) (now (second .exit)) ⌝ }
 {
-    let i = 2 * k + parity;
-    let y = balancing_symbol(row, s, word[i]);
-    let mut x = [0u8; 97];
-    corrected_body(row, word, i, y, &mut x);
-    let f = moved(row, columns, s.first, by_first, k + 1);
-    let g = moved(row, columns, s.second, by_second, k + parity);
-    write_pair(row, f, g, &mut x, first, second);
+    let i = 2 * k + search.parity;
+    let y = balancing_symbol(search, word[i]);
+    correct_differences(search.row, word, i, y, x);
+    write_pair(search.row, after.first, after.second, x, first, second);
+    let position = i + 1;
     Decoded::Corrected(Correction {
-        position: i + 1,
+        position,
         symbol: y,
     })
 }
 
-// An unbalanced body: one of its symbols changed where exactly one check symbol disagrees.
+// An unbalanced body, whose components are in x: one of its symbols changed where exactly one check symbol disagrees.
 fn decode_unbalanced(
     row: Row,
     columns: &[[u8; 3]; 48],
     s: Totals,
     word: &[u8],
+    x: &mut [u8; 97],
     first: &mut [u8],
     second: &mut [u8],
 ) -> Decoded
-    requires { ⌜ Word row (now word) × Columns (row .q) (row .n) (now columns) × Totalled row s × Outputs row (now first) (now second) ⌝ }
-    ensures { λ r. ⌜ Answers (answered (decodedUnbalanced (parameters row) (sumsOf row s) (now (word .entry)))) r (now (first .entry)) (now (first .exit)) (now (second .entry)) (now (second .exit)) ⌝ }
+    requires { ⌜
+        Word row (now word) × Columns (row .q) (row .n) (now columns) × Totalled row s × Components row (now word) (now x)
+        × Outputs row (now first) (now second) ⌝ }
+    ensures { λ r. ⌜
+        Answers (answered (decodedUnbalanced (parameters row) (sumsOf row s) (now (word .entry)))) r
+        (now (first .entry)) (now (first .exit)) (now (second .entry)) (now (second .exit)) ⌝ }
 {
     let parity = wrong_parity(s);
     if 1 < parity {
         return Decoded::Unreadable;
     }
-    let by_first = moves(row, s, parity);
-    let by_second = moves(row, s, 1 - parity);
-    let Place::At(k) = locate(row, columns, s, &by_first, &by_second, word, parity) else {
+    let search = Search { row, s, parity };
+    let effect = effect_of(search);
+    let Place::At(k) = locate(search, columns, &effect.first, &effect.second, word) else {
         return Decoded::Unreadable;
     };
-    correct(
-        row,
-        columns,
-        s,
-        &by_first,
-        &by_second,
-        word,
-        parity,
-        k,
-        first,
-        second,
-    )
+    let after = syndromes_after(search, columns, effect, k);
+    correct(search, after, word, k, x, first, second)
 }
 
 // What follows the balance test of a balanced word, whose components are in x.
@@ -166,9 +161,11 @@ fn decode_balanced(
     second: &mut [u8],
 ) -> Decoded
     requires { ⌜ Body row (now x) × Totalled row s × Outputs row (now first) (now second) ⌝ }
-    ensures { λ r. ⌜ BalancedAnswers row s (now (x .entry)) r (now (first .entry)) (now (first .exit)) (now (second .entry)) (now (second .exit)) ⌝ }
+    ensures { λ r. ⌜
+        BalancedAnswers row s (now (x .entry)) r
+        (now (first .entry)) (now (first .exit)) (now (second .entry)) (now (second .exit)) ⌝ }
 {
-    let found = check(row, s);
+    let found = judge(row, s);
     if let Decoded::Unreadable = found {
         return Decoded::Unreadable;
     }
@@ -181,20 +178,24 @@ fn decode_balanced(
 // A word that numbers 1 to 3 let through, by its sums. The columns are built once.
 fn decode_word(row: Row, word: &[u8], first: &mut [u8], second: &mut [u8]) -> Decoded
     requires { ⌜ Word row (now word) × Outputs row (now first) (now second) ⌝ }
-    ensures { λ r. ⌜ Answers (answered (decoded (parameters row) (now (word .entry)))) r (now (first .entry)) (now (first .exit)) (now (second .entry)) (now (second .exit)) ⌝ }
+    ensures { λ r. ⌜
+        Answers (answered (decoded (parameters row) (now (word .entry)))) r
+        (now (first .entry)) (now (first .exit)) (now (second .entry)) (now (second .exit)) ⌝ }
 {
     let matrix = columns(row.q, row.n);
     let mut x = [0u8; 97];
     let s = sums_of(row, &matrix, word, &mut x);
     if s.weight != row.middle {
-        return decode_unbalanced(row, &matrix, s, word, first, second);
+        return decode_unbalanced(row, &matrix, s, word, &mut x, first, second);
     }
     decode_balanced(row, s, &mut x, first, second)
 }
 
 // 01: Read. Refused 1: no such profile; 2: a length is wrong; 3: a symbol is not a level. A refusal and `Unreadable` change no output.
 pub fn decode(profile: usize, word: &[u8], first: &mut [u8], second: &mut [u8]) -> Decoded
-    ensures { λ r. ⌜ DecodeAllows profile (now (word .entry)) r (now (first .entry)) (now (first .exit)) (now (second .entry)) (now (second .exit)) ⌝ }
+    ensures { λ r. ⌜
+        DecodeAllows profile (now (word .entry)) r
+        (now (first .entry)) (now (first .exit)) (now (second .entry)) (now (second .exit)) ⌝ }
 {
     let Lookup::Found(row) = row_of(profile) else {
         return Decoded::Refused(1);

@@ -37,10 +37,9 @@ fn total(row: Row, columns: &[[u8; 3]; 48], word: &[u8], x: &[u8; 97]) -> Totals
     let sums = weigh(word, m);
     let weight = sums.odd as usize + sums.even as usize;
     let asked = checks_of(q, row.delta, sums);
-    let arrived = Checks {
-        alpha: word[m],
-        beta: word[m + 1],
-    };
+    let alpha = word[m];
+    let beta = word[m + 1];
+    let arrived = Checks { alpha, beta };
     let syndromes = syndromes_of(q, row.n, columns, x);
     let first = syndromes.first;
     let second = syndromes.second;

@@ -53,7 +53,7 @@ module _ {t : List ℕ} {all even i : ℕ} (w : Weighing t all even i) where
   pub weighing-next : {x y : ℕ} → getD t i 0 ≡ x → x ≤ 255 → y ≡ x * (i % 2) → y ≤ x → Weighing t (all + x) (even + y) (i + 1)
   weighing-next {x} {y} e l f g =
       let p : evenFrom (i % 2) (drop i t) ≡ x * (i % 2) + evenFrom (1 - i % 2) (drop (suc i) t) =
-          even-at (i % 2) t i ∙ ap (λ (a : ℕ). a * (i % 2) + evenFrom (1 - i % 2) (drop (suc i) t)) e in
+      even-at (i % 2) t i ∙ ap (λ (a : ℕ). a * (i % 2) + evenFrom (1 - i % 2) (drop (suc i) t)) e in
       let s : suc i ≡ i + 1 = omega arith in
       let n : 1 - i % 2 ≡ (i + 1) % 2 = omega arith in
       record {

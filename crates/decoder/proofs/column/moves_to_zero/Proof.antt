@@ -1,11 +1,10 @@
--- `decoder::column::moves_to_zero` meets its contract: the four rows are zero where the rows of the definition are, and a column outside the matrix
--- moves none.
+-- `decoder::column::moves_to_zero` meets its contract: the four rows are zero where the rows of the definition are, and a column outside
+-- the matrix moves none.
 -- Assumes nothing.
 use borrow.Author.Needs.{needs}
 use mathlib.Core.Path.{_∙_}
 use mathlib.Core.Logic.{inl, inr}
-use native.Mathlib.Omega.{arith}
-use Rattle.decoder.proofs.Moving.{column-level, zero-none, zero-column}
+use Rattle.decoder.proofs.Moving.{movable, zero-none, zero-column}
 use Rattle.decoder.proofs.column.moves_to_zero.Statement.{statement}
 use Rattle.decoder.proofs.column.moves_to_zero.Tie as tie
 
@@ -13,13 +12,19 @@ is-zero-requires : tie.Need-is-zero-requires
 is-zero-requires c κs = search needs
 
 returns : tie.Need-returns
-returns c = let p = c .before .before .pre in c .is-zero .ensures ∙ zero-none _ (p .0) _ (p .2) _ _ (inl (c .before .if1 .taken))
+returns c =
+    let none = c .before in
+    let asked = none .before .pre in
+    c .is-zero .ensures ∙ zero-none _ (asked .0) _ (asked .2) _ _ (inl (none .if1 .taken))
 
 is-zero-requires-2 : tie.Need-is-zero-requires-2
 is-zero-requires-2 c κs = search needs
 
 returns-2 : tie.Need-returns-2
-returns-2 c = let p = c .before .before .before .before .pre in c .is-zero2 .ensures ∙ zero-none _ (p .0) _ (p .2) _ _ (inr (c .before .if2 .taken))
+returns-2 c =
+    let past = c .before in
+    let asked = past .before .before .before .pre in
+    c .is-zero2 .ensures ∙ zero-none _ (asked .0) _ (asked .2) _ _ (inr (past .if2 .taken))
 
 sub-i : tie.Need-sub-i
 sub-i c = search needs
@@ -32,24 +37,19 @@ element-copy-out-rows-to-zero c = search needs
 
 rows-to-zero-requires : tie.Need-rows-to-zero-requires
 rows-to-zero-requires c κs =
-    let p = c .before .before .before .before .pre in
-    (omega (arith, p .0 .sized .levels), p .0 .levels, column-level _ (p .0) (p .1) _ (c .before .before .before .if1 .left) (c .before .if2 .left), p .2 .below, p .3)
+    let within = c .before in
+    let some = within .before .before in
+    let asked = some .before .pre in
+    movable _ (asked .0) (asked .1) (asked .2) (asked .3) _ (some .if1 .left) (within .if2 .left)
 
 returns-3 : tie.Need-returns-3
 returns-3 c =
-    let p = c .before .before .before .before .before .pre in
-    c .rows-to-zero .ensures ∙ zero-column _ (p .0) _ (p .2) _ (p .1) _ (c .before .before .before .before .if1 .left) (c .before .before .if2 .left)
+    let within = c .before .before in
+    let some = within .before .before in
+    let asked = some .before .pre in
+    c .rows-to-zero .ensures ∙ zero-column _ (asked .0) _ (asked .2) _ (asked .1) _ (some .if1 .left) (within .if2 .left)
 
 pub moves-to-zero-spec : {M : Type 1} → statement M
 moves-to-zero-spec =
-    tie.close
-    (tie.spec
-    is-zero-requires
-    returns
-    is-zero-requires-2
-    returns-2
-    sub-i
-    mul-rows-to-zero
-    element-copy-out-rows-to-zero
-    rows-to-zero-requires
-    returns-3)
+    tie.close (tie.spec is-zero-requires returns is-zero-requires-2 returns-2 sub-i mul-rows-to-zero element-copy-out-rows-to-zero
+    rows-to-zero-requires returns-3)

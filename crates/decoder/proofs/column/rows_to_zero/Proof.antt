@@ -11,7 +11,7 @@ use Rattle.decoder.proofs.column.rows_to_zero.Statement.{statement}
 use Rattle.decoder.proofs.column.rows_to_zero.Tie as tie
 
 moved-row-requires : tie.Need-moved-row-requires
-moved-row-requires c κs = let p = c .pre in (p .3 3 (omega arith), p .0, p .1, p .4)
+moved-row-requires c κs = search needs
 
 returns : tie.Need-returns
 returns c = zero-not _ 3 (omega arith) (λ z. c .if1 .taken (c .before .moved-row .ensures ∙ z))
@@ -20,7 +20,7 @@ array-read-moved-row : tie.Need-array-read-moved-row
 array-read-moved-row c = search needs
 
 moved-row-requires-2 : tie.Need-moved-row-requires-2
-moved-row-requires-2 c κs = let p = c .before .before .pre in (p .3 0 (omega arith), p .2 0, p .1, p .4)
+moved-row-requires-2 c κs = search needs
 
 returns-2 : tie.Need-returns-2
 returns-2 c = zero-not _ 0 (omega arith) (λ z. c .if2 .taken (c .before .moved-row2 .ensures ∙ z))
@@ -29,7 +29,7 @@ array-read-moved-row-2 : tie.Need-array-read-moved-row-2
 array-read-moved-row-2 c = search needs
 
 moved-row-requires-3 : tie.Need-moved-row-requires-3
-moved-row-requires-3 c κs = let p = c .before .before .before .before .pre in (p .3 1 (omega arith), p .2 1, p .1, p .4)
+moved-row-requires-3 c κs = search needs
 
 returns-3 : tie.Need-returns-3
 returns-3 c = zero-not _ 1 (omega arith) (λ z. c .if3 .taken (c .before .moved-row3 .ensures ∙ z))
@@ -38,23 +38,19 @@ array-read-moved-row-3 : tie.Need-array-read-moved-row-3
 array-read-moved-row-3 c = search needs
 
 moved-row-requires-4 : tie.Need-moved-row-requires-4
-moved-row-requires-4 c κs = let p = c .before .before .before .before .before .before .pre in (p .3 2 (omega arith), p .2 2, p .1, p .4)
+moved-row-requires-4 c κs = search needs
 
 returns-4 : tie.Need-returns-4
-returns-4 c = ap (λ (x : ℕ). eqb x 0) (c .moved-row4 .ensures) ∙ zero-high _ (sym (c .before .before .before .before .moved-row2 .ensures) ∙ c .before .before .before .if2 .left) (sym (c .before .before .moved-row3 .ensures) ∙ c .before .if3 .left) (sym (c .before .before .before .before .before .before .moved-row .ensures) ∙ c .before .before .before .before .before .if1 .left)
+returns-4 c =
+    let middle = c .before in
+    let low = middle .before .before in
+    let ones = low .before .before in
+    let middle-zero = sym (middle .before .moved-row3 .ensures) ∙ middle .if3 .left in
+    let low-zero = sym (low .before .moved-row2 .ensures) ∙ low .if2 .left in
+    let ones-zero = sym (ones .before .moved-row .ensures) ∙ ones .if1 .left in
+    ap (λ (x : ℕ). eqb x 0) (c .moved-row4 .ensures) ∙ zero-high _ low-zero middle-zero ones-zero
 
 pub rows-to-zero-spec : {M : Type 1} → statement M
 rows-to-zero-spec =
-    tie.close
-    (tie.spec
-    moved-row-requires
-    returns
-    array-read-moved-row
-    moved-row-requires-2
-    returns-2
-    array-read-moved-row-2
-    moved-row-requires-3
-    returns-3
-    array-read-moved-row-3
-    moved-row-requires-4
-    returns-4)
+    tie.close (tie.spec moved-row-requires returns array-read-moved-row moved-row-requires-2 returns-2 array-read-moved-row-2
+    moved-row-requires-3 returns-3 array-read-moved-row-3 moved-row-requires-4 returns-4)

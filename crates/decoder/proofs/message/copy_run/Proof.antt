@@ -19,20 +19,20 @@ sub-count c = search needs
 loop-holds : tie.Need-loop-holds Inv-loop μ-loop
 loop-holds c = running-none _ _ _ _ _ _
 
+add-from : tie.Need-add-from Inv-loop μ-loop
+add-from c = search needs
+
+mul-from : tie.Need-mul-from Inv-loop μ-loop
+mul-from c = search needs
+
+add-to : tie.Need-add-to Inv-loop μ-loop
+add-to c = search needs
+
 add-first : tie.Need-add-first Inv-loop μ-loop
 add-first c = search needs
 
-mul-first : tie.Need-mul-first Inv-loop μ-loop
-mul-first c = search needs
-
-add-first-2 : tie.Need-add-first-2 Inv-loop μ-loop
-add-first-2 c = search needs
-
 element-copy-out-first : tie.Need-element-copy-out-first Inv-loop μ-loop
 element-copy-out-first c = search needs
-
-add-first-3 : tie.Need-add-first-3 Inv-loop μ-loop
-add-first-3 c = search needs
 
 slice-write-first : tie.Need-slice-write-first Inv-loop μ-loop
 slice-write-first c = search needs
@@ -40,17 +40,8 @@ slice-write-first c = search needs
 add-second : tie.Need-add-second Inv-loop μ-loop
 add-second c = search needs
 
-mul-second : tie.Need-mul-second Inv-loop μ-loop
-mul-second c = search needs
-
-add-second-2 : tie.Need-add-second-2 Inv-loop μ-loop
-add-second-2 c = search needs
-
 element-copy-out-second : tie.Need-element-copy-out-second Inv-loop μ-loop
 element-copy-out-second c = search needs
-
-add-second-3 : tie.Need-add-second-3 Inv-loop μ-loop
-add-second-3 c = search needs
 
 slice-write-second : tie.Need-slice-write-second Inv-loop μ-loop
 slice-write-second c = search needs
@@ -75,27 +66,6 @@ returns c = running-all (c .before .loop .inv) (c .loop-test .left)
 
 pub copy-run-spec : {M : Type 1} → statement M
 copy-run-spec =
-    tie.close
-    (tie.spec
-    Inv-loop
-    μ-loop
-    sub-count
-    loop-holds
-    add-first
-    mul-first
-    add-first-2
-    element-copy-out-first
-    add-first-3
-    slice-write-first
-    add-second
-    mul-second
-    add-second-2
-    element-copy-out-second
-    add-second-3
-    slice-write-second
-    add-k
-    loop-less
-    loop-again
-    same-length
-    same-length-2
+    tie.close (tie.spec Inv-loop μ-loop sub-count loop-holds add-from mul-from add-to add-first element-copy-out-first
+    slice-write-first add-second element-copy-out-second slice-write-second add-k loop-less loop-again same-length same-length-2
     returns)

@@ -11,16 +11,16 @@ wide-requires : tie.Need-wide-requires
 wide-requires c κs = search needs
 
 add-difference : tie.Need-add-difference
-add-difference c = omega (arith, c .before .wide .ensures .1, middle-small (c .before .before .pre .0))
+add-difference c = let widened = c .before in omega (arith, widened .wide .ensures .1, middle-small (widened .before .pre .valid))
 
 difference-requires : tie.Need-difference-requires
 difference-requires c κs = search needs
 
 returns : tie.Need-returns
 returns c =
-    let a = c .before .before .before in
-    sent-by (a .pre .0) (a .args .s) (c .before .before .wide .ensures .0) (c .difference .ensures)
+    let widened = c .before .before in
+    let start = widened .before in
+    sent-by (start .pre .valid) (start .args .search .s) (widened .wide .ensures .0) (c .difference .ensures)
 
 pub balancing-symbol-spec : {M : Type 1} → statement M
-balancing-symbol-spec =
-    tie.close (tie.spec wide-requires add-difference difference-requires returns)
+balancing-symbol-spec = tie.close (tie.spec wide-requires add-difference difference-requires returns)

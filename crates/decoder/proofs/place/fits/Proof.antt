@@ -12,28 +12,31 @@ balancing-symbol-requires : tie.Need-balancing-symbol-requires
 balancing-symbol-requires c κs = search needs
 
 returns : tie.Need-returns
-returns c = fits-range _ _ _ _ _ (sent-none _ _ _ (sym (c .before .before .balancing-symbol .ensures) ∙ c .if1 .taken))
+returns c =
+    let sent = c .before .before in
+    fits-range _ _ _ _ _ (sent-none _ _ _ (sym (sent .balancing-symbol .ensures) ∙ c .if1 .taken))
 
 off-by-lack-requires : tie.Need-off-by-lack-requires
 off-by-lack-requires c κs = search needs
 
 returns-2 : tie.Need-returns-2
-returns-2 c = fits-check _ _ _ _ _ (sent-some _ _ _ (λ e. c .before .before .if1 .left (c .before .before .before .before .balancing-symbol .ensures ∙ e))) (sym (c .before .off-by-lack .ensures) ∙ not-true _ (c .if2 .taken))
+returns-2 c =
+    let tested = c .before in
+    let level = tested .before in
+    let in-range = sent-some _ _ _ (λ e. level .if1 .left (level .before .before .balancing-symbol .ensures ∙ e)) in
+    fits-check _ _ _ _ _ in-range (sym (tested .off-by-lack .ensures) ∙ not-true _ (c .if2 .taken))
 
 near-after-requires : tie.Need-near-after-requires
 near-after-requires c κs = search needs
 
 returns-3 : tie.Need-returns-3
 returns-3 c =
-    fits-near _ _ _ _ _ (sent-some _ _ _ (λ e. c .before .before .before .if1 .left (c .before .before .before .before .before .balancing-symbol .ensures ∙ e))) (sym (c .before .before .off-by-lack .ensures) ∙ not-false _ (c .before .if2 .left)) (c .near-after .ensures)
+    let off = c .before in
+    let tested = off .before in
+    let level = tested .before in
+    let in-range = sent-some _ _ _ (λ e. level .if1 .left (level .before .before .balancing-symbol .ensures ∙ e)) in
+    let by-lack = sym (tested .off-by-lack .ensures) ∙ not-false _ (off .if2 .left) in
+    fits-near _ _ _ _ _ in-range by-lack (c .near-after .ensures)
 
 pub fits-spec : {M : Type 1} → statement M
-fits-spec =
-    tie.close
-    (tie.spec
-    balancing-symbol-requires
-    returns
-    off-by-lack-requires
-    returns-2
-    near-after-requires
-    returns-3)
+fits-spec = tie.close (tie.spec balancing-symbol-requires returns off-by-lack-requires returns-2 near-after-requires returns-3)

@@ -12,8 +12,9 @@ off-by-lack-requires c κs = search needs
 
 returns : tie.Need-returns
 returns c =
-    let tested = c .before .off-by-lack in
-    none-off _ _ _ _ (c .before .before .before .pre .4) (sym (tested .ensures) ∙ not-true _ (c .if1 .taken))
+    let tested = c .before in
+    let tries = tested .before .before .pre .0 in
+    none-off _ _ _ _ (tries .given .parity-number) (sym (tested .off-by-lack .ensures) ∙ not-true _ (c .if1 .taken))
 
 try-positions-requires : tie.Need-try-positions-requires
 try-positions-requires c κs = search needs

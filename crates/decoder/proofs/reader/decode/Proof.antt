@@ -1,5 +1,5 @@
--- `decoder::reader::decode` meets its contract: the refusals come first, and of a word that they let through the theorem of crate decoding says that
--- what its sums lead to is the reading.
+-- `decoder::reader::decode` meets its contract: the refusals come first, and of a word that they let through the theorem of crate decoding
+-- says that what its sums lead to is the reading.
 -- Assumes nothing.
 use borrow.Author.Needs.{needs}
 use mathlib.Core.Path.{_≡_, sym, _∙_}
@@ -84,15 +84,5 @@ returns-3 c =
 
 pub decode-spec : {M : Type 1} → statement M
 decode-spec =
-    tie.close
-    (tie.spec
-    row-of-requires
-    enum-known-row
-    enum-told
-    returns
-    decode-refusal-requires
-    returns-2
-    decode-word-requires
-    same-length
-    same-length-2
-    returns-3)
+    tie.close (tie.spec row-of-requires enum-known-row enum-told returns decode-refusal-requires returns-2 decode-word-requires
+    same-length same-length-2 returns-3)

@@ -1,4 +1,4 @@
--- `decoder::reader::decode_balanced` meets its contract: what the check finds readable is written.
+-- `decoder::reader::decode_balanced` meets its contract: what is judged readable is written.
 -- Assumes nothing.
 use borrow.Author.Needs.{needs}
 use mathlib.Core.Path.{_≡_, subst}
@@ -12,7 +12,7 @@ use denote.Enum.Declared.{tagOf}
 use Rattle.decoder.specs.declared.reader.Decoded.{Decoded}
 use Rattle.decoder.specs.declared.reader.Decoded.the-variants.{Unreadable}
 use Rattle.decoder.proofs.reader.Decoded.{the-type}
-use Rattle.decoder.proofs.Answering.{written-of, judged-near, judged-none, judged-read}
+use Rattle.decoder.proofs.Answering.{messages-of, judged-near, judged-none, judged-read}
 use Rattle.decoder.proofs.reader.decode_balanced.Statement.{statement}
 use Rattle.decoder.proofs.reader.decode_balanced.Tie as tie
 
@@ -22,23 +22,30 @@ none (inl e) = omega arith
 none (inr (inl e)) = omega arith
 none (inr (inr e)) = omega arith
 
-readable : (c : tie.At-match-keys2) → c .before .check .result ≡ Unreadable → ⊥
+readable : (c : tie.At-match-keys2) → c .before .judge .result ≡ Unreadable → ⊥
 readable c e = none (subst (λ (r : Decoded). OneOf (0 ∷ 1 ∷ 3 ∷ []) (tagOf the-type r)) e (c .match .keys2))
 
-check-requires : tie.Need-check-requires
-check-requires c κs = (c .before .before .pre .0 .valid, c .before .before .pre .1)
+judge-requires : tie.Need-judge-requires
+judge-requires c κs = let start = c .before .before in (start .pre .0 .valid, start .pre .1)
 
 enum-told : tie.Need-enum-told
 enum-told c = search needs
 
 returns : tie.Need-returns
-returns c = record { to = λ v p. judged-none _ _ (c .enum-told .given .1) (c .before .before .check .ensures) _ _ _ }
+returns c =
+    let judged = c .before .before in
+    record { to = λ v p. judged-none _ _ (c .enum-told .given .1) (judged .judge .ensures) _ _ _ }
 
 write-pair-requires : tie.Need-write-pair-requires
 write-pair-requires c κs =
-    let s = c .before .before .before .before .before .before .before .before .before in
-    let n = judged-near _ _ _ (c .before .before .before .before .before .before .check .ensures) (readable (c .before .before .before .before .before)) in
-    (s .pre .0, s .pre .1 .first-rows, s .pre .1 .second-rows, n, record { first-long = s .pre .2 .first-long; second-long = s .pre .2 .second-long })
+    let matched = c .before .before .before .before .before in
+    let judged = matched .before in
+    let (levels, totalled, outputs) = judged .before .before .before .pre in
+    let near = judged-near _ _ _ (judged .judge .ensures) (readable matched) in (
+      levels,
+      record { first-rows = totalled .first-rows; second-rows = totalled .second-rows; near = near },
+      record { first-long = outputs .first-long; second-long = outputs .second-long },
+    )
 
 same-length : tie.Need-same-length
 same-length c = search needs
@@ -47,16 +54,11 @@ same-length-2 : tie.Need-same-length-2
 same-length-2 c = search needs
 
 returns-2 : tie.Need-returns-2
-returns-2 c = record { to = λ v p. judged-read _ _ _ (c .before .before .before .before .before .before .before .before .before .before .before .check .ensures) (readable (c .before .before .before .before .before .before .before .before .before .before)) _ (written-of (p true) (p false) (c .before .before .before .before .write-pair .ensures)) }
+returns-2 c =
+    let written = c .before .before .before .before in
+    let matched = written .before .before .before .before .before .before in
+    let found = matched .before .judge .ensures in
+    record { to = λ v p. judged-read _ _ _ found (readable matched) _ (messages-of (p true) (p false) (written .write-pair .ensures)) }
 
 pub decode-balanced-spec : {M : Type 1} → statement M
-decode-balanced-spec =
-    tie.close
-    (tie.spec
-    check-requires
-    enum-told
-    returns
-    write-pair-requires
-    same-length
-    same-length-2
-    returns-2)
+decode-balanced-spec = tie.close (tie.spec judge-requires enum-told returns write-pair-requires same-length same-length-2 returns-2)

@@ -26,14 +26,14 @@ add-weight c = search needs
 checks-of-requires : tie.Need-checks-of-requires
 checks-of-requires c κs = search needs
 
-shared-slice-read-t18 : tie.Need-shared-slice-read-t18
-shared-slice-read-t18 c = search needs
+shared-slice-read-alpha : tie.Need-shared-slice-read-alpha
+shared-slice-read-alpha c = search needs
 
-add-t15 : tie.Need-add-t15
-add-t15 c = search needs
+add-beta : tie.Need-add-beta
+add-beta c = search needs
 
-shared-slice-read-t20 : tie.Need-shared-slice-read-t20
-shared-slice-read-t20 c = search needs
+shared-slice-read-beta : tie.Need-shared-slice-read-beta
+shared-slice-read-beta c = search needs
 
 syndromes-of-requires : tie.Need-syndromes-of-requires
 syndromes-of-requires c κs = search needs
@@ -47,7 +47,7 @@ returns c =
     let asked = y .before .before .before in
     let weighed = asked .before .before .before in
     let start = weighed .before .before in
-    let a = start .pre .0 in
+    let (is, held, table) = start .pre in
     let u = now (start .args .word) in
     let m = start .args .row .balanced in
     let k = weighed .weigh in
@@ -60,11 +60,11 @@ returns c =
       first = y .syndromes-of .result .first;
       second = y .syndromes-of .result .second;
     } in
-    let e = weight-is a (k .ensures) in
-    let g = asked-are a (k .ensures) (asked .checks-of .ensures) in
-    let f = rows-of-part a (start .pre .1) true (y .syndromes-of .ensures .0) in
-    let h = rows-of-part a (start .pre .1) false (y .syndromes-of .ensures .1) in
-    (totalled a s e g (c .difference .ensures) (f .0) (h .0), totals-are a s e g refl refl (f .1) (h .1))
+    let e = weight-is is held (k .ensures) in
+    let g = asked-are is held (k .ensures) (asked .checks-of .ensures) in
+    let f = rows-of-part is held table true (y .syndromes-of .ensures .0) in
+    let h = rows-of-part is held table false (y .syndromes-of .ensures .1) in
+    (totalled is held s e g (c .difference .ensures) (f .0) (h .0), totals-are is held s e g refl refl (f .1) (h .1))
 
 pub total-spec : {M : Type 1} → statement M
 total-spec =
@@ -75,9 +75,9 @@ total-spec =
     cast-weight-2
     add-weight
     checks-of-requires
-    shared-slice-read-t18
-    add-t15
-    shared-slice-read-t20
+    shared-slice-read-alpha
+    add-beta
+    shared-slice-read-beta
     syndromes-of-requires
     difference-requires
     returns)

@@ -28,8 +28,7 @@ loop-holds : tie.Need-loop-holds Inv-loop μ-loop
 loop-holds c =
     let start = c .before .before in
     let most = min (start .args .m) 97 in
-    let end = c .weighable .ensures in
-    (
+    let end = c .weighable .ensures in (
       weighing-none _,
       omega arith,
       omega arith,
@@ -72,8 +71,7 @@ loop-again c =
     let end-below : turn .before .weighable .result ≤ most = rw (inv .3) (min-le-left most _) in
     let below = le-trans within end-below in
     let symbol = getD-take most (now (start .args .word)) (turn .loop .i) 0 below ∙ sym (c .before .wide16 .ensures .0) in
-    let odd = c .if-odd .ensures .0 ∙ ap (λ (j : ℕ). c .before .wide16 .result * (j % 2)) (inv .1) in
-    (
+    let odd = c .if-odd .ensures .0 ∙ ap (λ (j : ℕ). c .before .wide16 .result * (j % 2)) (inv .1) in (
       weighing-next (inv .0) symbol (c .before .wide16 .ensures .1) odd (c .if-odd .ensures .1),
       omega (arith, inv .1),
       omega (arith, within),

@@ -25,9 +25,9 @@ pub record Restored (t : Row) (S : List ℕ) (b : Bool) (x y : List ℕ) : Type 
   pub other : part (not b) (t .n) y ≡ part (not b) (t .n) x
 
 -- k symbols of a component, the one at index i in x at 2 i + side, from index i on put into the output from `next` on
-abbrev pub run : List ℕ → ℕ → ℕ → ℕ → ℕ → List ℕ → List ℕ
-run x side i zero next out = out
-run x side i (suc k) next out = set (run x side i k next out) (next + k) (getD x (2 * (i + k) + side) 0)
+abbrev pub copiedRun : List ℕ → ℕ → ℕ → ℕ → ℕ → List ℕ → List ℕ
+copiedRun x side i zero next out = out
+copiedRun x side i (suc k) next out = set (copiedRun x side i k next out) (next + k) (getD x (2 * (i + k) + side) 0)
 
 -- the outputs hold the messages of the components in x
 pub record Messages (t : Row) (x first second : List ℕ) : Type 0 where
@@ -35,6 +35,6 @@ pub record Messages (t : Row) (x first second : List ℕ) : Type 0 where
   pub second-is : second ≡ message (parameters t) (part false (t .n) x)
 
 -- the outputs hold the messages of the components c and d, whose syndromes are S and S′
-pub record Written (p : Parameters) (c d S S′ first second : List ℕ) : Type 0 where
+pub record RestoredMessages (p : Parameters) (c d S S′ first second : List ℕ) : Type 0 where
   pub first-is : first ≡ message p (restoredBy p S c)
   pub second-is : second ≡ message p (restoredBy p S′ d)
