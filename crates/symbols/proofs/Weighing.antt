@@ -10,7 +10,6 @@ use lib.ListN.{length, getD, drop, drop-of-length-le, List·getD-eq-default}
 use lib.Seq.{drop-drop, getD-drop}
 use Rattle.modular.specs.Sum.{weight}
 use Rattle.code.specs.Codeword.{alternate}
-use Rattle.symbols.specs.declared.weight.Weight.{Weight}
 use Rattle.symbols.specs.Weight.{weightsOf}
 
 -- the first two symbols and the rest; past the end a symbol is 0

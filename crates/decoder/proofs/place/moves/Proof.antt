@@ -11,7 +11,8 @@ use Rattle.decoder.proofs.place.moves.Statement.{statement}
 use Rattle.decoder.proofs.place.moves.Tie as tie
 
 -- the negative of the lack
-negative : (c : tie.After-sub) → let a = c .before .before .args in (c .sub .result ≡ minus (a .row .q) 0 (a .s .lack)) × (c .sub .result < a .row .q)
+negative : (c : tie.After-sub)
+    → let a = c .before .before .args in (c .sub .result ≡ minus (a .row .q) 0 (a .s .lack)) × (c .sub .result < a .row .q)
 negative c =
     let p = c .before .before .pre in
     byte-difference (omega (arith, p .1 .lack-below)) (omega (arith, p .1 .lack-below)) (omega (arith, p .0 .levels)) (c .sub .ensures)

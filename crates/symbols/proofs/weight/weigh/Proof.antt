@@ -1,5 +1,5 @@
--- `symbols::weight::weigh` meets its contract. The invariant: what is summed and what is left of the first m symbols make the whole. The measure
--- is what is left.
+-- `symbols::weight::weigh` meets its contract. The invariant: what is summed and what is left of the first m symbols make the
+-- whole. The measure is what is left.
 -- Assumes nothing.
 use mathlib.Core.Path.{_≡_, sym, _∙_}
 use mathlib.Core.Logic.{inl, inr, ⊎-elim}
