@@ -88,23 +88,23 @@ module _ (t : Row) (valid : Valid t) where
 -- The differences, put back.
 
 -- r is a - x
-record Taken (q a x r : ℕ) : Type 0 where
-  below : r < q
-  back : Congruent q (r + x) a
+pub record Taken (q a x r : ℕ) : Type 0 where
+  pub below : r < q
+  pub back : Congruent q (r + x) a
 
-taken : {q r : ℕ} (a x : ℕ) → q ≤ 255 → a < q → x < q → r ≡ byteDifference q a x → Taken q a x r
+pub taken : {q r : ℕ} (a x : ℕ) → q ≤ 255 → a < q → x < q → r ≡ byteDifference q a x → Taken q a x r
 taken {q} a x n h k e =
     let l : x ≤ q = omega arith in
     let some : 1 ≤ q = omega arith in
     let d = byte-difference h l n e in
     record { below = d .1; back = of-eq (ap (λ (y : ℕ). y + x) (d .0)) then minus-add q a x some }
 
-solves : {q a b two d e one f g : ℕ} (s : List ℕ)
+pub solves-of : {q a b two d e one f g : ℕ} (s : List ℕ)
     → Taken q (getD s 3 0) (getD s 0 0) a → Taken q a (getD s 1 0) b → Taken q b (getD s 2 0) two
     → Taken q 0 (getD s 0 0) d → Taken q d two e → Taken q e two one
     → Taken q 0 (getD s 1 0) f → Taken q 0 (getD s 2 0) g
     → Solves q s (two ∷ one ∷ f ∷ g ∷ [])
-solves {q} {two = two} {one = one} {f = f} {g = g} s ha hb htwo hd he hone hf hg =
+solves-of {q} {two = two} {one = one} {f = f} {g = g} s ha hb htwo hd he hone hf hg =
     record { below = below; two = is-two; one = is-one; powers = powers }
   where
     low : ℕ
@@ -141,21 +141,3 @@ solves {q} {two = two} {one = one} {f = f} {g = g} s ha hb htwo hd he hone hf hg
     powers (suc zero) l m = hf .back
     powers (suc (suc zero)) l m = hg .back
     powers (suc (suc (suc j))) l m = absurd (omega arith)
-
--- The check symbols by the steps of the code, for row sums below q.
-module _ {q : ℕ} (s : List ℕ) (n : q ≤ 255) (low : getD s 0 0 < q) (middle : getD s 1 0 < q) (high : getD s 2 0 < q)
-    (ones : getD s 3 0 < q) where
-  pub solves-of : {a b two d e one f g : ℕ}
-      → a ≡ byteDifference q (getD s 3 0) (getD s 0 0) → b ≡ byteDifference q a (getD s 1 0) → two ≡ byteDifference q b (getD s 2 0)
-      → d ≡ byteDifference q 0 (getD s 0 0) → e ≡ byteDifference q d two → one ≡ byteDifference q e two
-      → f ≡ byteDifference q 0 (getD s 1 0) → g ≡ byteDifference q 0 (getD s 2 0)
-      → Solves q s (two ∷ one ∷ f ∷ g ∷ [])
-  solves-of {a} {b} {two} {d} {e} ha hb htwo hd he hone hf hg =
-      let some : 0 < q = omega arith in
-      let ta = taken (getD s 3 0) (getD s 0 0) n ones low ha in
-      let tb = taken a (getD s 1 0) n (ta .below) middle hb in
-      let ttwo = taken b (getD s 2 0) n (tb .below) high htwo in
-      let td = taken 0 (getD s 0 0) n some low hd in
-      let te = taken d two n (td .below) (ttwo .below) he in
-      let tone = taken e two n (te .below) (ttwo .below) hone in
-      solves s ta tb ttwo td te tone (taken 0 (getD s 1 0) n some middle hf) (taken 0 (getD s 2 0) n some high hg)

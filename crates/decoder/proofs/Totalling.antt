@@ -1,6 +1,6 @@
 -- The sums over a word, each as its definition has it.
 -- Assumes nothing.
-use mathlib.Core.Path.{_≡_, sym, ap, ap₂, _∙_, fun-ext}
+use mathlib.Core.Path.{_≡_, sym, ap, _∙_, fun-ext}
 use mathlib.Core.Bool.{Bool, true, false}
 use mathlib.Core.List.{List}
 use Prim.Native.Nat.{ℕ, _+_, _-_, _*_, _%_, _≤_, min}
@@ -9,7 +9,7 @@ use native.Mathlib.Omega.{arith}
 use lib.ListN.{length, getD, take}
 use Rattle.modular.specs.Sum.{weight}
 use Rattle.code.specs.Parameters.{balancedLength, balancingValue, delta}
-use Rattle.code.specs.Codeword.{alternate, alpha, beta, body, received}
+use Rattle.code.specs.Codeword.{alpha, beta, body, received}
 use Rattle.code.proofs.Columns.{q-positive}
 use Rattle.code.proofs.Lawful.{body-length}
 use Rattle.code.proofs.Delta.{alternate-weight}
@@ -85,7 +85,8 @@ module _ {t : Row} {word x : List ℕ} (is : Word t word) (held : Components t w
         l : List ℕ
         l = take (t .balanced) word
 
-        at : (b : Bool) {y : ℕ} → y ≡ checkOf (record { alpha = alpha (t .q) l; beta = beta (t .q) l }) b → y ≡ checkSymbol (t .q) b (body (parameters t) word)
+        at : (b : Bool) {y : ℕ} → y ≡ checkOf (record { alpha = alpha (t .q) l; beta = beta (t .q) l }) b
+            → y ≡ checkSymbol (t .q) b (body (parameters t) word)
         at true h = h ∙ ap (alpha (t .q)) begins
         at false h = h ∙ ap (beta (t .q)) begins
 

@@ -17,7 +17,8 @@ use Rattle.symbols.proofs.CheckSymbols.{checks-are}
 
 -- w stands in the first symbols, and after it those that its weights ask for
 pub checks-put : (t : Row) → Valid t → (w symbols : List ℕ) → length w ≡ 97 → length symbols ≡ 99
-    → take (t .balanced) symbols ≡ take (t .balanced) w → {c : Checks} → c ≡ checksOf (t .q) (t .delta) (weightsOf (take (min (t .balanced) 97) w))
+    → take (t .balanced) symbols ≡ take (t .balanced) w
+    → {c : Checks} → c ≡ checksOf (t .q) (t .delta) (weightsOf (take (min (t .balanced) 97) w))
     → take (t .balanced + 2) (set (set symbols (t .balanced) (c .alpha)) (t .balanced + 1) (c .beta))
     ≡ withChecks (t .q) (take (t .balanced) w)
 unfolding withChecks

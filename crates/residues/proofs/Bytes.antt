@@ -8,7 +8,7 @@ use native.Mathlib.Omega.{arith}
 use borrow.Author.Tests.{lt-ltb, le-ltb}
 use Rattle.modular.specs.Residue.{Congruent, minus}
 use Rattle.modular.proofs.Search.{le-or-lt}
-use Rattle.modular.proofs.Residue.{of-eq, symm, _then_, same, add, reduce, multiple, cancel, small, minus-is, already-reduced, wrapped}
+use Rattle.modular.proofs.Residue.{of-eq, symm, _then_, same, add, reduce, multiple, cancel, minus-is, already-reduced, wrapped}
 use Rattle.residues.specs.Byte.{byte, byteSum, byteDifference}
 
 -- What the code answers, by its branches.

@@ -2,7 +2,7 @@
 -- Assumes nothing.
 use mathlib.Core.Path.{_≡_, refl, sym, ap, _∙_}
 use mathlib.Core.Bool.{Bool, true, false}
-use mathlib.Core.List.{List, [], _∷_}
+use mathlib.Core.List.{List, _∷_}
 use Prim.Native.Nat.{ℕ, zero, suc, _+_, _-_, _*_, _/_, _%_, _≤_, _<_, suc-le-suc, zero-le}
 use native.Mathlib.Nat.{le-refl, mod-lt, mod-add-div', mul-le-mul, div-le-self, not-suc-le-zero, le-of-suc-le-suc}
 use native.Mathlib.Numerals.{add-one}
@@ -49,35 +49,40 @@ module _ {q : ℕ} (a b : ℕ) (h : 1 ≤ q) where
       let l : residue q b ≤ q = omega (arith, residue-below b h) in
       let d = byte-difference (residue-below a h) l narrow e in
       unique (d .1)
-      (add (of-eq (d .0)) (symm (reduce q b) then of-eq (sym (residue-is b h))) then minus-add q (residue q a) (residue q b) h then of-eq (residue-is a h) then reduce q a)
+      (add (of-eq (d .0)) (symm (reduce q b) then of-eq (sym (residue-is b h)))
+      then minus-add q (residue q a) (residue q b) h
+      then of-eq (residue-is a h)
+      then reduce q a)
 
 pub differs : (q a b : ℕ) → q ≤ 255 → {r : ℕ} → r ≡ byteDifference q (residue q a) (residue q b) → r ≡ residueOfDifference q a b
 unfolding byteDifference residue residueOfDifference
 differs zero a b l e = e
 differs (suc q) a b l e = let h : 1 ≤ suc q = suc-le-suc zero-le in difference-of a b h l e
 
--- The quotient by the inverse.
+-- The quotient by the inverse k.
 
-module _ (q s : ℕ) (some : 1 ≤ q) (narrow : s ≤ 65535) where
+module _ {q k s : ℕ} (some : 1 ≤ q) (inverse : k ≡ 65535 / q) (narrow : s ≤ 65535) where
   abbrev quotient : ℕ
-  quotient = s * (65535 / q) / 65536
+  quotient = s * k / 65536
 
   -- what the product drops, and what the inverse was rounded down by, are each less than q
   dropped : (quotient * q ≤ s) × (s < quotient * q + (q + q))
   dropped =
-      let k : ℕ = 65535 / q in
       let c : ℕ = 65535 % q in
       let u : ℕ = s * k % 65536 in
       let t : ℕ = s * k / 65536 in
       let hc : c < q = mod-lt 65535 some in
       let hu : u < 65536 = mod-lt (s * k) (omega arith) in
-      let inverse : c + k * q ≡ 65535 = mod-add-div' 65535 q in
+      let one : c + k * q ≡ 65535 = rw inverse (mod-add-div' 65535 q) in
       let product : u + t * 65536 ≡ s * k = mod-add-div' (s * k) 65536 in
-      let whole : s * (c + 1) + s * (k * q) ≡ s * 65536 = omega (arith, ap (λ (x : ℕ). s * x) inverse) in
+      let whole : s * (c + 1) + s * (k * q) ≡ s * 65536 = omega (arith, ap (λ (x : ℕ). s * x) one) in
       let parts : u * q + t * q * 65536 ≡ s * (k * q) = omega (arith, ap (λ (x : ℕ). x * q) product) in
       let first : u * q ≤ 65535 * q = mul-le-mul (omega arith) (le-refl q) in
       let second : s * (c + 1) ≤ 65535 * q = rw add-one (mul-le-mul narrow hc) in
       (omega arith, omega arith)
+
+  pub product-small : s * k ≤ 65535 * 65535
+  product-small = let h : k ≤ 65535 = rw inverse (div-le-self 65535 q) in mul-le-mul narrow h
 
   pub quotient-fits : quotient * q ≤ s
   quotient-fits = dropped .0
@@ -95,9 +100,6 @@ module _ (q s : ℕ) (some : 1 ≤ q) (narrow : s ≤ 65535) where
 
   pub left-wrapped : q ≤ s - quotient * q → s - quotient * q - q ≡ s % q
   left-wrapped l = wrapped l left-small .0 ∙ left-is .same
-
-  pub product-small : s * (65535 / q) ≤ 65535 * 65535
-  product-small = mul-le-mul narrow (div-le-self 65535 q)
 
 -- An array of sums.
 

@@ -11,7 +11,6 @@ use Rattle.code.specs.Parameters.{delta}
 use Rattle.code.specs.Codeword.{alternate, alpha, beta}
 use Rattle.residues.proofs.Dividing.{residue-is}
 use Rattle.symbols.specs.declared.weight.Weight.{Weight}
-use Rattle.symbols.specs.declared.checks.Checks.{Checks}
 use Rattle.symbols.specs.Weight.{weightsOf, checksOf}
 
 module _ {q d m : ℕ} (w : List ℕ) (some : 1 ≤ q) (room : m ≤ 97) (long : length (take m w) ≡ m) (row : d ≡ delta q m) where

@@ -6,7 +6,7 @@ use residues::wide32;
 ghost use mathlib.Core.Path.{_≡_};
 ghost use mathlib.Core.Bool.{true, false};
 ghost use mathlib.Core.List.{[], _∷_};
-ghost use Prim.Native.Nat.{min, _≤_};
+ghost use Prim.Native.Nat.{min};
 ghost use Rattle.residues.specs.Remainder.{residue};
 ghost use Rattle.symbols.specs.Syndromes.{rows, Light, Added, part, rowSums};
 

@@ -1,9 +1,10 @@
 -- `components::component::check_symbols` meets its contract: each difference, put back, gives the sum that it was taken from.
 -- Assumes nothing.
+use Prim.Native.Nat.{_≤_, _<_}
 use native.Mathlib.Omega.{arith}
 use borrow.Author.Needs.{needs}
 use Rattle.symbols.specs.Syndromes.{rows}
-use Rattle.components.proofs.Setting.{solves-of}
+use Rattle.components.proofs.Setting.{taken, solves-of}
 use Rattle.components.proofs.component.check_symbols.Statement.{statement}
 use Rattle.components.proofs.component.check_symbols.Tie as tie
 
@@ -33,14 +34,20 @@ sub-requires-8 c κs = search needs
 
 returns : tie.Need-returns
 returns c =
-    let one = c .before .before in
-    let two = one .before .before .before in
-    let start = two .before .before .before in
+    let t₃ = c .before .before .before .before .before in
+    let t₆ = c .before .before in
+    let start = t₃ .before .before .before in
     let p = start .pre in
-    let a = two .before .before .sub .ensures in
-    let b = two .before .sub2 .ensures in
-    solves-of (rows (start .args .s)) (omega arith) (p .0) (p .1) (p .2) (p .3) a b (two .sub3 .ensures)
-    (one .before .before .sub4 .ensures) (one .before .sub5 .ensures) (one .sub6 .ensures) (c .before .sub7 .ensures) (c .sub8 .ensures)
+    let n : start .args .q ≤ 255 = omega arith in
+    let some : 0 < start .args .q = omega (arith, p .0) in
+    let a = taken _ _ n (p .3) (p .0) (t₃ .before .before .sub .ensures) in
+    let b = taken _ _ n (a .below) (p .1) (t₃ .before .sub2 .ensures) in
+    let two = taken _ _ n (b .below) (p .2) (t₃ .sub3 .ensures) in
+    let d = taken _ _ n some (p .0) (t₆ .before .before .sub4 .ensures) in
+    let e = taken _ _ n (d .below) (two .below) (t₆ .before .sub5 .ensures) in
+    let one = taken _ _ n (e .below) (two .below) (t₆ .sub6 .ensures) in
+    let f = taken _ _ n some (p .1) (c .before .sub7 .ensures) in
+    solves-of (rows (start .args .s)) a b two d e one f (taken _ _ n some (p .2) (c .sub8 .ensures))
 
 pub check-symbols-spec : {M : Type 1} → statement M
 check-symbols-spec =

@@ -1,4 +1,5 @@
--- `decoder::body::difference_body` meets its contract. The invariant: the symbols passed are differences of neighbours. The measure is what is left.
+-- `decoder::body::difference_body` meets its contract. The invariant: the symbols passed are differences of neighbours.
+-- The measure is what is left.
 -- Assumes nothing.
 use native.Mathlib.Omega.{arith}
 use denote.Ref.{now}

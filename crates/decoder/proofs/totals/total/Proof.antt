@@ -1,6 +1,6 @@
 -- `decoder::totals::total` meets its contract: each sum is that of its definition.
 -- Assumes nothing.
-use mathlib.Core.Path.{_≡_, refl}
+use mathlib.Core.Path.{refl}
 use mathlib.Core.Bool.{true, false}
 use Prim.Native.Nat.{_+_}
 use denote.Ref.{now}

@@ -1,12 +1,12 @@
 -- `residues::sum::remainders` meets its contract. The invariant: the sums passed are reduced. The measure is what is left.
 -- Assumes nothing.
-use mathlib.Core.Path.{_≡_, refl, sym, ap₂, _∙_}
-use Prim.Native.Nat.{ℕ, _-_, _%_, _≤_}
+use mathlib.Core.Path.{refl, sym, _∙_}
+use Prim.Native.Nat.{_-_, _≤_}
 use native.Mathlib.Omega.{arith}
-use lib.ListN.{length, getD}
+use lib.ListN.{getD}
 use denote.Ref.{now}
 use borrow.Author.Needs.{needs}
-use Rattle.residues.specs.Remainder.{residue, residuesOf}
+use Rattle.residues.specs.Remainder.{residue}
 use Rattle.residues.proofs.Filling.{FilledTo, filled-none, filled-more}
 use Rattle.residues.proofs.Dividing.{residue-is, residues-none, residues-all}
 use Rattle.residues.proofs.sum.remainders.Statement.{statement}
