@@ -49,9 +49,9 @@ count-upto t (suc i) (suc n) l =
 abbrev pub held : Parameters → ℕ → Bool
 held p i = not (checkAt p i)
 
--- index i holds a symbol of the message, whatever r is
-abbrev pub Holds : ℕ → ℕ → Type 0
-Holds q i = (p : Parameters) → Spans p q (i + 1) → isCheck p (i + 1) ≡ false
+-- index i bears a symbol of the message, whatever r is
+abbrev pub Bears : ℕ → ℕ → Type 0
+Bears q i = (p : Parameters) → Spans p q (i + 1) → isCheck p (i + 1) ≡ false
 
 -- The symbols passed.
 
@@ -82,7 +82,7 @@ module _ {q n : ℕ} {c out₀ out : List ℕ} {next i : ℕ} (e : Extracting q 
           ap not (rw add-one at s)
 
   -- a position of the message
-  extracting-more : Holds q i → next < length out₀ → {x : ℕ} → x ≡ getD c i 0 → Extracting q n c out₀ (set out next x) (next + 1) (i + 1)
+  extracting-more : Bears q i → next < length out₀ → {x : ℕ} → x ≡ getD c i 0 → Extracting q n c out₀ (set out next x) (next + 1) (i + 1)
   extracting-more h b {x} f =
       record {
         within = omega arith;
@@ -123,7 +123,7 @@ module _ {t : Row} (v : Valid t) {q : ℕ} (same : q ≡ t .q) {c out₀ out : L
   room {k} {j} a f = omega (arith, f .counted (parameters t) named, count-upto (held (parameters t)) j (t .n) (f .within), total)
 
   module _ (x : List ℕ) (side : ℕ) (symbol : (j : ℕ) → j < t .n → getD x (2 * j + side) 0 ≡ getD c j 0) where
-    pub extracting-run : (k : ℕ) → i + k ≤ t .n → ((j : ℕ) → i ≤ j → j < i + k → Holds q j)
+    pub extracting-run : (k : ℕ) → i + k ≤ t .n → ((j : ℕ) → i ≤ j → j < i + k → Bears q j)
         → Extracting q (t .n) c out₀ (copiedRun x side i k next out) (next + k) (i + k)
     extracting-run zero l h =
         let f : next ≡ next + 0 = omega arith in
@@ -139,7 +139,7 @@ module _ {t : Row} (v : Valid t) {q : ℕ} (same : q ≡ t .q) {c out₀ out : L
         rw (← y, ← z) f
       where
         -- one more fits, since it is counted among all
-        below : {a : List ℕ} {n′ j : ℕ} → Extracting q (t .n) c out₀ a n′ j → j < t .n → Holds q j → n′ < length out₀
+        below : {a : List ℕ} {n′ j : ℕ} → Extracting q (t .n) c out₀ a n′ j → j < t .n → Bears q j → n′ < length out₀
         below {a} {n′} {j} f m g =
             let p : Parameters = parameters t in
             let s : isCheck p (j + 1) ≡ false = g p (record { levels = named .levels; room = omega (arith, named .room) }) in
@@ -147,7 +147,7 @@ module _ {t : Row} (v : Valid t) {q : ℕ} (same : q ≡ t .q) {c out₀ out : L
             let w : count (held p) (suc j) ≡ suc (count (held p) j) = count-pass (held p) j (ap not u) in
             omega (arith, f .counted p named, count-upto (held p) (suc j) (t .n) m, total)
 
-    pub run-room : (k : ℕ) → i + k ≤ t .n → ((j : ℕ) → i ≤ j → j < i + k → Holds q j) → next + k ≤ length out₀
+    pub run-room : (k : ℕ) → i + k ≤ t .n → ((j : ℕ) → i ≤ j → j < i + k → Bears q j) → next + k ≤ length out₀
     run-room k l h = room _ (extracting-run k l h)
 
   pub extracting-all : t .n ≤ i → out ≡ message (parameters t) (take (t .n) c)

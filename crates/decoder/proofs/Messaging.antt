@@ -15,7 +15,7 @@ use Rattle.symbols.specs.Syndromes.{part}
 use Rattle.symbols.proofs.Parts.{part-first, part-second, part-length, part-size}
 use Rattle.symbols.proofs.Powers.{Ahead, ahead-first, ahead-power, check-two, check-power, check-neither}
 use Rattle.decoder.specs.Outputs.{copiedRun, Outputs, Messages}
-use Rattle.decoder.proofs.Extracting.{Holds, Extracting, extracting-none, extracting-skip, extracting-run, run-room, extracting-all}
+use Rattle.decoder.proofs.Extracting.{Bears, Extracting, extracting-none, extracting-skip, extracting-run, run-room, extracting-all}
 
 -- the power stays ahead of later positions up to it
 ahead-later : {q position power : ℕ} → Ahead q position power → (later : ℕ) → position ≤ later → later ≤ power → Ahead q later power
@@ -87,7 +87,7 @@ module _ {t : Row} {q : ℕ} {x first₀ second₀ : List ℕ} (given : Given t 
 
     -- a run that ends before the power
     module _ (k : ℕ) (l : i + k ≤ t .n) (h : i + k < power) where
-      held : (j : ℕ) → i ≤ j → j < i + k → Holds q j
+      held : (j : ℕ) → i ≤ j → j < i + k → Bears q j
       held j a b =
           let z : i + 1 ≤ j + 1 = omega arith in
           let y : j + 1 ≤ power = omega arith in

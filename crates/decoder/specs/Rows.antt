@@ -60,7 +60,7 @@ pub record Moved (t : Row) (f a : ℕ) (s s′ : List ℕ) : Type 0 where
   pub are : rowsOf t s′ ≡ moved (parameters t) f a (rowsOf t s)
 
 -- the four rows of two syndromes that are near
-pub record Near (t : Row) (s s′ : List ℕ) : Type 0 where
+pub record NearRows (t : Row) (s s′ : List ℕ) : Type 0 where
   pub first-rows : FourRows t s
   pub second-rows : FourRows t s′
   pub near : T (nearSyndromes (parameters t) (rowsOf t s) (rowsOf t s′))

@@ -13,7 +13,7 @@ ghost use lib.ListN.{length};
 ghost use Rattle.decoding.specs.Syndromes.{nearSyndrome};
 ghost use Rattle.profiles.specs.Row.{parameters};
 ghost use Rattle.symbols.specs.Syndromes.{rows, part};
-ghost use Rattle.decoder.specs.Rows.{FourRows, rowsOf, Near};
+ghost use Rattle.decoder.specs.Rows.{FourRows, rowsOf, NearRows};
 ghost use Rattle.decoder.specs.Sides.{isFirst};
 ghost use Rattle.decoder.specs.Received.{Body};
 ghost use Rattle.decoder.specs.Outputs.{Restored, Outputs, Messages, RestoredMessages, copiedRun};
@@ -76,7 +76,7 @@ pub(crate) fn write_pair(
     first: &mut [u8],
     second: &mut [u8],
 )
-    requires { ⌜ Body row (now x) × Near row (rows s) (rows t) × Outputs row (now first) (now second) ⌝ }
+    requires { ⌜ Body row (now x) × NearRows row (rows s) (rows t) × Outputs row (now first) (now second) ⌝ }
     ensures { λ _. ⌜
         RestoredMessages (parameters row) (part true (row .n) (now (x .entry))) (part false (row .n) (now (x .entry)))
         (rowsOf row (rows s)) (rowsOf row (rows t)) (now (first .exit)) (now (second .exit)) ⌝ }
