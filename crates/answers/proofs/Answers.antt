@@ -6,18 +6,18 @@ use mathlib.Core.List.{List}
 use Prim.Native.Nat.{ℕ, suc, _-_, _≤_, zero-le}
 use lib.Dec.{T, leb, leb→le}
 use lib.ListN.{length, take}
-use Rattle.modular.specs.Search.{allBelow}
-use Rattle.code.specs.Parameters.{messageLength}
-use Rattle.code.specs.Profiles.{profiles, isProfile, profile}
-use Rattle.code.proofs.Profiles.{every-profile, profile-none}
+use Rattle.modular_theory.specs.Search.{allBelow}
+use Rattle.code_theory.specs.Parameters.{messageLength}
+use Rattle.code_theory.specs.Profiles.{profiles, isProfile, profile}
+use Rattle.code_theory.proofs.Profiles.{every-profile, profile-none}
 use Rattle.profiles.specs.declared.row.Row.{Row}
 use Rattle.profiles.specs.Row.{RowOf}
 use Rattle.profiles.proofs.Table.{message-is}
-use Rattle.code.specs.Reading.{read, unreadable}
-use Rattle.code.specs.Operations.{Answer, refused, answered, decodeAnswer, Report, report, decodeOutput}
-use Rattle.stream.specs.Line.{answerLine, readAnswer, lineAnswer}
-use Rattle.stream.proofs.Order.{line-good}
-use Rattle.stream.proofs.Bounds.{SmallAnswer, decode-small}
+use Rattle.code_theory.specs.Reading.{read, unreadable}
+use Rattle.code_theory.specs.Operations.{Answer, refused, answered, decodeAnswer, Report, report, decodeOutput}
+use Rattle.lines_theory.specs.Line.{answerLine, readAnswer, lineAnswer}
+use Rattle.lines_theory.proofs.Order.{line-good}
+use Rattle.lines_theory.proofs.Bounds.{SmallAnswer, decode-small}
 use Rattle.answers.proofs.Forms.{GoodLine}
 use Rattle.answers.specs.Writing.{shownLine, Small}
 

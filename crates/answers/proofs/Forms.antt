@@ -11,9 +11,9 @@ use native.Mathlib.Omega.{arith}
 use lib.Dec.{T, leb, eqb, leb→le, le→leb, eqb→eq}
 use lib.ListN.{length, getD, take, drop, set, length-set, length-drop}
 use lib.Seq.{take-suc-set, take-suc, getD-drop, take-all}
-use Rattle.modular.proofs.Search.{and-intro, and-left, and-right, and-four, and-parts, eq-test, passes, fails, le-or-lt}
-use Rattle.code.proofs.Merge.{cases}
-use Rattle.stream.specs.Line.{isDigit, digitsOnly, digitValue, symbolsOf, hasForm, isShort, profileOf}
+use Rattle.modular_theory.proofs.Search.{and-intro, and-left, and-right, and-four, and-parts, eq-test, passes, fails, le-or-lt}
+use Rattle.code_theory.proofs.Merge.{cases}
+use Rattle.lines_theory.specs.Line.{isDigit, digitsOnly, digitValue, symbolsOf, hasForm, isShort, profileOf}
 use Rattle.answers.specs.declared.form.Form.{Form}
 use Rattle.answers.specs.declared.form.Form.the-variants.{Good, Bad}
 use Rattle.answers.specs.Forms.{formOf, Valued, Higher, DigitValues, Parsed}

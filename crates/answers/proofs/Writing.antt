@@ -10,9 +10,9 @@ use lib.Dec.{ltb}
 use lib.ListN.{length, getD, take, drop, set, length-append, length-map, length-set, length-drop, take-append-drop}
 use lib.Seq.{take-suc, take-all, take-at, set-split, length-take-le, drop-append-add, drop-drop}
 use borrow.Author.Tests.{lt-ltb, le-ltb}
-use Rattle.stream.specs.Line.{digitByte, decimalBefore, decimal, refusalLine, readingLine}
-use Rattle.stream.specs.Feed.{overwritten}
-use Rattle.code.proofs.Merge.{cases}
+use Rattle.lines_theory.specs.Line.{digitByte, decimalBefore, decimal, refusalLine, readingLine}
+use Rattle.lines_theory.specs.Feed.{overwritten}
+use Rattle.code_theory.proofs.Merge.{cases}
 use Rattle.answers.specs.Writing.{Written, headingOf}
 
 module _ {a b : List ℕ} {i j : ℕ} {x : List ℕ} (w : Written a b i j x) where

@@ -6,7 +6,7 @@ use mathlib.Core.List.{List, map}
 use Prim.Native.Nat.{ℕ, _-_, _≤_, _<_}
 use lib.Dec.{T}
 use lib.ListN.{length, take}
-use Rattle.stream.specs.Line.{isDigit, digitsOnly, digitValue, symbolsOf, isShort, hasForm, profileOf}
+use Rattle.lines_theory.specs.Line.{isDigit, digitsOnly, digitValue, symbolsOf, isShort, hasForm, profileOf}
 use Rattle.answers.specs.declared.form.Form.{Form}
 use Rattle.answers.specs.declared.form.Form.the-variants.{Good, Bad}
 

@@ -4,10 +4,10 @@ use mathlib.Core.Path.{_≡_}
 use mathlib.Core.List.{List, [], _∷_, _++_}
 use Prim.Native.Nat.{ℕ, _+_, _≤_}
 use lib.ListN.{length, take, drop}
-use Rattle.code.specs.Component.{Below}
-use Rattle.code.specs.Reading.{correction}
-use Rattle.code.specs.Operations.{Report, refusal, failure, success}
-use Rattle.stream.specs.Line.{digitByte, decimal, letter, refusalLine, readingLine}
+use Rattle.code_theory.specs.Component.{Below}
+use Rattle.code_theory.specs.Reading.{correction}
+use Rattle.code_theory.specs.Operations.{Report, refusal, failure, success}
+use Rattle.lines_theory.specs.Line.{digitByte, decimal, letter, refusalLine, readingLine}
 
 -- bytes stand from index at on, up to end, and all else is as it was
 pub record Written (old new : List ℕ) (at end : ℕ) (bytes : List ℕ) : Type 0 where

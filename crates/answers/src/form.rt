@@ -4,7 +4,7 @@ ghost use mathlib.Core.Bool.{_&&_};
 ghost use Prim.Native.Nat.{_+_, _≤_};
 ghost use lib.Dec.{leb};
 ghost use lib.ListN.{length, drop};
-ghost use Rattle.stream.specs.Line.{isShort};
+ghost use Rattle.lines_theory.specs.Line.{isShort};
 ghost use Rattle.answers.specs.Forms.{Valued, Higher, DigitValues, Parsed};
 
 // 01: "A line not of this form gives 9". Of the form: its profile.

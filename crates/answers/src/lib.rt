@@ -6,8 +6,8 @@ mod text;
 ghost use mathlib.Core.Path.{_≡_};
 ghost use Prim.Native.Nat.{_≤_};
 ghost use lib.ListN.{length};
-ghost use Rattle.stream.specs.Line.{lineAnswer};
-ghost use Rattle.stream.specs.Feed.{overwritten};
+ghost use Rattle.lines_theory.specs.Line.{lineAnswer};
+ghost use Rattle.lines_theory.specs.Feed.{overwritten};
 use crate::form::Form;
 
 // What an answer is written into. The longest, byte 10 included, has 101 bytes.

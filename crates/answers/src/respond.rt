@@ -2,10 +2,10 @@
 ghost use mathlib.Core.Path.{_≡_};
 ghost use Prim.Native.Nat.{_≤_};
 ghost use lib.ListN.{length};
-ghost use Rattle.code.specs.Parameters.{messageLength};
-ghost use Rattle.code.specs.Profiles as Profiles;
+ghost use Rattle.code_theory.specs.Parameters.{messageLength};
+ghost use Rattle.code_theory.specs.Profiles as Profiles;
 ghost use Rattle.decoder.specs.Decode.{decodedReport};
-ghost use Rattle.stream.specs.Line.{answerLine, readAnswer};
+ghost use Rattle.lines_theory.specs.Line.{answerLine, readAnswer};
 ghost use Rattle.answers.specs.Writing.{Written, shownLine, Small};
 use decoder::Decoded;
 use profiles::Lookup;

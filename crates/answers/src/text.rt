@@ -3,8 +3,8 @@ ghost use mathlib.Core.Path.{_≡_};
 ghost use mathlib.Core.List.{[], _∷_, _++_, map};
 ghost use Prim.Native.Nat.{_+_, _≤_, _<_};
 ghost use lib.ListN.{length};
-ghost use Rattle.code.specs.Component.{Below};
-ghost use Rattle.stream.specs.Line.{digitByte, decimal, refusalLine, readingLine};
+ghost use Rattle.code_theory.specs.Component.{Below};
+ghost use Rattle.lines_theory.specs.Line.{digitByte, decimal, refusalLine, readingLine};
 ghost use Rattle.answers.specs.Writing.{Written, headingOf};
 
 // Two bytes.

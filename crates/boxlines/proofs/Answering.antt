@@ -8,9 +8,9 @@ use native.Mathlib.Omega.{arith}
 use lib.Dec.{T}
 use lib.ListN.{length, take, drop}
 use lib.Seq.{take-all}
-use Rattle.stream.specs.Feed.{Partial, Model, feed, finishing, isDone, lineAfterAll, settled, lineEnds, lastLines}
-use Rattle.stream.proofs.Progress.{piece, piece-is, StepCall, step-reaches, step-whole, step-empties, FinishCall}
-use Rattle.stream.proofs.Counting.{line-further, ends-further, feed-line, finish-counts, done-counts, last-one}
+use Rattle.lines_theory.specs.Feed.{Partial, Model, feed, finishing, isDone, lineAfterAll, settled, lineEnds, lastLines}
+use Rattle.lines_theory.proofs.Progress.{piece, piece-is, StepCall, step-reaches, step-whole, step-empties, FinishCall}
+use Rattle.lines_theory.proofs.Counting.{line-further, ends-further, feed-line, finish-counts, done-counts, last-one}
 
 -- the first `at` bytes of the piece are taken: the line so far, and the lines answered
 pub record Sofar (m₀ : Model) (input : List ℕ) (at : ℕ) (m : Model) (lines : ℕ) : Type 0 where

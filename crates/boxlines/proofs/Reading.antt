@@ -13,8 +13,8 @@ use mir.Val.{ofZ, toZ, SFits}
 use mir.Facts.{toZ-ofZ}
 use borrow.Author.Tests.{ltb-true}
 use Rattle.io.specs.Counts.{clamped}
-use Rattle.stream.specs.Feed.{Model}
-use Rattle.stream.proofs.Progress.{take-min}
+use Rattle.lines_theory.specs.Feed.{Model}
+use Rattle.lines_theory.proofs.Progress.{take-min}
 use Rattle.boxlines.specs.declared.Status.{Status}
 use Rattle.boxlines.specs.declared.Status.the-variants.{ReadFailed}
 use Rattle.boxlines.specs.Turns.{AnswersPiece, AnswersEnd, AnswersRead}

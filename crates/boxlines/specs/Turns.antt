@@ -5,7 +5,7 @@ use mathlib.Core.List.{List}
 use Prim.Native.Nat.{ℕ, zero, suc}
 use lib.IntN.{ℤ, pos, negsuc}
 use lib.ListN.{take}
-use Rattle.stream.specs.Feed.{Model, settled, lineEnds, lastLines}
+use Rattle.lines_theory.specs.Feed.{Model, settled, lineEnds, lastLines}
 use Rattle.boxlines.specs.declared.Status.{Status}
 use Rattle.boxlines.specs.declared.Status.the-variants.{More, Ended, ReadFailed, WriteFailed}
 

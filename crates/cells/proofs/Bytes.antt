@@ -12,8 +12,8 @@ use lib.Dec.{T, ltb, eqb, eqb·suc-zero}
 use lib.ListN.{length, getD, take, drop, set, replicate, length-drop, drop-of-length-le}
 use lib.Seq.{take-all, drop-length}
 use borrow.Author.Tests.{ltb-false, lt-ltb, ne-eqb}
-use Rattle.modular.proofs.Search.{holds, and-left, and-right, le-or-lt}
-use Rattle.sheet.specs.Lists.{allZero, zeros}
+use Rattle.modular_theory.proofs.Search.{holds, and-left, and-right, le-or-lt}
+use Rattle.queue_theory.specs.Lists.{allZero, zeros}
 use Rattle.cells.specs.Bytes.{copied}
 
 -- a part of n bytes from a on, as a range lends it

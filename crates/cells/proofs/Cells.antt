@@ -11,10 +11,10 @@ use lib.ListN.{length, take, drop, set}
 use lib.Seq.{drop-cons}
 use borrow.Rule.Slice.PartMut.{putMid}
 use borrow.Author.Tests.{lt-leb, eq-eqb}
-use Rattle.modular.proofs.Search.{and-left, and-right, and-intro, same-test, holds}
-use Rattle.sheet.specs.Lists.{zeros}
-use Rattle.sheet.specs.Layout.{cellSize, bodySize, nextCell, firstFree, cellBody, setNext, setFirstFree, setBody}
-use Rattle.sheet.specs.Operations.{linked, shownCell, dequeued}
+use Rattle.modular_theory.proofs.Search.{and-left, and-right, and-intro, same-test, holds}
+use Rattle.queue_theory.specs.Lists.{zeros}
+use Rattle.queue_theory.specs.Layout.{cellSize, bodySize, nextCell, firstFree, cellBody, setNext, setFirstFree, setBody}
+use Rattle.queue_theory.specs.Operations.{linked, shownCell, dequeued}
 use Rattle.cells.specs.Cells.{hasCell, writtenIf, shownAt, released}
 
 written-if : (b : Bool) (written before : List ℕ) → T b → writtenIf b written before ≡ written

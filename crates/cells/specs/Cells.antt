@@ -5,8 +5,8 @@ use mathlib.Core.List.{List}
 use Prim.Native.Nat.{ℕ, _+_, _*_}
 use lib.Dec.{eqb, leb}
 use lib.ListN.{length}
-use Rattle.sheet.specs.Layout.{cellSize, nextCell}
-use Rattle.sheet.specs.Operations.{shownCell, dequeued}
+use Rattle.queue_theory.specs.Layout.{cellSize, nextCell}
+use Rattle.queue_theory.specs.Operations.{shownCell, dequeued}
 
 -- cell i lies in the bytes
 abbrev pub hasCell : List ℕ → ℕ → Bool

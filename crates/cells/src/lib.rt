@@ -13,8 +13,8 @@ ghost use mathlib.Core.Path.{_≡_};
 ghost use Prim.Native.Nat.{_-_};
 ghost use lib.Dec.{T};
 ghost use lib.ListN.{length};
-ghost use Rattle.sheet.specs.Layout.{isQueueLength, capacity};
-ghost use Rattle.sheet.specs.Operations.{linked, formatQueue};
+ghost use Rattle.queue_theory.specs.Layout.{isQueueLength, capacity};
+ghost use Rattle.queue_theory.specs.Operations.{linked, formatQueue};
 ghost use Rattle.cells.specs.Cells.{shownAt, released};
 
 // Links each cell from 1 on to the one after it, but for the last cell.

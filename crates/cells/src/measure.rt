@@ -1,6 +1,6 @@
 // The size of a queue and of its cells.
 ghost use mathlib.Core.Path.{_≡_};
-ghost use Rattle.sheet.specs.Layout.{isQueueLength, capacity};
+ghost use Rattle.queue_theory.specs.Layout.{isQueueLength, capacity};
 
 // The bytes of a cell (01: 104), and those after its byte 0.
 pub const CELL_SIZE: usize = 104;

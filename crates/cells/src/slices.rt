@@ -1,7 +1,7 @@
 // Whole slices: copied, cleared, tested for zero.
 ghost use mathlib.Core.Path.{_≡_};
 ghost use lib.ListN.{length};
-ghost use Rattle.sheet.specs.Lists.{allZero, zeros};
+ghost use Rattle.queue_theory.specs.Lists.{allZero, zeros};
 ghost use Rattle.cells.specs.Bytes.{copied};
 
 // Copies as many bytes as both slices have.

@@ -8,10 +8,10 @@ use Prim.Native.Nat.{ℕ, zero, suc, _+_, _-_, _*_, _≤_, _<_}
 use native.Mathlib.Omega.{arith}
 use lib.ListN.{length, getD, take, drop, set, length-drop}
 use lib.Seq.{take-set-lt, drop-set-add, drop-cons, getD-take, getD-set-other, length-take-le}
-use Rattle.code.specs.Balance.{interleave}
-use Rattle.code.specs.Codeword.{alternate}
-use Rattle.code.proofs.Weights.{double, double-is}
-use Rattle.code.proofs.Alternate.{first-set, second-set, first-kept, second-kept}
+use Rattle.code_theory.specs.Balance.{interleave}
+use Rattle.code_theory.specs.Codeword.{alternate}
+use Rattle.code_theory.proofs.Weights.{double, double-is}
+use Rattle.code_theory.proofs.Alternate.{first-set, second-set, first-kept, second-kept}
 use Rattle.symbols.specs.Syndromes.{part}
 use Rattle.components.specs.Checks.{setAt}
 

@@ -7,17 +7,17 @@ use Prim.Native.Nat.{ℕ, suc, _-_, _≤_}
 use lib.Dec.{T, eqb, leb, eqb→eq, leb→le}
 use lib.ListN.{length, take, replicate}
 use lib.Seq.{take-append-seam}
-use Rattle.modular.specs.Search.{allBelow}
-use Rattle.modular.proofs.Search.{holds, and-intro, and-left, and-right, eq-test, passes}
-use Rattle.code.specs.Parameters.{Parameters, messageLength, balancedLength}
-use Rattle.code.specs.Codeword.{interleaved}
-use Rattle.code.specs.Profiles.{profiles, isProfile, profile}
-use Rattle.code.proofs.Pair.{length-interleaved}
-use Rattle.code.proofs.Profiles.{every-profile}
+use Rattle.modular_theory.specs.Search.{allBelow}
+use Rattle.modular_theory.proofs.Search.{holds, and-intro, and-left, and-right, eq-test, passes}
+use Rattle.code_theory.specs.Parameters.{Parameters, messageLength, balancedLength}
+use Rattle.code_theory.specs.Codeword.{interleaved}
+use Rattle.code_theory.specs.Profiles.{profiles, isProfile, profile}
+use Rattle.code_theory.proofs.Pair.{length-interleaved}
+use Rattle.code_theory.proofs.Profiles.{every-profile}
 use Rattle.profiles.specs.declared.row.Row.{Row}
 use Rattle.profiles.specs.Row.{Valid, parameters, RowOf}
 use Rattle.profiles.proofs.Table.{message-is}
-use Rattle.components.specs.Components.{zeroFirst, padded, fits, componentsOf}
+use Rattle.components.specs.Components.{zeroFirst, padded, bothLong, componentsOf}
 
 -- a component of a profile has at least three check symbols
 many : ℕ → Bool
@@ -37,7 +37,7 @@ module _ (i : ℕ) (a b : List ℕ) where
   array u = elim u [ true ↦ padded (profile i) a b | false ↦ replicate 97 0 ]
 
   abbrev tested : Bool → ℕ → List ℕ
-  tested p m = array (p && fits m (length a) (length b))
+  tested p m = array (p && bothLong m (length a) (length b))
 
   length-first : (p : Parameters) → length (zeroFirst p a b) ≡ balancedLength p
   unfolding zeroFirst interleaved
@@ -50,8 +50,8 @@ module _ (i : ℕ) (a b : List ℕ) where
   components-interleaved h ha hb =
       let p : Parameters = profile i in
       let m : ℕ = messageLength p in
-      let e : isProfile i && fits m (length a) (length b) ≡ true =
-      passes (and-intro (isProfile i) (fits m (length a) (length b)) h (and-intro (eqb (length a) m) (eqb (length b) m) (eq-test ha) (eq-test hb))) in
+      let e : isProfile i && bothLong m (length a) (length b) ≡ true =
+      passes (and-intro (isProfile i) (bothLong m (length a) (length b)) h (and-intro (eqb (length a) m) (eqb (length b) m) (eq-test ha) (eq-test hb))) in
       ap (λ (u : Bool). take (balancedLength p) (array u)) e
       ∙ ap (λ (k : ℕ). take k (zeroFirst p a b ++ replicate (97 - balancedLength p) 0)) (sym (length-first p))
       ∙ take-append-seam (zeroFirst p a b) (replicate (97 - balancedLength p) 0)
@@ -62,16 +62,16 @@ module _ (i : ℕ) (a b : List ℕ) where
 
   -- by the row that is asked for
   module _ {t : Row} (of : RowOf i t) where
-    by-row : array (fits (t .message) (length a) (length b)) ≡ componentsOf i a b
+    by-row : array (bothLong (t .message) (length a) (length b)) ≡ componentsOf i a b
     unfolding componentsOf
     by-row = ap (λ (p : Bool). tested p (t .message)) (sym (passes {b = isProfile i} (of .known))) ∙ ap (tested (isProfile i)) (message-is of)
 
-    pub no-fit : fits (t .message) (length a) (length b) ≡ false → replicate 97 0 ≡ componentsOf i a b
+    pub no-fit : bothLong (t .message) (length a) (length b) ≡ false → replicate 97 0 ≡ componentsOf i a b
     no-fit e = ap array (sym e) ∙ by-row
 
-    module _ (e : fits (t .message) (length a) (length b) ≡ true) where
-      lengths : T (fits (t .message) (length a) (length b))
-      lengths = holds (fits (t .message) (length a) (length b)) e
+    module _ (e : bothLong (t .message) (length a) (length b) ≡ true) where
+      lengths : T (bothLong (t .message) (length a) (length b))
+      lengths = holds (bothLong (t .message) (length a) (length b)) e
 
       pub right-length : Valid t × (3 ≤ t .r) × (length a ≡ messageLength (parameters t)) × (length b ≡ messageLength (parameters t))
       right-length =

@@ -8,14 +8,14 @@ use native.Mathlib.Omega.{arith}
 use lib.Dec.{lit<}
 use lib.ListN.{length, getD, take, drop, replicate, length-drop, length-replicate, getD-replicate, take-append-drop}
 use lib.Seq.{getD-drop, ext-getD}
-use Rattle.code.specs.Parameters.{messageLength}
-use Rattle.code.specs.Component.{component, merge, checkAt}
-use Rattle.code.specs.Balance.{interleave}
-use Rattle.code.proofs.Columns.{q-positive}
+use Rattle.code_theory.specs.Parameters.{messageLength}
+use Rattle.code_theory.specs.Component.{component, merge, checkAt}
+use Rattle.code_theory.specs.Balance.{interleave}
+use Rattle.code_theory.proofs.Columns.{q-positive}
 use Rattle.profiles.specs.declared.row.Row.{Row}
 use Rattle.profiles.specs.Row.{Valid, parameters}
 use Rattle.symbols.specs.Columns.{Columns}
-use Rattle.symbols.specs.declared.syndromes.Syndrome.{Syndrome}
+use Rattle.symbols.specs.declared.sums.Syndrome.{Syndrome}
 use Rattle.symbols.specs.Syndromes.{rows, part, rowSums}
 use Rattle.symbols.proofs.Parts.{part-length}
 use Rattle.symbols.proofs.Rows.{sums-are, sums-below}
@@ -27,7 +27,7 @@ use Rattle.components.proofs.Residues.{any-solved}
 module _ (t : Row) (valid : Valid t) {columns : List (List ℕ)} (right : Columns (t .q) (t .n) columns) where
   -- the sums over an array are symbols
   pub sums-symbols : (c : List ℕ) (s : Syndrome) → length c ≤ t .n → rows s ≡ rowSums (t .q) columns c
-      → (s .low < t .q) × (s .middle < t .q) × (s .high < t .q) × (s .ones < t .q)
+      → (s .low < t .q) × (s .mid < t .q) × (s .high < t .q) × (s .ones < t .q)
   sums-symbols c s l e = (at 0 (lit< tt), at 1 (lit< tt), at 2 (lit< tt), at 3 (lit< tt))
     where
       at : (j : ℕ) → j < 4 → getD (rows s) j 0 < t .q

@@ -11,11 +11,11 @@ use native.Mathlib.Omega.{arith}
 use native.Mathlib.Decide.{ℕ-discrete}
 use lib.ListN.{length, getD, drop, set, replicate, length-set, List·getD-eq-default}
 use lib.Seq.{getD-drop, getD-set-same, getD-set-other, ext-getD}
-use Rattle.modular.proofs.Search.{le-or-lt}
-use Rattle.code.specs.Parameters.{Parameters, Sized, messageLength}
-use Rattle.code.specs.Component.{isCheck, checkAt, merge}
-use Rattle.code.proofs.Merge.{cases, opposite, count, count-not, length-merge, count-pass, count-fail, shift}
-use Rattle.code.proofs.Reduced.{check-count}
+use Rattle.modular_theory.proofs.Search.{le-or-lt}
+use Rattle.code_theory.specs.Parameters.{Parameters, Sized, messageLength}
+use Rattle.code_theory.specs.Component.{isCheck, checkAt, merge}
+use Rattle.code_theory.proofs.Merge.{cases, opposite, passing, count-not, length-merge, count-pass, count-fail, shift}
+use Rattle.code_theory.proofs.Reduced.{check-count}
 use Rattle.profiles.specs.declared.row.Row.{Row}
 use Rattle.profiles.specs.Row.{parameters}
 use Rattle.symbols.specs.Syndromes.{part}
@@ -27,30 +27,30 @@ use Rattle.symbols.proofs.Words.{zeros-at}
 
 -- The symbols of a merged word.
 
-pub merge-check : (t : ℕ → Bool) (n : ℕ) (e a : List ℕ) (i : ℕ) → i < n → t i ≡ true → getD (merge t n e a) i 0 ≡ getD e (count t i) 0
+pub merge-check : (t : ℕ → Bool) (n : ℕ) (e a : List ℕ) (i : ℕ) → i < n → t i ≡ true → getD (merge t n e a) i 0 ≡ getD e (passing t i) 0
 merge-check t zero e a i l h = absurd (not-suc-le-zero l)
 merge-check t (suc n) e a zero l h = rw (h, merge)
 merge-check t (suc n) e a (suc i) l h =
     cases (t 0)
-    (λ b. rw (b, merge, count) (merge-check (shift t) n (drop 1 e) a i (le-of-suc-le-suc l) h ∙ getD-drop 1 e (count (shift t) i) 0 ∙ rw one-add))
-    (λ b. rw (b, merge, count) (merge-check (shift t) n e (drop 1 a) i (le-of-suc-le-suc l) h))
+    (λ b. rw (b, merge, passing) (merge-check (shift t) n (drop 1 e) a i (le-of-suc-le-suc l) h ∙ getD-drop 1 e (passing (shift t) i) 0 ∙ rw one-add))
+    (λ b. rw (b, merge, passing) (merge-check (shift t) n e (drop 1 a) i (le-of-suc-le-suc l) h))
 
-pub merge-message : (t : ℕ → Bool) (n : ℕ) (e a : List ℕ) (i : ℕ) → i < n → t i ≡ false → getD (merge t n e a) i 0 ≡ getD a (count (opposite t) i) 0
+pub merge-message : (t : ℕ → Bool) (n : ℕ) (e a : List ℕ) (i : ℕ) → i < n → t i ≡ false → getD (merge t n e a) i 0 ≡ getD a (passing (opposite t) i) 0
 merge-message t zero e a i l h = absurd (not-suc-le-zero l)
 merge-message t (suc n) e a zero l h = rw (h, merge)
 merge-message t (suc n) e a (suc i) l h =
-    cases (t 0) (λ b. rw (b, merge, count) (merge-message (shift t) n (drop 1 e) a i (le-of-suc-le-suc l) h))
-    (λ b. rw (b, merge, count)
-    (merge-message (shift t) n e (drop 1 a) i (le-of-suc-le-suc l) h ∙ getD-drop 1 a (count (opposite (shift t)) i) 0 ∙ rw one-add))
+    cases (t 0) (λ b. rw (b, merge, passing) (merge-message (shift t) n (drop 1 e) a i (le-of-suc-le-suc l) h))
+    (λ b. rw (b, merge, passing)
+    (merge-message (shift t) n e (drop 1 a) i (le-of-suc-le-suc l) h ∙ getD-drop 1 a (passing (opposite (shift t)) i) 0 ∙ rw one-add))
 
 -- Counting one index more.
 
-count-below : (t : ℕ → Bool) (i n : ℕ) → t i ≡ true → i < n → count t i < count t n
+count-below : (t : ℕ → Bool) (i n : ℕ) → t i ≡ true → i < n → passing t i < passing t n
 count-below t i zero h l = absurd (not-suc-le-zero l)
-count-below t zero (suc n) h l = rw (h, count) (suc-le-suc zero-le)
+count-below t zero (suc n) h l = rw (h, passing) (suc-le-suc zero-le)
 count-below t (suc i) (suc n) h l =
-    let k : count (shift t) i < count (shift t) n = count-below (shift t) i n h (le-of-suc-le-suc l) in
-    cases (t 0) (λ b. rw (b, count) (suc-le-suc k)) (λ b. rw (b, count) k)
+    let k : passing (shift t) i < passing (shift t) n = count-below (shift t) i n h (le-of-suc-le-suc l) in
+    cases (t 0) (λ b. rw (b, passing) (suc-le-suc k)) (λ b. rw (b, passing) k)
 
 -- The loop.
 
@@ -58,7 +58,7 @@ count-below t (suc i) (suc n) h l =
 record Placing (p : Parameters) (a word : List ℕ) (next i : ℕ) : Type 0 where
   size : length word ≡ p .n
   rest : (k : ℕ) → i ≤ k → getD word k 0 ≡ 0
-  counted : next ≡ count (opposite (checkAt p)) i
+  counted : next ≡ passing (opposite (checkAt p)) i
   done : (k : ℕ) → k < i → getD word k 0 ≡ getD (merge (checkAt p) (p .n) [] a) k 0
 
 module _ {p : Parameters} {a word : List ℕ} {next i : ℕ} (s : Placing p a word next i) (l : i < p .n) where
@@ -97,7 +97,7 @@ all-placed {p} {a} {word} s =
     ext-getD 0 word (merge (checkAt p) (p .n) [] a) (s .size ∙ sym (length-merge (checkAt p) (p .n) [] a)) (λ i l. s .done i (rw (s .size) at l))
 
 -- a message has a symbol for each position without a check symbol
-pub message-count : (p : Parameters) → Sized p → messageLength p ≡ count (opposite (checkAt p)) (p .n)
+pub message-count : (p : Parameters) → Sized p → messageLength p ≡ passing (opposite (checkAt p)) (p .n)
 message-count p s = omega (arith, check-count p s, count-not (checkAt p) (p .n))
 
 -- Both messages, in one array.
@@ -110,7 +110,7 @@ pub record Pair (p : Parameters) (a b x : List ℕ) (power next position : ℕ) 
   pub head : getD x 0 0 ≡ 0
   pub past : (k : ℕ) → 2 * p .n + 1 ≤ k → getD x k 0 ≡ 0
   pub ahead : Ahead (p .q) position power
-  pub counted : next ≡ count (opposite (checkAt p)) i
+  pub counted : next ≡ passing (opposite (checkAt p)) i
   first : Placing p a (part true (p .n) x) next i
   second : Placing p b (part false (p .n) x) next i
 
@@ -178,7 +178,7 @@ module _ {p : Parameters} {a b x : List ℕ} {power next position : ℕ} (two : 
     no-check = at-index (check-neither two (s .ahead) e d p spanned)
 
     -- the next symbols of the messages are there
-    pub pair-inside : next < count (opposite (checkAt p)) (p .n)
+    pub pair-inside : next < passing (opposite (checkAt p)) (p .n)
     pair-inside = rw (s .counted) (count-below (opposite (checkAt p)) (s .i) (p .n) (ap not no-check) upto)
 
     pub pair-message : Pair p a b (setAt x position (getD a next 0) (getD b next 0)) power (next + 1) (position + 1)

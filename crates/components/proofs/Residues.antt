@@ -10,19 +10,19 @@ use native.Mathlib.Omega.{arith}
 use lib.Dec.{T, eqb}
 use lib.ListN.{length, getD, set, length-set}
 use lib.Seq.{getD-set-other, ext-getD}
-use Rattle.modular.specs.Search.{allBelow, least}
-use Rattle.modular.specs.Sum.{dot}
-use Rattle.modular.specs.Digits.{digits}
-use Rattle.modular.specs.Residue.{Congruent}
-use Rattle.modular.proofs.Sum.{dot-agree}
-use Rattle.modular.proofs.Residue.{of-eq, symm, _then_, scale, reduce}
-use Rattle.code.specs.Parameters.{Parameters, Sized, messageLength}
-use Rattle.code.specs.Component.{symbolsBelow, isWord, checkRow, syndrome, inCode, checkAt, merge, candidate, component}
-use Rattle.code.proofs.Symbols.{symbols-below}
-use Rattle.code.proofs.Columns.{q-positive}
-use Rattle.code.proofs.Merge.{cases, opposite, word-of, count, length-merge}
-use Rattle.code.proofs.Reduced.{pivot, pivot-check}
-use Rattle.code.proofs.Pair.{length-component}
+use Rattle.modular_theory.specs.Search.{allBelow, least}
+use Rattle.modular_theory.specs.Sum.{dot}
+use Rattle.modular_theory.specs.Digits.{digits}
+use Rattle.modular_theory.specs.Residue.{Congruent}
+use Rattle.modular_theory.proofs.Sum.{dot-agree}
+use Rattle.modular_theory.proofs.Residue.{of-eq, symm, _then_, scale, reduce}
+use Rattle.code_theory.specs.Parameters.{Parameters, Sized, messageLength}
+use Rattle.code_theory.specs.Component.{symbolsBelow, isWord, checkRow, syndrome, inCode, checkAt, merge, candidate, component}
+use Rattle.code_theory.proofs.Symbols.{symbols-below}
+use Rattle.code_theory.proofs.Columns.{q-positive}
+use Rattle.code_theory.proofs.Merge.{cases, opposite, word-of, passing, length-merge}
+use Rattle.code_theory.proofs.Reduced.{pivot, pivot-check}
+use Rattle.code_theory.proofs.Pair.{length-component}
 use Rattle.symbols.specs.Syndromes.{fourRows}
 use Rattle.components.specs.Checks.{checkPosition, checked, Solves}
 use Rattle.components.proofs.Placing.{merge-check, merge-message}
@@ -56,7 +56,7 @@ module _ (q : ℕ) (t : ℕ → Bool) (n : ℕ) (e a : List ℕ) where
       term : (j : ℕ) → j < n → Congruent q (f j * getD (merge t n e a) j 0) (f j * getD (merge t n e (residues q a)) j 0)
       term j l =
           cases (t j) (λ h. of-eq (ap (λ (y : ℕ). f j * y) (merge-check t n e a j l h ∙ sym (merge-check t n e (residues q a) j l h))))
-          (λ h. let k : ℕ = count (opposite t) j in
+          (λ h. let k : ℕ = passing (opposite t) j in
           scale (f j)
           (of-eq (merge-message t n e a j l h)
           then symm (reduce q (getD a k 0))

@@ -7,14 +7,14 @@ use Prim.Native.Nat.{ℕ, zero, suc, _+_, _-_, _*_, _^_, _≤_, _<_}
 use native.Mathlib.Nat.{pow-zero, pow-suc}
 use native.Mathlib.Omega.{arith}
 use lib.ListN.{getD}
-use Rattle.modular.specs.Residue.{Congruent}
-use Rattle.modular.proofs.Residue.{of-eq, same, add, _then_, minus-add}
-use Rattle.code.proofs.Reduced.{pivot-below, power-position}
+use Rattle.modular_theory.specs.Residue.{Congruent}
+use Rattle.modular_theory.proofs.Residue.{of-eq, same, add, _then_, minus-add}
+use Rattle.code_theory.proofs.Reduced.{pivot-below, power-position}
 use Rattle.profiles.specs.declared.row.Row.{Row}
 use Rattle.profiles.specs.Row.{parameters, Valid}
 use Rattle.symbols.specs.Syndromes.{part}
-use Rattle.residues.specs.Byte.{byteDifference}
-use Rattle.residues.proofs.Bytes.{byte-difference}
+use Rattle.modular.specs.Byte.{byteDifference}
+use Rattle.modular.proofs.Bytes.{byte-difference}
 use Rattle.components.specs.Checks.{checkPosition, checked, setAt, Solves, Filled}
 use Rattle.components.proofs.Interleaving.{set-first, set-second, set-head, set-past}
 
@@ -88,11 +88,11 @@ module _ (t : Row) (valid : Valid t) where
 -- The differences, put back.
 
 -- r is a - x
-pub record Taken (q a x r : ℕ) : Type 0 where
+pub record TakenFrom (q a x r : ℕ) : Type 0 where
   pub below : r < q
   pub back : Congruent q (r + x) a
 
-pub taken : {q r : ℕ} (a x : ℕ) → q ≤ 255 → a < q → x < q → r ≡ byteDifference q a x → Taken q a x r
+pub taken : {q r : ℕ} (a x : ℕ) → q ≤ 255 → a < q → x < q → r ≡ byteDifference q a x → TakenFrom q a x r
 taken {q} a x n h k e =
     let l : x ≤ q = omega arith in
     let some : 1 ≤ q = omega arith in
@@ -100,9 +100,9 @@ taken {q} a x n h k e =
     record { below = d .1; back = of-eq (ap (λ (y : ℕ). y + x) (d .0)) then minus-add q a x some }
 
 pub solves-of : {q a b two d e one f g : ℕ} (s : List ℕ)
-    → Taken q (getD s 3 0) (getD s 0 0) a → Taken q a (getD s 1 0) b → Taken q b (getD s 2 0) two
-    → Taken q 0 (getD s 0 0) d → Taken q d two e → Taken q e two one
-    → Taken q 0 (getD s 1 0) f → Taken q 0 (getD s 2 0) g
+    → TakenFrom q (getD s 3 0) (getD s 0 0) a → TakenFrom q a (getD s 1 0) b → TakenFrom q b (getD s 2 0) two
+    → TakenFrom q 0 (getD s 0 0) d → TakenFrom q d two e → TakenFrom q e two one
+    → TakenFrom q 0 (getD s 1 0) f → TakenFrom q 0 (getD s 2 0) g
     → Solves q s (two ∷ one ∷ f ∷ g ∷ [])
 solves-of {q} {two = two} {one = one} {f = f} {g = g} s ha hb htwo hd he hone hf hg =
     record { below = below; two = is-two; one = is-one; powers = powers }
@@ -110,8 +110,8 @@ solves-of {q} {two = two} {one = one} {f = f} {g = g} s ha hb htwo hd he hone hf
     low : ℕ
     low = getD s 0 0
 
-    middle : ℕ
-    middle = getD s 1 0
+    mid : ℕ
+    mid = getD s 1 0
 
     high : ℕ
     high = getD s 2 0
@@ -126,10 +126,10 @@ solves-of {q} {two = two} {one = one} {f = f} {g = g} s ha hb htwo hd he hone hf
     below (suc (suc (suc zero))) l = hg .below
     below (suc (suc (suc (suc k)))) l = absurd (omega arith)
 
-    is-two : Congruent q (two + (low + middle + high)) ones
+    is-two : Congruent q (two + (low + mid + high)) ones
     is-two =
-        let u : two + (low + middle + high) ≡ two + high + middle + low = omega arith in
-        of-eq u then add (add (htwo .back) (same middle) then hb .back) (same low) then ha .back
+        let u : two + (low + mid + high) ≡ two + high + mid + low = omega arith in
+        of-eq u then add (add (htwo .back) (same mid) then hb .back) (same low) then ha .back
 
     is-one : Congruent q (one + (low + 2 * two)) 0
     is-one =

@@ -10,21 +10,21 @@ use lib.Dec.{T}
 use lib.Arith.{lt-one}
 use lib.ListN.{length, getD, set, replicate, List·getD-append}
 use lib.Seq.{getD-set-other}
-use Rattle.modular.specs.Sum.{weight, dot}
-use Rattle.modular.specs.Digits.{digits}
-use Rattle.modular.specs.Residue.{Congruent}
-use Rattle.modular.proofs.Search.{passes}
-use Rattle.modular.proofs.Sum.{dot-set-zero, dot-same, dot-add, dot-scale, weight-zeros}
-use Rattle.modular.proofs.Digits.{length-digits, digits-zero}
-use Rattle.modular.proofs.Residue.{of-eq, same, symm, _then_, add, scale, reduce, multiple, cancel}
-use Rattle.code.specs.Parameters.{Parameters, Sized, messageLength}
-use Rattle.code.specs.Component.{isWord, checkRow, syndrome, checkAt, merge, component}
-use Rattle.code.proofs.Syndrome.{zero-code}
-use Rattle.code.proofs.Columns.{last-row, digit-row, q-positive}
-use Rattle.code.proofs.Weights.{times-pred}
-use Rattle.code.proofs.Merge.{word-of, length-merge}
-use Rattle.code.proofs.Reduced.{pivot, reducedTwo, reducedRow, pivot-below, pivot-check, pivot-injective, row-two-first, row-two-other, reduced-other, rows-reduced}
-use Rattle.code.proofs.Component.{unique, Solution, pivot-inside, step, merged, component-holding}
+use Rattle.modular_theory.specs.Sum.{weight, dot}
+use Rattle.modular_theory.specs.Digits.{digits}
+use Rattle.modular_theory.specs.Residue.{Congruent}
+use Rattle.modular_theory.proofs.Search.{passes}
+use Rattle.modular_theory.proofs.Sum.{dot-set-zero, dot-same, dot-add, dot-scale, weight-zeros}
+use Rattle.modular_theory.proofs.Digits.{length-digits, digits-zero}
+use Rattle.modular_theory.proofs.Residue.{of-eq, same, symm, _then_, add, scale, reduce, multiple, cancel}
+use Rattle.code_theory.specs.Parameters.{Parameters, Sized, messageLength}
+use Rattle.code_theory.specs.Component.{isWord, checkRow, syndrome, checkAt, merge, component}
+use Rattle.code_theory.proofs.Syndrome.{zero-code}
+use Rattle.code_theory.proofs.Columns.{last-row, digit-row, q-positive}
+use Rattle.code_theory.proofs.Weights.{times-pred}
+use Rattle.code_theory.proofs.Merge.{word-of, length-merge}
+use Rattle.code_theory.proofs.Reduced.{pivot, reducedTwo, reducedRow, pivot-below, pivot-check, pivot-injective, row-two-first, row-two-other, reduced-other, rows-reduced}
+use Rattle.code_theory.proofs.Component.{unique, Solution, pivot-inside, step, merged, component-holding}
 use Rattle.symbols.specs.Syndromes.{fourRows}
 use Rattle.components.specs.Checks.{checkPosition, checked, Solves}
 use Rattle.components.proofs.Placing.{merge-check}

@@ -5,16 +5,16 @@ use mathlib.Core.Bool.{true, false}
 use mathlib.Core.List.{List, [], _∷_}
 use Prim.Native.Nat.{ℕ, zero, suc, _+_, _-_, _*_, _^_, _≤_, _<_}
 use lib.ListN.{getD, set}
-use Rattle.modular.specs.Residue.{Congruent}
-use Rattle.code.specs.Component.{checkAt, merge}
+use Rattle.modular_theory.specs.Residue.{Congruent}
+use Rattle.code_theory.specs.Component.{checkAt, merge}
 use Rattle.profiles.specs.declared.row.Row.{Row}
 use Rattle.profiles.specs.Row.{parameters}
 use Rattle.symbols.specs.Syndromes.{part}
 use Rattle.components.specs.declared.component.CheckSymbols.{CheckSymbols}
 
 -- the check symbols in the order of their positions below
-abbrev pub symbols : CheckSymbols → List ℕ
-symbols e = e .two ∷ e .one ∷ e .middle ∷ e .high ∷ []
+abbrev pub checkSymbols : CheckSymbols → List ℕ
+checkSymbols e = e .two ∷ e .one ∷ e .mid ∷ e .high ∷ []
 
 -- 01: check place k: 2, then 1, q, q², ..
 abbrev pub checkPosition : ℕ → ℕ → ℕ

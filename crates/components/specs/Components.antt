@@ -5,10 +5,10 @@ use mathlib.Core.List.{List, _∷_, _++_}
 use Prim.Native.Nat.{ℕ, _-_}
 use lib.Dec.{eqb}
 use lib.ListN.{length, replicate}
-use Rattle.code.specs.Parameters.{Parameters, messageLength, balancedLength}
-use Rattle.code.specs.Component.{component}
-use Rattle.code.specs.Balance.{interleave}
-use Rattle.code.specs.Profiles.{isProfile, profile}
+use Rattle.code_theory.specs.Parameters.{Parameters, messageLength, balancedLength}
+use Rattle.code_theory.specs.Component.{component}
+use Rattle.code_theory.specs.Balance.{interleave}
+use Rattle.code_theory.specs.Profiles.{isProfile, profile}
 
 -- the symbols of a pair's components in turn, after a zero
 unfoldable pub zeroFirst : Parameters → List ℕ → List ℕ → List ℕ
@@ -19,10 +19,10 @@ unfoldable pub padded : Parameters → List ℕ → List ℕ → List ℕ
 padded p a b = zeroFirst p a b ++ replicate (97 - balancedLength p) 0
 
 -- both lengths are m
-abbrev pub fits : ℕ → ℕ → ℕ → Bool
-fits m k l = eqb k m && eqb l m
+abbrev pub bothLong : ℕ → ℕ → ℕ → Bool
+bothLong m k l = eqb k m && eqb l m
 
 -- the array by a profile's number, for messages of its length whatever their symbols are; otherwise zeros
 unfoldable pub componentsOf : ℕ → List ℕ → List ℕ → List ℕ
 componentsOf i a b =
-    elim (isProfile i && fits (messageLength (profile i)) (length a) (length b)) [ true ↦ padded (profile i) a b | false ↦ replicate 97 0 ]
+    elim (isProfile i && bothLong (messageLength (profile i)) (length a) (length b)) [ true ↦ padded (profile i) a b | false ↦ replicate 97 0 ]

@@ -1,6 +1,6 @@
 // The steps: the messages at their positions, the check symbols that they ask for, and both together.
+use modular::sub;
 use profiles::Row;
-use residues::sub;
 use symbols::Body;
 use symbols::Syndrome;
 use symbols::columns;
@@ -8,17 +8,17 @@ use symbols::syndromes_of;
 ghost use mathlib.Core.Path.{_≡_};
 ghost use Prim.Native.Nat.{_≤_, _<_};
 ghost use lib.ListN.{length};
-ghost use Rattle.code.specs.Parameters.{messageLength};
+ghost use Rattle.code_theory.specs.Parameters.{messageLength};
 ghost use Rattle.profiles.specs.Row.{Valid, parameters};
 ghost use Rattle.symbols.specs.Syndromes.{rows};
-ghost use Rattle.components.specs.Checks.{symbols, setAt, Solves, Placed, Filled};
+ghost use Rattle.components.specs.Checks.{checkSymbols, setAt, Solves, Placed, Filled};
 ghost use Rattle.components.specs.Components.{padded};
 
 // The check symbols of a component: of position 2, and of 1, q and q².
 pub(crate) struct CheckSymbols {
     pub(crate) two: u8,
     pub(crate) one: u8,
-    pub(crate) middle: u8,
+    pub(crate) mid: u8,
     pub(crate) high: u8,
 }
 
@@ -55,14 +55,14 @@ fn placed(row: Row, first: &[u8], second: &[u8]) -> Body
 
 // The check symbols that make up for these sums.
 fn check_symbols(q: u8, s: Syndrome) -> CheckSymbols
-    requires { ⌜ (s .low < q) × (s .middle < q) × (s .high < q) × (s .ones < q) ⌝ }
-    ensures { λ e. ⌜ Solves q (rows s) (symbols e) ⌝ }
+    requires { ⌜ (s .low < q) × (s .mid < q) × (s .high < q) × (s .ones < q) ⌝ }
+    ensures { λ e. ⌜ Solves q (rows s) (checkSymbols e) ⌝ }
 {
-    let two = sub(q, sub(q, sub(q, s.ones, s.low), s.middle), s.high);
+    let two = sub(q, sub(q, sub(q, s.ones, s.low), s.mid), s.high);
     CheckSymbols {
         two,
         one: sub(q, sub(q, sub(q, 0, s.low), two), two),
-        middle: sub(q, 0, s.middle),
+        mid: sub(q, 0, s.mid),
         high: sub(q, 0, s.high),
     }
 }
@@ -70,13 +70,13 @@ fn check_symbols(q: u8, s: Syndrome) -> CheckSymbols
 // The array with the check symbols of both components set.
 fn filled(row: Row, x: Body, first: CheckSymbols, second: CheckSymbols) -> Body
     requires { ⌜ Valid row × (3 ≤ row .r) ⌝ }
-    ensures { λ y. ⌜ Filled row x (symbols first) (symbols second) y ⌝ }
+    ensures { λ y. ⌜ Filled row x (checkSymbols first) (checkSymbols second) y ⌝ }
 {
     let q = row.q as usize;
     let mut y = x;
     set_pair(&mut y, 2, first.two, second.two);
     set_pair(&mut y, 1, first.one, second.one);
-    set_pair(&mut y, q, first.middle, second.middle);
+    set_pair(&mut y, q, first.mid, second.mid);
     if 3 < row.r {
         set_pair(&mut y, q * q, first.high, second.high);
     }

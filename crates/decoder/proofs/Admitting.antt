@@ -8,27 +8,27 @@ use Prim.Native.Nat.{ℕ}
 use lib.Dec.{T, eqb}
 use lib.ListN.{length}
 use borrow.Author.Tests.{eq-eqb, ne-eqb}
-use Rattle.code.specs.Parameters.{Parameters, messageLength, codewordLength}
-use Rattle.code.specs.Component.{symbolsBelow}
-use Rattle.code.specs.Profiles.{isProfile, profile}
-use Rattle.code.specs.Reading.{reading}
-use Rattle.code.specs.Operations.{answered, decodeAnswer}
-use Rattle.code.proofs.Merge.{word-of}
-use Rattle.code.proofs.Profiles.{profiles-fit}
-use Rattle.code.proofs.Reading.{near-is-one}
-use Rattle.decoding.specs.Decoded.{Sums, sums, target, decodedBalanced, decodedUnbalanced, decodedBy, decoded}
-use Rattle.decoding.proofs.Decoded.{decoded-reading}
+use Rattle.code_theory.specs.Parameters.{Parameters, messageLength, codewordLength}
+use Rattle.code_theory.specs.Component.{symbolsBelow}
+use Rattle.code_theory.specs.Profiles.{isProfile, profile}
+use Rattle.code_theory.specs.Reading.{reading}
+use Rattle.code_theory.specs.Operations.{answered, decodeAnswer}
+use Rattle.code_theory.proofs.Merge.{word-of}
+use Rattle.code_theory.proofs.Profiles.{profiles-fit}
+use Rattle.code_theory.proofs.Reading.{near-is-one}
+use Rattle.decoding_theory.specs.Decoded.{Sums, sums, target, decodedBalanced, decodedUnbalanced, decodedBy, decoded}
+use Rattle.decoding_theory.proofs.Decoded.{decoded-reading}
 use Rattle.profiles.specs.declared.row.Row.{Row}
 use Rattle.profiles.specs.Row.{parameters, Valid, RowOf}
 use Rattle.profiles.specs.Refusal.{decodeNumber}
 use Rattle.profiles.proofs.Refusing.{Admitted, admitted, refused-number, decode-refused}
 use Rattle.decoder.specs.declared.totals.Totals.{Totals}
-use Rattle.decoder.specs.declared.reader.Decoded.the-variants.{Refused}
-use Rattle.decoder.specs.Totals.{Word, sumsOf}
+use Rattle.decoder.specs.declared.word.Decoded.the-variants.{Refused}
+use Rattle.decoder.specs.Totals.{ReceivedWord, sumsOf}
 use Rattle.decoder.specs.Outputs.{Outputs}
 use Rattle.decoder.specs.Decode.{Answers}
 use Rattle.decoder.proofs.Answering.{answers-refused}
-use Rattle.decoder.proofs.Totalling.{middle-is}
+use Rattle.decoder.proofs.Totalling.{target-is}
 
 -- what a call is answered whose number is no profile's
 pub call-unprofiled : (i : ℕ) (u : List ℕ) (k l : ℕ) (first second : List ℕ) → isProfile i ≡ false
@@ -47,7 +47,7 @@ module _ (i : ℕ) (u first second : List ℕ) {t : Row} (of : RowOf i t) where
     known : Admitted i u (length first) (length second)
     known = admitted i u (length first) (length second) of z
 
-    pub word-known : Word t u
+    pub word-known : ReceivedWord t u
     word-known =
         record {
           valid = of .valid;
@@ -78,16 +78,16 @@ module _ {t : Row} (v : Valid t) (u : List ℕ) (s : Totals) (g : sumsOf t s ≡
   unfolding decoded
   by-sums = ap (λ (x : Sums). decodedBy (parameters t) x u) (sym g)
 
-  pub balanced-answer : s .weight ≡ t .middle
+  pub balanced-answer : s .weight ≡ t .target
       → answered (decoded (parameters t) u) ≡ answered (decodedBalanced (parameters t) (sumsOf t s) u)
   unfolding decodedBy
   balanced-answer h =
-      let f : eqb (s .weight) (target (parameters t)) ≡ true = eq-eqb _ _ (h ∙ middle-is v) in
+      let f : eqb (s .weight) (target (parameters t)) ≡ true = eq-eqb _ _ (h ∙ target-is v) in
       ap answered (by-sums ∙ rw (f, decodedBy))
 
-  pub unbalanced-answer : s .weight ≢ t .middle
+  pub unbalanced-answer : s .weight ≢ t .target
       → answered (decoded (parameters t) u) ≡ answered (decodedUnbalanced (parameters t) (sumsOf t s) u)
   unfolding decodedBy
   unbalanced-answer h =
-      let f : eqb (s .weight) (target (parameters t)) ≡ false = ne-eqb _ _ (λ n. h (n ∙ sym (middle-is v))) in
+      let f : eqb (s .weight) (target (parameters t)) ≡ false = ne-eqb _ _ (λ n. h (n ∙ sym (target-is v))) in
       ap answered (by-sums ∙ rw (f, decodedBy))

@@ -8,20 +8,20 @@ use native.Mathlib.Omega.{arith}
 use lib.Dec.{T}
 use lib.ListN.{getD}
 use borrow.Author.Tests.{lt-ltb, le-ltb}
-use Rattle.modular.proofs.Search.{least-hit, holds}
-use Rattle.code.specs.Parameters.{Parameters, balancedLength}
-use Rattle.code.specs.Codeword.{received}
-use Rattle.code.specs.Reading.{Finding, Reading, unreadable}
-use Rattle.code.specs.Operations.{Answer, refused, answered, success}
-use Rattle.decoding.specs.Syndromes.{nearSyndromes, index, movedOf}
-use Rattle.decoding.specs.Decoded.{Sums, checkIndex, gain, inRange, offByLack, nearAfter, fits, places, firstFit}
-use Rattle.decoding.specs.Decoded.{readBy, readFit, decodedBody, decodedCheck, agrees, decodedBalanced, decodedUnbalanced}
-use Rattle.decoding.proofs.Tests.{three-parts}
+use Rattle.modular_theory.proofs.Search.{least-hit, holds}
+use Rattle.code_theory.specs.Parameters.{Parameters, balancedLength}
+use Rattle.code_theory.specs.Codeword.{received}
+use Rattle.code_theory.specs.Reading.{Finding, Reading, unreadable}
+use Rattle.code_theory.specs.Operations.{Answer, refused, answered, success}
+use Rattle.decoding_theory.specs.Syndromes.{nearSyndromes, index, movedOf}
+use Rattle.decoding_theory.specs.Decoded.{Sums, checkIndex, gain, inRange, offByLack, nearAfter, fits, positionCount, firstFit}
+use Rattle.decoding_theory.specs.Decoded.{readBy, readFit, decodedBody, decodedCheck, agrees, decodedBalanced, decodedUnbalanced}
+use Rattle.decoding_theory.proofs.Tests.{three-parts}
 use Rattle.syndromes.specs.declared.checks.Verdict as verdicts
 use Rattle.syndromes.specs.declared.checks.Verdict.the-variants as told
 use Rattle.syndromes.specs.Verdict.{verdictOf}
-use Rattle.decoder.specs.declared.reader.Decoded.{Decoded}
-use Rattle.decoder.specs.declared.reader.Decoded.the-variants.{Clean, Corrected, Unreadable, Refused}
+use Rattle.decoder.specs.declared.word.Decoded.{Decoded}
+use Rattle.decoder.specs.declared.word.Decoded.the-variants.{Clean, Corrected, Unreadable, Refused}
 use Rattle.decoder.specs.Sides.{isFirst}
 use Rattle.decoder.specs.Outputs.{RestoredMessages}
 use Rattle.decoder.specs.Decode.{decodedReport, Answers}
@@ -111,24 +111,24 @@ module _ (p : Parameters) (s : Sums) where
 
     -- The search for the changed symbol.
     module _ (b : Bool) where
-      pub body-none : firstFit p s b v ≡ places p b → decodedBody p s b v ≡ unreadable
+      pub body-none : firstFit p s b v ≡ positionCount p b → decodedBody p s b v ≡ unreadable
       unfolding decodedBody
-      body-none e = let l : places p b ≤ firstFit p s b v = omega arith in rw (le-ltb (firstFit p s b v) (places p b) l, decodedBody)
+      body-none e = let l : positionCount p b ≤ firstFit p s b v = omega arith in rw (le-ltb (firstFit p s b v) (positionCount p b) l, decodedBody)
 
-      module _ {k : ℕ} (e : firstFit p s b v ≡ k) (l : k < places p b) where
+      module _ {k : ℕ} (e : firstFit p s b v ≡ k) (l : k < positionCount p b) where
         -- the symbol received there
         abbrev arrived : ℕ
         arrived = getD v (index b k) 0
 
         pub body-found : decodedBody p s b v ≡ readFit p s b k v
         unfolding decodedBody
-        body-found = let m : firstFit p s b v < places p b = omega arith in rw (lt-ltb (firstFit p s b v) (places p b) m, decodedBody, e)
+        body-found = let m : firstFit p s b v < positionCount p b = omega arith in rw (lt-ltb (firstFit p s b v) (positionCount p b) m, decodedBody, e)
 
         hit : T (fits p s b k arrived)
         unfolding firstFit
         hit =
-            let m : firstFit p s b v < places p b = omega arith in
-            rw e at (least-hit (λ k. fits p s b k (getD v (index b k) 0)) (places p b) m)
+            let m : firstFit p s b v < positionCount p b = omega arith in
+            rw e at (least-hit (λ k. fits p s b k (getD v (index b k) 0)) (positionCount p b) m)
 
         pub found-range : T (inRange p s arrived)
         unfolding fits

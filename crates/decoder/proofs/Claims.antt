@@ -8,25 +8,25 @@ use Prim.Native.Nat.{ℕ, zero, suc, _≤_, _<_}
 use native.Mathlib.Omega.{arith}
 use lib.Dec.{T, eqb}
 use lib.ListN.{length, set}
-use Rattle.modular.proofs.Search.{eq-test, and-right}
-use Rattle.code.specs.Parameters.{Sized, messageLength, codewordLength}
-use Rattle.code.specs.Component.{symbolsBelow, isWord}
-use Rattle.code.specs.Codeword.{codeword}
-use Rattle.code.specs.Reading.{Finding, Reading, read, unreadable, readAs, reading}
-use Rattle.code.specs.Profiles.{isProfile, profile}
-use Rattle.code.specs.Claims as Reads
-use Rattle.code.specs.Refusal.{Test, asks, firstRefusal}
-use Rattle.code.specs.Operations.{Answer, refused, answered, readUnless, decodeTests, decodeAnswer}
-use Rattle.code.specs.Operations.{report, reportNumber, success, decodeOutput}
-use Rattle.code.proofs.Merge.{word-length, word-of}
-use Rattle.code.proofs.Profiles.{profiles-fit}
-use Rattle.code.proofs.Reading.{codeword-word, changed-word, reading-corrects}
-use Rattle.code.proofs.Refusal.{AllPass, absent, passed-every, never-refuses, past, stops}
+use Rattle.modular_theory.proofs.Search.{eq-test, and-right}
+use Rattle.code_theory.specs.Parameters.{Sized, messageLength, codewordLength}
+use Rattle.code_theory.specs.Component.{symbolsBelow, isWord}
+use Rattle.code_theory.specs.Codeword.{codeword}
+use Rattle.code_theory.specs.Reading.{Finding, Reading, read, unreadable, readAs, reading}
+use Rattle.code_theory.specs.Profiles.{isProfile, profile}
+use Rattle.code_theory.specs.Claims as Reads
+use Rattle.code_theory.specs.Refusal.{Test, asks, firstRefusal}
+use Rattle.code_theory.specs.Operations.{Answer, refused, answered, readUnless, decodeTests, decodeAnswer}
+use Rattle.code_theory.specs.Operations.{report, reportNumber, success, decodeOutput}
+use Rattle.code_theory.proofs.Merge.{word-length, word-of}
+use Rattle.code_theory.proofs.Profiles.{profiles-fit}
+use Rattle.code_theory.proofs.Reading.{codeword-word, changed-word, reading-corrects}
+use Rattle.code_theory.proofs.Refusal.{AllPass, absent, passed-every, never-refuses, past, stops}
 use Rattle.profiles.proofs.Refusing.{three-lengths}
-use Rattle.decoding.proofs.Tests.{and-three}
-use Rattle.decoder.specs.declared.reader.Decoded.{Decoded}
+use Rattle.decoding_theory.proofs.Tests.{and-three}
+use Rattle.decoder.specs.declared.word.Decoded.{Decoded}
 use Rattle.decoder.specs.Decode.{decodedReport, Answers}
-use Rattle.decoder.specs.Claims.{lengthsFit, decodedNumber, Allowed, Carried, Corrects, FourOnly, DecodeRefuses, Claims}
+use Rattle.decoder.specs.Claims.{decodeLengthsFit, decodedNumber, Allowed, Carried, DecodesAsSent, FourOnly, DecodeRefuses, Claims}
 
 -- a number of 4 is that of no reading
 none-read : (d : Reading) → reportNumber (report (answered d)) ≡ 4 → d ≡ unreadable
@@ -47,7 +47,7 @@ module _ (i : ℕ) (t : T (isProfile i)) where
   let-through v w {r} {first} {second} a =
       let k : ℕ = length (a .before-first) in
       let l : ℕ = length (a .before-second) in
-      let long : T (lengthsFit i v k l) =
+      let long : T (decodeLengthsFit i v k l) =
       and-three (eqb (length v) (codewordLength (profile i))) (eqb k (messageLength (profile i))) (eqb l (messageLength (profile i)))
       (eq-test (word-length (profile i .q) (codewordLength (profile i)) v w)) (eq-test (a .first-long)) (eq-test (a .second-long)) in
       let below : T (symbolsBelow (profile i .q) v) =
@@ -64,7 +64,7 @@ module _ (i : ℕ) (t : T (isProfile i)) where
       let h : Answers (answered (readAs (profile i) f u)) r bf first bs second = rw e at a in
       (h .answer, record { first-is = h .first-out; second-is = h .second-out })
 
-  pub decode-corrects-at : Corrects i
+  pub decode-corrects-at : DecodesAsSent i
   decode-corrects-at =
       record {
         unchanged =
@@ -121,7 +121,7 @@ pub decode-refuses : DecodeRefuses
 unfolding decodeAnswer
 decode-refuses i v r first first′ second second′ h =
     let profiled : Test = asks (isProfile i) 1 in
-    let long : Test = asks (lengthsFit i v (length first) (length second)) 2 in
+    let long : Test = asks (decodeLengthsFit i v (length first) (length second)) 2 in
     let levels : Test = asks (symbolsBelow (profile i .q) v) 3 in
     let d : Reading = reading (profile i) v in
     let number : ℕ = firstRefusal (decodeTests i v (length first) (length second)) in

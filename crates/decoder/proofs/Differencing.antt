@@ -10,19 +10,19 @@ use native.Mathlib.Omega.{arith}
 use native.Mathlib.Decide.{ℕ-discrete}
 use lib.ListN.{length, getD, take, drop, set, length-set, length-drop}
 use lib.Seq.{getD-take, getD-drop, getD-set-same, getD-set-other, ext-getD, length-take-le}
-use Rattle.modular.proofs.Residue.{minus-below}
-use Rattle.code.specs.Parameters.{Parameters}
-use Rattle.code.specs.Balance.{neighbourDifference, differences}
-use Rattle.code.specs.Codeword.{alternate, body, received}
-use Rattle.code.proofs.Symbols.{symbol-below, symbols-set}
-use Rattle.code.proofs.Weights.{length-differences}
-use Rattle.code.proofs.Columns.{q-positive}
-use Rattle.residues.proofs.Filling.{FilledTo, filled-none, filled-more}
+use Rattle.modular_theory.proofs.Residue.{minus-below}
+use Rattle.code_theory.specs.Parameters.{Parameters}
+use Rattle.code_theory.specs.Balance.{neighbourDifference, differences}
+use Rattle.code_theory.specs.Codeword.{alternate, body, received}
+use Rattle.code_theory.proofs.Symbols.{symbol-below, symbols-set}
+use Rattle.code_theory.proofs.Weights.{length-differences}
+use Rattle.code_theory.proofs.Columns.{q-positive}
+use Rattle.modular.proofs.Filling.{FilledTo, filled-none, filled-more}
 use Rattle.profiles.specs.declared.row.Row.{Row}
 use Rattle.profiles.specs.Row.{parameters, Valid}
 use Rattle.symbols.specs.Syndromes.{part}
-use Rattle.decoder.specs.Received.{Body}
-use Rattle.decoder.specs.Totals.{Word, Components}
+use Rattle.decoder.specs.Received.{BodyArray}
+use Rattle.decoder.specs.Totals.{ReceivedWord, Components}
 
 difference-at : (p : Parameters) (w : List ℕ) (j : ℕ) → suc j < length w
     → getD (differences p w) j 0 ≡ neighbourDifference p (getD w j 0) (getD w (suc j) 0)
@@ -39,15 +39,15 @@ abbrev pub between : Row → List ℕ → ℕ → ℕ
 between t u j = neighbourDifference (parameters t) (getD u j 0) (getD u (suc j) 0)
 
 -- what the array holds: the first symbol, and then the differences
-abbrev pub held : Row → List ℕ → ℕ → ℕ
-held t u zero = getD u 0 0
-held t u (suc j) = between t u j
+abbrev pub heldAt : Row → List ℕ → ℕ → ℕ
+heldAt t u zero = getD u 0 0
+heldAt t u (suc j) = between t u j
 
 -- the differences fit the array
 pub short : {t : Row} → Valid t → t .balanced ≤ 97
 short v = omega (arith, v .balanced, v .length)
 
-module _ {t : Row} {u : List ℕ} (w : Word t u) where
+module _ {t : Row} {u : List ℕ} (w : ReceivedWord t u) where
   q₁ : 1 ≤ t .q
   q₁ = q-positive (parameters t) (w .valid .sized)
 
@@ -57,12 +57,12 @@ module _ {t : Row} {u : List ℕ} (w : Word t u) where
   pub level : (j : ℕ) → getD u j 0 < t .q
   level = symbol-below (t .q) q₁ u (w .below)
 
-  held-below : (j : ℕ) → held t u j < t .q
+  held-below : (j : ℕ) → heldAt t u j < t .q
   held-below zero = level 0
   held-below (suc j) = minus-below (t .q) (getD u (suc j) 0) (getD u j 0) q₁
 
   -- an array that holds the differences holds the components
-  pub components : {x : List ℕ} → Body t x → ((j : ℕ) → suc j < t .balanced → getD x (suc j) 0 ≡ between t u j) → Components t u x
+  pub components : {x : List ℕ} → BodyArray t x → ((j : ℕ) → suc j < t .balanced → getD x (suc j) 0 ≡ between t u j) → Components t u x
   unfolding received body
   components {x} b at = record { levels = b; at = at; parts = λ c. ap (alternate c) (rw (w .valid .balanced) at same) }
     where
@@ -88,28 +88,28 @@ module _ {t : Row} {u : List ℕ} (w : Word t u) where
           ∙ sym (difference-at (parameters t) (take (t .balanced) u) j (omega (arith, long))
           ∙ ap₂ (neighbourDifference (parameters t)) own after))
 
-  pub differenced-first : (x : List ℕ) → length x ≡ 97 → FilledTo (held t u) 97 (set x 0 (getD u 0 0)) 1
-  differenced-first x e = filled-more (filled-none (held t u) x e) (omega arith) refl
+  pub differenced-first : (x : List ℕ) → length x ≡ 97 → FilledTo (heldAt t u) 97 (set x 0 (getD u 0 0)) 1
+  differenced-first x e = filled-more (filled-none (heldAt t u) x e) (omega arith) refl
 
-  pub differenced-more : {x : List ℕ} {i : ℕ} → FilledTo (held t u) 97 x i → 1 ≤ i → i < t .balanced
-      → {y : ℕ} → y ≡ neighbourDifference (parameters t) (getD u (i - 1) 0) (getD u i 0) → FilledTo (held t u) 97 (set x i y) (i + 1)
+  pub differenced-more : {x : List ℕ} {i : ℕ} → FilledTo (heldAt t u) 97 x i → 1 ≤ i → i < t .balanced
+      → {y : ℕ} → y ≡ neighbourDifference (parameters t) (getD u (i - 1) 0) (getD u i 0) → FilledTo (heldAt t u) 97 (set x i y) (i + 1)
   differenced-more {i = zero} f n l e = absurd (not-suc-le-zero n)
   differenced-more {i = suc j} f n l e =
       let before : suc j - 1 ≡ j = omega arith in
       filled-more f (omega (arith, short (w .valid))) (e ∙ ap (λ (k : ℕ). neighbourDifference (parameters t) (getD u k 0) (getD u (suc j) 0)) before)
 
   -- all of it filled
-  pub differenced : {x : List ℕ} {i : ℕ} → FilledTo (held t u) 97 x i → t .balanced ≤ i → Components t u x
+  pub differenced : {x : List ℕ} {i : ℕ} → FilledTo (heldAt t u) 97 x i → t .balanced ≤ i → Components t u x
   differenced f h =
       components (record { valid = w .valid; size = f .size; below = λ j l. rw (f .at j (omega arith)) (held-below j) })
       (λ j l. f .at (suc j) (omega arith))
 
-word-set : {t : Row} {u : List ℕ} → Word t u → (i : ℕ) {y : ℕ} → y < t .q → Word t (set u i y)
+word-set : {t : Row} {u : List ℕ} → ReceivedWord t u → (i : ℕ) {y : ℕ} → y < t .q → ReceivedWord t (set u i y)
 word-set {t} {u} w i {y} l =
     record { valid = w .valid; long = length-set u i y ∙ w .long; below = symbols-set (t .q) u i y l (w .below) }
 
 -- The symbol at index i corrected to y.
-module _ {t : Row} {u : List ℕ} (w : Word t u) {i y : ℕ} (h : i < t .balanced) (l : y < t .q) where
+module _ {t : Row} {u : List ℕ} (w : ReceivedWord t u) {i y : ℕ} (h : i < t .balanced) (l : y < t .q) where
   abbrev sent : List ℕ
   sent = set u i y
 
@@ -121,13 +121,13 @@ module _ {t : Row} {u : List ℕ} (w : Word t u) {i y : ℕ} (h : i < t .balance
 
   -- every difference is right but the one after i
   pub record UpTo (x : List ℕ) : Type 0 where
-    pub levels : Body t x
+    pub levels : BodyArray t x
     pub at : (j : ℕ) → suc j < t .balanced → j ≢ i → getD x (suc j) 0 ≡ between t sent j
 
   kept : {x : List ℕ} → Components t u x → (j : ℕ) → suc j < t .balanced → j ≢ i → suc j ≢ i → getD x (suc j) 0 ≡ between t sent j
   kept c j g n o = c .at j g ∙ ap₂ (neighbourDifference (parameters t)) (sym (elsewhere j n)) (sym (elsewhere (suc j) o))
 
-  set-level : {x : List ℕ} → Body t x → (k : ℕ) {d : ℕ} → d < t .q → Body t (set x k d)
+  set-level : {x : List ℕ} → BodyArray t x → (k : ℕ) {d : ℕ} → d < t .q → BodyArray t (set x k d)
   set-level {x} b k {d} e =
       record {
         valid = b .valid;

@@ -9,10 +9,10 @@ use native.Mathlib.Numerals.{add-one}
 use native.Mathlib.Omega.{arith}
 use lib.ListN.{length, getD, take, drop, set, drop-of-length-le, length-set}
 use lib.Seq.{drop-cons, set-at, length-take-le}
-use Rattle.code.specs.Parameters.{Parameters, messageLength}
-use Rattle.code.specs.Component.{isCheck, checkAt, keep, message}
-use Rattle.code.proofs.Merge.{cases, count, count-not, length-keep, count-pass, count-fail, shift}
-use Rattle.code.proofs.Reduced.{check-count}
+use Rattle.code_theory.specs.Parameters.{Parameters, messageLength}
+use Rattle.code_theory.specs.Component.{isCheck, checkAt, keep, message}
+use Rattle.code_theory.proofs.Merge.{cases, passing, count-not, length-keep, count-pass, count-fail, shift}
+use Rattle.code_theory.proofs.Reduced.{check-count}
 use Rattle.profiles.specs.declared.row.Row.{Row}
 use Rattle.profiles.specs.Row.{parameters, Valid}
 use Rattle.symbols.proofs.Powers.{Spans}
@@ -38,12 +38,12 @@ keep-fail t (x ∷ xs) (suc i) l h =
 
 -- Counting one index more.
 
-count-upto : (t : ℕ → Bool) (i n : ℕ) → i ≤ n → count t i ≤ count t n
+count-upto : (t : ℕ → Bool) (i n : ℕ) → i ≤ n → passing t i ≤ passing t n
 count-upto t zero n l = zero-le
 count-upto t (suc i) zero l = absurd (not-suc-le-zero l)
 count-upto t (suc i) (suc n) l =
-    let k : count (shift t) i ≤ count (shift t) n = count-upto (shift t) i n (le-of-suc-le-suc l) in
-    cases (t 0) (λ b. rw (b, count) (suc-le-suc k)) (λ b. rw (b, count) k)
+    let k : passing (shift t) i ≤ passing (shift t) n = count-upto (shift t) i n (le-of-suc-le-suc l) in
+    cases (t 0) (λ b. rw (b, passing) (suc-le-suc k)) (λ b. rw (b, passing) k)
 
 -- the positions that hold the message
 abbrev pub held : Parameters → ℕ → Bool
@@ -59,7 +59,7 @@ Bears q i = (p : Parameters) → Spans p q (i + 1) → isCheck p (i + 1) ≡ fal
 pub record Extracting (q n : ℕ) (c out₀ out : List ℕ) (next i : ℕ) : Type 0 where
   pub within : i ≤ n
   pub size : length out ≡ length out₀
-  pub counted : (p : Parameters) → Spans p q n → next ≡ count (held p) i
+  pub counted : (p : Parameters) → Spans p q n → next ≡ passing (held p) i
   pub done : (p : Parameters) → Spans p q n → out ≡ keep (held p) (take i c) ++ drop next out₀
 
 pub extracting-none : (q n : ℕ) (c out : List ℕ) → Extracting q n c out out 0 0
@@ -101,7 +101,7 @@ module _ {q n : ℕ} {c out₀ out : List ℕ} {next i : ℕ} (e : Extracting q 
           let d : out ≡ keep (held p) (take i c) ++ (getD out₀ next 0 ∷ drop (suc next) out₀) =
           e .done p m ∙ rw (drop-cons out₀ next 0 b) in
           let s : length (keep (held p) (take i c)) ≡ next =
-          length-keep (held p) (take i c) ∙ ap (count (held p)) (length-take-le i c (omega arith)) ∙ sym (e .counted p m) in
+          length-keep (held p) (take i c) ∙ ap (passing (held p)) (length-take-le i c (omega arith)) ∙ sym (e .counted p m) in
           ap (λ (y : List ℕ). set y next x) d
           ∙ set-at (keep (held p) (take i c)) (getD out₀ next 0) (drop (suc next) out₀) x next s
           ∙ sym (append-assoc (keep (held p) (take i c)) (x ∷ []) (drop (suc next) out₀))
@@ -115,7 +115,7 @@ module _ {t : Row} (v : Valid t) {q : ℕ} (same : q ≡ t .q) {c out₀ out : L
   named : Spans (parameters t) q (t .n)
   named = record { levels = sym same; room = rw same (v .sized .columns) }
 
-  total : count (held (parameters t)) (t .n) ≡ messageLength (parameters t)
+  total : passing (held (parameters t)) (t .n) ≡ messageLength (parameters t)
   total = omega (arith, count-not (checkAt (parameters t)) (t .n), check-count (parameters t) (v .sized))
 
   -- there is room for what is counted
@@ -144,7 +144,7 @@ module _ {t : Row} (v : Valid t) {q : ℕ} (same : q ≡ t .q) {c out₀ out : L
             let p : Parameters = parameters t in
             let s : isCheck p (j + 1) ≡ false = g p (record { levels = named .levels; room = omega (arith, named .room) }) in
             let u : checkAt p j ≡ false = rw add-one at s in
-            let w : count (held p) (suc j) ≡ suc (count (held p) j) = count-pass (held p) j (ap not u) in
+            let w : passing (held p) (suc j) ≡ suc (passing (held p) j) = count-pass (held p) j (ap not u) in
             omega (arith, f .counted p named, count-upto (held p) (suc j) (t .n) m, total)
 
     pub run-room : (k : ℕ) → i + k ≤ t .n → ((j : ℕ) → i ≤ j → j < i + k → Bears q j) → next + k ≤ length out₀
@@ -154,7 +154,7 @@ module _ {t : Row} (v : Valid t) {q : ℕ} (same : q ≡ t .q) {c out₀ out : L
   unfolding message
   extracting-all l =
       let f : i ≡ t .n = omega (arith, e .within) in
-      let g : next ≡ messageLength (parameters t) = e .counted (parameters t) named ∙ ap (count (held (parameters t))) f ∙ total in
+      let g : next ≡ messageLength (parameters t) = e .counted (parameters t) named ∙ ap (passing (held (parameters t))) f ∙ total in
       let d : drop next out₀ ≡ [] = drop-of-length-le out₀ {i = next} (omega arith) in
       e .done (parameters t) named
       ∙ ap₂ (λ (x y : List ℕ). x ++ y) (ap (λ (j : ℕ). keep (held (parameters t)) (take j c)) f) d

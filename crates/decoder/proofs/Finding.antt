@@ -8,27 +8,27 @@ use native.Mathlib.Omega.{arith}
 use lib.Dec.{T}
 use lib.ListN.{length, getD, take, drop, set, length-set}
 use lib.Seq.{getD-take, take-set-lt}
-use Rattle.code.specs.Parameters.{Parameters}
-use Rattle.code.specs.Component.{symbolsBelow}
-use Rattle.code.specs.Balance.{differences}
-use Rattle.code.specs.Codeword.{alternate, body, received}
-use Rattle.code.specs.Reading.{correctionAt, corrected}
-use Rattle.code.proofs.Columns.{q-positive}
-use Rattle.code.proofs.Symbols.{symbol-below, symbols-set}
-use Rattle.decoding.specs.Syndromes.{nearSyndromes, index}
-use Rattle.decoding.specs.Decoded.{inRange, readBy, readFit, decodedBody}
-use Rattle.decoding.proofs.Changed.{index-within}
+use Rattle.code_theory.specs.Parameters.{Parameters}
+use Rattle.code_theory.specs.Component.{symbolsBelow}
+use Rattle.code_theory.specs.Balance.{differences}
+use Rattle.code_theory.specs.Codeword.{alternate, body, received}
+use Rattle.code_theory.specs.Reading.{correctionAt, corrected}
+use Rattle.code_theory.proofs.Columns.{q-positive}
+use Rattle.code_theory.proofs.Symbols.{symbol-below, symbols-set}
+use Rattle.decoding_theory.specs.Syndromes.{nearSyndromes, index}
+use Rattle.decoding_theory.specs.Decoded.{inRange, readBy, readFit, decodedBody}
+use Rattle.decoding_theory.proofs.Changed.{index-within}
 use Rattle.profiles.specs.declared.row.Row.{Row}
 use Rattle.profiles.specs.Row.{parameters, Valid}
-use Rattle.symbols.specs.declared.syndromes.Syndromes.{Syndromes}
+use Rattle.symbols.specs.declared.sums.Syndromes.{Syndromes}
 use Rattle.symbols.specs.Syndromes.{rows, part}
-use Rattle.decoder.specs.declared.place.Search.{Search}
+use Rattle.decoder.specs.declared.locate.Search.{Search}
 use Rattle.decoder.specs.Rows.{rowsOf}
-use Rattle.decoder.specs.Received.{Body}
-use Rattle.decoder.specs.Totals.{Word}
+use Rattle.decoder.specs.Received.{BodyArray}
+use Rattle.decoder.specs.Totals.{ReceivedWord}
 use Rattle.decoder.specs.Search.{parametersOf, sumsIn, parityOf, After}
-use Rattle.decoder.specs.Place.{Located, symbolSent}
-use Rattle.decoder.proofs.Fitting.{index-is, places-are}
+use Rattle.decoder.specs.Locate.{Located, symbolSent}
+use Rattle.decoder.proofs.Fitting.{index-is, positions-are}
 use Rattle.decoder.proofs.Sent.{sent-is}
 use Rattle.decoder.proofs.Answering.{body-found, found-range, found-near}
 
@@ -47,7 +47,7 @@ module _ {x : Search} {word : List ℕ} {k : ℕ} (found : Located x word k) whe
   fit-index = omega (arith, index-here, index-within p (parityOf x) k (found .fit .1), found .given .valid .balanced)
 
   pub fit-small : k ≤ 48
-  fit-small = omega (arith, found .fit .1, places-are p (x .parity) (found .given .parity-number), found .given .valid .length)
+  fit-small = omega (arith, found .fit .1, positions-are p (x .parity) (found .given .parity-number), found .given .valid .length)
 
   fit-range : T (inRange p (sumsIn x) (getD word i 0))
   fit-range = rw (← index-here) (found-range p (sumsIn x) word (parityOf x) (found .fit .0) (found .fit .1))

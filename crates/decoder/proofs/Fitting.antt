@@ -10,17 +10,17 @@ use native.Mathlib.Numerals.{add-one}
 use native.Mathlib.Omega.{arith}
 use lib.Dec.{eqb}
 use lib.ListN.{getD}
-use Rattle.modular.specs.Search.{least}
-use Rattle.modular.specs.Residue.{minus}
-use Rattle.modular.proofs.Search.{least-is, least-le, least-hit, le-or-lt, holds}
-use Rattle.modular.proofs.Residue.{of-eq, _then_, reduce, minus-is}
-use Rattle.code.specs.Parameters.{Parameters}
-use Rattle.code.proofs.Columns.{q-positive}
-use Rattle.code.proofs.Merge.{cases}
-use Rattle.decoding.specs.Syndromes.{nearSyndromes, index, moved, movedOf}
-use Rattle.decoding.specs.Decoded.{Sums, gain, inRange, offByLack, nearAfter, fits, places, firstFit}
-use Rattle.decoding.proofs.Tests.{false-test}
-use Rattle.decoder.specs.declared.place.Search.{Search}
+use Rattle.modular_theory.specs.Search.{least}
+use Rattle.modular_theory.specs.Residue.{minus}
+use Rattle.modular_theory.proofs.Search.{least-is, least-le, least-hit, le-or-lt, holds}
+use Rattle.modular_theory.proofs.Residue.{of-eq, _then_, reduce, minus-is}
+use Rattle.code_theory.specs.Parameters.{Parameters}
+use Rattle.code_theory.proofs.Columns.{q-positive}
+use Rattle.code_theory.proofs.Merge.{cases}
+use Rattle.decoding_theory.specs.Syndromes.{nearSyndromes, index, moved, movedOf}
+use Rattle.decoding_theory.specs.Decoded.{Sums, gain, inRange, offByLack, nearAfter, fits, positionCount, firstFit}
+use Rattle.decoding_theory.proofs.Tests.{false-test}
+use Rattle.decoder.specs.declared.locate.Search.{Search}
 use Rattle.decoder.specs.Multiples.{Multiples}
 use Rattle.decoder.specs.Sides.{isFirst}
 use Rattle.decoder.specs.Totals.{Totalled}
@@ -34,10 +34,10 @@ index-is zero k h = omega arith
 index-is (suc zero) k h = refl
 index-is (suc (suc j)) k h = absurd (omega arith)
 
-pub places-are : (p : Parameters) (parity : ℕ) → parity ≤ 1 → places p (isFirst parity) ≡ p .n + 1 - parity
-places-are p zero h = omega arith
-places-are p (suc zero) h = omega arith
-places-are p (suc (suc j)) h = absurd (omega arith)
+pub positions-are : (p : Parameters) (parity : ℕ) → parity ≤ 1 → positionCount p (isFirst parity) ≡ p .n + 1 - parity
+positions-are p zero h = omega arith
+positions-are p (suc zero) h = omega arith
+positions-are p (suc (suc j)) h = absurd (omega arith)
 
 not-first : (parity : ℕ) → (parity ≡ 0 → ⊥) → isFirst parity ≡ false
 not-first zero z = absurd (z refl)
@@ -140,20 +140,20 @@ module _ (p : Parameters) (S : Sums) (word : List ℕ) (parity : ℕ) (h : parit
   same k = ap (λ (i : ℕ). fits p S (isFirst parity) k (getD word i 0)) (index-is parity k h)
 
   pub first-found : (k : ℕ) → k < p .n + 1 - parity → ((j : ℕ) → j < k → testAt j ≡ false) → testAt k ≡ true
-      → (firstFit p S (isFirst parity) word ≡ k) × (k < places p (isFirst parity))
+      → (firstFit p S (isFirst parity) word ≡ k) × (k < positionCount p (isFirst parity))
   unfolding firstFit
   first-found k l f e =
-      let m : k < places p (isFirst parity) = omega (arith, places-are p parity h) in (
-        least-is testOf (places p (isFirst parity)) k m (holds _ (same k ∙ e)) (λ j i. false-test (same j ∙ f j i)),
+      let m : k < positionCount p (isFirst parity) = omega (arith, positions-are p parity h) in (
+        least-is testOf (positionCount p (isFirst parity)) k m (holds _ (same k ∙ e)) (λ j i. false-test (same j ∙ f j i)),
         m,
       )
 
   pub none-found : (k : ℕ) → p .n + 1 - parity ≤ k → ((j : ℕ) → j < k → testAt j ≡ false)
-      → firstFit p S (isFirst parity) word ≡ places p (isFirst parity)
+      → firstFit p S (isFirst parity) word ≡ positionCount p (isFirst parity)
   unfolding firstFit
   none-found k l f =
-      least-none testOf (places p (isFirst parity)) (λ j i. same j ∙ f j (omega (arith, places-are p parity h)))
+      least-none testOf (positionCount p (isFirst parity)) (λ j i. same j ∙ f j (omega (arith, positions-are p parity h)))
 
   -- nothing fits where the check symbol is off by something else than the weight
-  pub none-off : offByLack p S (isFirst parity) ≡ false → firstFit p S (isFirst parity) word ≡ places p (isFirst parity)
+  pub none-off : offByLack p S (isFirst parity) ≡ false → firstFit p S (isFirst parity) word ≡ positionCount p (isFirst parity)
   none-off e = none-found (p .n + 1 - parity) (le-refl _) (λ j i. fits-off p S (isFirst parity) j (getD word (2 * j + parity) 0) e)

@@ -10,13 +10,13 @@ use native.Mathlib.Omega.{arith}
 use lib.Dec.{T, eqb, leb, eqb→eq}
 use lib.ListN.{length, getD}
 use borrow.Author.Tests.{eq-eqb, ne-eqb}
-use Rattle.modular.proofs.Search.{eq-test, same-test, all-at, all-of, le-or-lt}
-use Rattle.code.proofs.Columns.{q-positive, r-large, last-below}
-use Rattle.decoding.specs.Syndromes.{tabulate, fromDigits, zeroSyndrome, columnPosition, columnSyndrome, nearSyndrome, nearSyndromes}
-use Rattle.decoding.proofs.Value.{tabulate-at}
+use Rattle.modular_theory.proofs.Search.{eq-test, same-test, all-at, all-of, le-or-lt}
+use Rattle.code_theory.proofs.Columns.{q-positive, r-large, last-below}
+use Rattle.decoding_theory.specs.Syndromes.{tabulate, fromDigits, zeroSyndrome, columnPosition, columnSyndrome, nearSyndrome, nearSyndromes}
+use Rattle.decoding_theory.proofs.Value.{tabulate-at}
 use Rattle.profiles.specs.declared.row.Row.{Row}
 use Rattle.profiles.specs.Row.{parameters, Valid}
-use Rattle.symbols.specs.declared.syndromes.Syndrome.{Syndrome}
+use Rattle.symbols.specs.declared.sums.Syndrome.{Syndrome}
 use Rattle.symbols.specs.Columns.{Columns}
 use Rattle.symbols.specs.Syndromes.{fourRows, rows, rowSums}
 use Rattle.symbols.proofs.Rows.{sums-below, sums-unused}
@@ -103,7 +103,7 @@ module _ (t : Row) (v : Valid t) where
   -- The tests of four rows are those of the r rows.
   module _ (s : Syndrome) (w : FourRows t (rows s)) where
     pub position-same : fromDigits (t .q) 3 (rows s) ≡ columnPosition (parameters t) (rowsOf t (rows s))
-    position-same = sym (position-is (t .q) (s .low) (s .middle) (s .high) (s .ones)) ∙ digits-are (rows s) w
+    position-same = sym (position-is (t .q) (s .low) (s .mid) (s .high) (s .ones)) ∙ digits-are (rows s) w
 
     zero-four : zeroSyndrome (fourRows (t .q) (t .n)) (rows s) ≡ zeroSyndrome (parameters t) (rowsOf t (rows s))
     zero-four = zero-by (t .q) (t .n) (rows s) (sym (zero-same (rows s) w)) refl

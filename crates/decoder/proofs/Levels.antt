@@ -5,9 +5,9 @@ use Prim.Native.Nat.{ℕ, zero, suc, _*_, _≤_, zero-le}
 use native.Mathlib.Omega.{arith}
 use lib.Dec.{T, ltb, ltb→lt}
 use lib.ListN.{length, take}
-use Rattle.modular.specs.Sum.{weight}
-use Rattle.modular.proofs.Search.{and-intro, and-left, and-right}
-use Rattle.code.specs.Component.{symbolsBelow}
+use Rattle.modular_theory.specs.Sum.{weight}
+use Rattle.modular_theory.proofs.Search.{and-intro, and-left, and-right}
+use Rattle.code_theory.specs.Component.{symbolsBelow}
 
 pub symbols-take : (q m : ℕ) (c : List ℕ) → T (symbolsBelow q c) → T (symbolsBelow q (take m c))
 symbols-take q zero c t = tt

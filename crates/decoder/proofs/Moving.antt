@@ -10,15 +10,15 @@ use native.Mathlib.Omega.{arith}
 use lib.Dec.{eqb}
 use lib.ListN.{getD}
 use borrow.Author.Tests.{ne-eqb, lt-ltb, le-ltb}
-use Rattle.modular.specs.Digits.{digits}
-use Rattle.modular.specs.Residue.{Congruent}
-use Rattle.modular.proofs.Residue.{same, add, mul}
-use Rattle.modular.proofs.Search.{le-or-lt}
-use Rattle.code.specs.Parameters.{Parameters}
-use Rattle.code.specs.Component.{checkRow}
-use Rattle.code.proofs.Columns.{q-positive, last-row, digit-row}
-use Rattle.decoding.specs.Syndromes.{tabulate, zeroSyndrome, columnEntry, moved}
-use Rattle.decoding.proofs.Value.{tabulate-at}
+use Rattle.modular_theory.specs.Digits.{digits}
+use Rattle.modular_theory.specs.Residue.{Congruent}
+use Rattle.modular_theory.proofs.Residue.{same, add, mul}
+use Rattle.modular_theory.proofs.Search.{le-or-lt}
+use Rattle.code_theory.specs.Parameters.{Parameters}
+use Rattle.code_theory.specs.Component.{checkRow}
+use Rattle.code_theory.proofs.Columns.{q-positive, last-row, digit-row}
+use Rattle.decoding_theory.specs.Syndromes.{tabulate, zeroSyndrome, columnEntry, moved}
+use Rattle.decoding_theory.proofs.Value.{tabulate-at}
 use Rattle.profiles.specs.declared.row.Row.{Row}
 use Rattle.profiles.specs.Row.{parameters, Valid}
 use Rattle.symbols.specs.Columns.{Columns}
@@ -76,7 +76,7 @@ module _ (t : Row) (v : Valid t) where
         second-digit = digit 1;
         third-digit = digit 2;
         low = w .below 0 (omega arith);
-        middle = w .below 1 (omega arith);
+        target = w .below 1 (omega arith);
         high = w .below 2 (omega arith);
         ones = w .below 3 (omega arith);
         table = m;

@@ -6,10 +6,10 @@ use Prim.Native.Nat.{ℕ, zero, suc, _+_, _-_, _*_, _%_, _≤_, _<_}
 use native.Mathlib.Nat.{mul-zero, mul-one, zero-mod, mod-lt, mod-eq-of-lt, not-suc-le-zero}
 use native.Mathlib.Omega.{arith}
 use lib.ListN.{length, getD, set}
-use Rattle.modular.proofs.Residue.{of-eq, _then_, same, add, reduce}
-use Rattle.residues.specs.Byte.{byteSum}
-use Rattle.residues.proofs.Filling.{FilledTo, filled-more}
-use Rattle.residues.proofs.Bytes.{byte-sum}
+use Rattle.modular_theory.proofs.Residue.{of-eq, _then_, same, add, reduce}
+use Rattle.modular.specs.Byte.{byteSum}
+use Rattle.modular.proofs.Filling.{FilledTo, filled-more}
+use Rattle.modular.proofs.Bytes.{byte-sum}
 use Rattle.decoder.specs.Multiples.{Multiples}
 
 -- the multiples of the levels below i

@@ -10,18 +10,18 @@ use native.Mathlib.Decide.{ℕ-discrete}
 use lib.Dec.{T}
 use lib.ListN.{length, getD, take, drop, set, length-set}
 use lib.Seq.{getD-set-same, getD-set-other, take-set-lt, drop-set-add}
-use Rattle.modular.specs.Residue.{minus}
-use Rattle.modular.proofs.Search.{or-cases}
-use Rattle.modular.proofs.Sum.{dot-same}
-use Rattle.code.specs.Parameters.{Parameters}
-use Rattle.code.specs.Component.{checkRow, syndrome, message}
-use Rattle.code.specs.Codeword.{alternate}
-use Rattle.code.proofs.Weights.{double, double-is}
-use Rattle.code.proofs.Alternate.{first-set, second-kept, second-set, first-kept}
-use Rattle.code.proofs.Columns.{last-row, digit-row}
-use Rattle.decoding.specs.Syndromes.{syndromes, zeroSyndrome, columnPosition, columnSyndrome, nearSyndrome, restoredBy}
-use Rattle.decoding.proofs.Near.{named}
-use Rattle.decoding.proofs.Tests.{false-test}
+use Rattle.modular_theory.specs.Residue.{minus}
+use Rattle.modular_theory.proofs.Search.{or-cases}
+use Rattle.modular_theory.proofs.Sum.{dot-same}
+use Rattle.code_theory.specs.Parameters.{Parameters}
+use Rattle.code_theory.specs.Component.{checkRow, syndrome, message}
+use Rattle.code_theory.specs.Codeword.{alternate}
+use Rattle.code_theory.proofs.Weights.{double, double-is}
+use Rattle.code_theory.proofs.Alternate.{first-set, second-kept, second-set, first-kept}
+use Rattle.code_theory.proofs.Columns.{last-row, digit-row}
+use Rattle.decoding_theory.specs.Syndromes.{syndromes, zeroSyndrome, columnPosition, columnSyndrome, nearSyndrome, restoredBy}
+use Rattle.decoding_theory.proofs.Near.{named}
+use Rattle.decoding_theory.proofs.Tests.{false-test}
 use Rattle.profiles.specs.declared.row.Row.{Row}
 use Rattle.profiles.specs.Row.{parameters, Valid}
 use Rattle.symbols.specs.Syndromes.{fourRows, part}
@@ -29,7 +29,7 @@ use Rattle.symbols.proofs.Digits.{digits-same}
 use Rattle.symbols.proofs.Parts.{part-first, part-second}
 use Rattle.decoder.specs.Rows.{rowsOf}
 use Rattle.decoder.specs.Sides.{isFirst}
-use Rattle.decoder.specs.Received.{Body}
+use Rattle.decoder.specs.Received.{BodyArray}
 use Rattle.decoder.specs.Outputs.{Restored, Messages, RestoredMessages}
 use Rattle.decoder.proofs.Moving.{rows-are}
 
@@ -97,7 +97,7 @@ module _ (p : Parameters) (S : List ℕ) (z : zeroSyndrome p S ≡ false) (near 
   position-within : columnPosition p S ≤ p .n
   position-within = named p S names .within
 
-module _ {t : Row} {x : List ℕ} (b : Body t x) (S : List ℕ) where
+module _ {t : Row} {x : List ℕ} (b : BodyArray t x) (S : List ℕ) where
   pub restored-same : (side : ℕ) → zeroSyndrome (parameters t) S ≡ true → Restored t S (isFirst side) x x
   unfolding restoredBy
   restored-same side z = record { levels = b; this = rw (z, restoredBy); other = refl }

@@ -6,16 +6,16 @@ use mathlib.Core.Bool.{Bool, true, false}
 use Prim.Native.Nat.{ℕ, _+_, _<_}
 use native.Mathlib.Omega.{arith}
 use lib.Dec.{T, leb, ltb, ltb→lt}
-use Rattle.modular.proofs.Search.{and-right, passes, holds}
-use Rattle.code.specs.Parameters.{Parameters}
-use Rattle.decoding.specs.Decoded.{Sums, target, balancingSymbol, inRange}
-use Rattle.residues.specs.Level.{level}
+use Rattle.modular_theory.proofs.Search.{and-right, passes, holds}
+use Rattle.code_theory.specs.Parameters.{Parameters}
+use Rattle.decoding_theory.specs.Decoded.{Sums, target, balancingSymbol, inRange}
+use Rattle.modular.specs.Level.{level}
 use Rattle.profiles.specs.declared.row.Row.{Row}
 use Rattle.profiles.specs.Row.{parameters, Valid}
 use Rattle.decoder.specs.declared.totals.Totals.{Totals}
 use Rattle.decoder.specs.Totals.{sumsOf}
-use Rattle.decoder.specs.Place.{symbolSent}
-use Rattle.decoder.proofs.Totalling.{middle-is}
+use Rattle.decoder.specs.Locate.{symbolSent}
+use Rattle.decoder.proofs.Totalling.{target-is}
 
 module _ (p : Parameters) (s : Sums) (x : ℕ) where
   sent-level : level (p .q) (x + target p) (s .weighs) ≡ symbolSent p s x
@@ -48,7 +48,7 @@ module _ (p : Parameters) (s : Sums) (x : ℕ) where
       go false f = absurd (n (rw (f, symbolSent)))
 
 -- the symbol as the code computes it
-pub sent-by : {t : Row} → Valid t → (s : Totals) {x y r : ℕ} → y ≡ x → r ≡ level (t .q) (y + t .middle) (s .weight)
+pub sent-by : {t : Row} → Valid t → (s : Totals) {x y r : ℕ} → y ≡ x → r ≡ level (t .q) (y + t .target) (s .weight)
     → r ≡ symbolSent (parameters t) (sumsOf t s) x
 sent-by {t} v s {x} e f =
-    f ∙ ap₂ (λ (a b : ℕ). level (t .q) (a + b) (s .weight)) e (middle-is v) ∙ sent-level (parameters t) (sumsOf t s) x
+    f ∙ ap₂ (λ (a b : ℕ). level (t .q) (a + b) (s .weight)) e (target-is v) ∙ sent-level (parameters t) (sumsOf t s) x

@@ -7,18 +7,18 @@ use Prim.Native.Nat.{ℕ, _+_, _-_, _*_, _%_, _≤_, min}
 use native.Mathlib.Nat.{mul-le-mul, mod-lt, min-eq-left}
 use native.Mathlib.Omega.{arith}
 use lib.ListN.{length, getD, take}
-use Rattle.modular.specs.Sum.{weight}
-use Rattle.code.specs.Parameters.{balancedLength, balancingValue, delta}
-use Rattle.code.specs.Codeword.{alpha, beta, body, received}
-use Rattle.code.proofs.Columns.{q-positive}
-use Rattle.code.proofs.Lawful.{body-length}
-use Rattle.code.proofs.Delta.{alternate-weight}
-use Rattle.decoding.specs.Syndromes.{syndromes}
-use Rattle.decoding.specs.Decoded.{sums, checkSymbol, checkIndex, target, lack}
+use Rattle.modular_theory.specs.Sum.{weight}
+use Rattle.code_theory.specs.Parameters.{balancedLength, balancingValue, delta}
+use Rattle.code_theory.specs.Codeword.{alpha, beta, body, received}
+use Rattle.code_theory.proofs.Columns.{q-positive}
+use Rattle.code_theory.proofs.Lawful.{body-length}
+use Rattle.code_theory.proofs.Delta.{alternate-weight}
+use Rattle.decoding_theory.specs.Syndromes.{syndromes}
+use Rattle.decoding_theory.specs.Decoded.{sums, checkSymbol, checkIndex, target, lack}
 use Rattle.profiles.specs.declared.row.Row.{Row}
 use Rattle.profiles.specs.Row.{parameters, Valid}
-use Rattle.residues.specs.Remainder.{residueOfDifference}
-use Rattle.residues.proofs.Dividing.{difference-is}
+use Rattle.modular.specs.Remainder.{residueOfDifference}
+use Rattle.modular.proofs.Dividing.{difference-is}
 use Rattle.symbols.specs.declared.weight.Weight.{Weight}
 use Rattle.symbols.specs.declared.checks.Checks.{Checks}
 use Rattle.symbols.specs.Weight.{weightsOf, checksOf}
@@ -29,24 +29,24 @@ use Rattle.symbols.proofs.Parts.{part-length}
 use Rattle.symbols.proofs.Rows.{sums-are}
 use Rattle.decoder.specs.declared.totals.Totals.{Totals}
 use Rattle.decoder.specs.Rows.{FourRows, rowsOf}
-use Rattle.decoder.specs.Totals.{Word, Components, checkOf, sumsOf, Totalled}
+use Rattle.decoder.specs.Totals.{ReceivedWord, Components, checkOf, sumsOf, Totalled}
 use Rattle.decoder.proofs.Levels.{symbols-take, weight-small}
 use Rattle.decoder.proofs.FourRows.{four-rows}
 use Rattle.decoder.proofs.Restoring.{four-are}
-use Rattle.decoding.proofs.Outcomes.{check-below}
+use Rattle.decoding_theory.proofs.Outcomes.{check-below}
 
-pub middle-is : {t : Row} → Valid t → t .middle ≡ target (parameters t)
-middle-is {t} v = v .middle ∙ ap (balancingValue (t .q)) (v .balanced)
+pub target-is : {t : Row} → Valid t → t .target ≡ target (parameters t)
+target-is {t} v = v .target ∙ ap (balancingValue (t .q)) (v .balanced)
 
-pub middle-small : {t : Row} → Valid t → t .middle ≤ 1358
+pub target-small : {t : Row} → Valid t → t .target ≤ 1358
 unfolding balancingValue
-middle-small {t} v =
+target-small {t} v =
     let m : t .balanced ≤ 97 = omega (arith, v .balanced, v .length) in
     let q : t .q - 1 ≤ 14 = omega (arith, v .levels) in
     let l : t .balanced * (t .q - 1) ≤ 1358 = mul-le-mul m q in
-    omega (arith, v .middle)
+    omega (arith, v .target)
 
-module _ {t : Row} {word x : List ℕ} (is : Word t word) (held : Components t word x) where
+module _ {t : Row} {word x : List ℕ} (is : ReceivedWord t word) (held : Components t word x) where
   q₁ : 1 ≤ t .q
   q₁ = q-positive (parameters t) (is .valid .sized)
 
@@ -121,15 +121,15 @@ module _ {t : Row} {word x : List ℕ} (is : Word t word) (held : Components t w
         arrived-is : _≡_ {A = Bool → ℕ} (checkOf (s .arrived)) (λ b. getD word (checkIndex (parameters t) b) 0)
         arrived-is = fun-ext arrived
 
-    pub totalled : s .lack ≡ residueOfDifference (t .q) (t .middle) (s .weight)
+    pub totalled : s .lack ≡ residueOfDifference (t .q) (t .target) (s .weight)
         → FourRows t (rows (s .first)) → FourRows t (rows (s .second)) → Totalled t s
     unfolding lack
     totalled d f h =
-        let l : s .lack ≡ (t .middle + (t .q - 1) * s .weight) % t .q = d ∙ difference-is (t .middle) (s .weight) q₁ in
+        let l : s .lack ≡ (t .target + (t .q - 1) * s .weight) % t .q = d ∙ difference-is (t .target) (s .weight) q₁ in
         record {
           light = omega (arith, e, body-light);
-          lacks = l ∙ ap (λ (m : ℕ). (m + (t .q - 1) * s .weight) % t .q) (middle-is (is .valid));
-          lack-below = rw l (mod-lt (t .middle + (t .q - 1) * s .weight) q₁);
+          lacks = l ∙ ap (λ (m : ℕ). (m + (t .q - 1) * s .weight) % t .q) (target-is (is .valid));
+          lack-below = rw l (mod-lt (t .target + (t .q - 1) * s .weight) q₁);
           asked-below = λ b. rw (g b) (check-below (t .q) q₁ b (body (parameters t) word));
           first-rows = f;
           second-rows = h;

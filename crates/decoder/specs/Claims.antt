@@ -7,13 +7,13 @@ use mathlib.Core.List.{List}
 use Prim.Native.Nat.{ℕ, _+_, _≤_, _<_}
 use lib.Dec.{T, eqb}
 use lib.ListN.{length, getD, set}
-use Rattle.code.specs.Parameters.{messageLength, codewordLength}
-use Rattle.code.specs.Component.{symbolsBelow, isWord}
-use Rattle.code.specs.Codeword.{codeword, carried}
-use Rattle.code.specs.Reading.{distance, clean, corrected}
-use Rattle.code.specs.Profiles.{isProfile, profile}
-use Rattle.code.specs.Operations.{success, reportNumber}
-use Rattle.decoder.specs.declared.reader.Decoded.{Decoded}
+use Rattle.code_theory.specs.Parameters.{messageLength, codewordLength}
+use Rattle.code_theory.specs.Component.{symbolsBelow, isWord}
+use Rattle.code_theory.specs.Codeword.{codeword, carried}
+use Rattle.code_theory.specs.Reading.{distance, clean, corrected}
+use Rattle.code_theory.specs.Profiles.{isProfile, profile}
+use Rattle.code_theory.specs.Operations.{success, reportNumber}
+use Rattle.decoder.specs.declared.word.Decoded.{Decoded}
 use Rattle.decoder.specs.Decode.{decodedReport, DecodeAllows}
 
 -- an answer r to the word v in profile i, with outputs of the right lengths, that decode's contract allows
@@ -35,7 +35,7 @@ pub record Carried (i : ℕ) (u first second : List ℕ) : Type 0 where
   pub second-is : second ≡ carried (profile i) false u
 
 -- demand 3
-pub record Corrects (i : ℕ) : Type 0 where
+pub record DecodesAsSent (i : ℕ) : Type 0 where
   -- a codeword as sent is read as its pair
   pub unchanged : (u : List ℕ) → T (codeword (profile i) u) → (r : Decoded) (first second : List ℕ) → Allowed i u r first second
       → (decodedReport r ≡ success clean) × Carried i u first second
@@ -51,7 +51,7 @@ pub record Corrects (i : ℕ) : Type 0 where
       → Allowed i v r first second → (decodedNumber r ≡ 4) ↔ ((u : List ℕ) → T (codeword (profile i) u) → 2 ≤ distance u v)
 
 abbrev pub DecodeCorrects : Type 0
-DecodeCorrects = (i : ℕ) → T (isProfile i) → Corrects i
+DecodeCorrects = (i : ℕ) → T (isProfile i) → DecodesAsSent i
 
 -- a call that numbers 1 to 3 let through
 pub record LetThrough (i : ℕ) (v : List ℕ) (k l : ℕ) : Type 0 where
@@ -67,21 +67,21 @@ FourOnly =
     → decodedNumber r ≡ 4 → LetThrough i v (length first) (length second)
 
 -- the lengths of the word and of the outputs are the profile's
-abbrev pub lengthsFit : ℕ → List ℕ → ℕ → ℕ → Bool
-lengthsFit i v k l =
+abbrev pub decodeLengthsFit : ℕ → List ℕ → ℕ → ℕ → Bool
+decodeLengthsFit i v k l =
     eqb (length v) (codewordLength (profile i)) && eqb k (messageLength (profile i)) && eqb l (messageLength (profile i))
 
 -- the other numbers, by the first that applies; and no refusal changes an output
-pub record Refuses (i : ℕ) (v : List ℕ) (r : Decoded) (first first′ second second′ : List ℕ) : Type 0 where
+pub record RefusesDecoding (i : ℕ) (v : List ℕ) (r : Decoded) (first first′ second second′ : List ℕ) : Type 0 where
   pub by-1 : isProfile i ≡ false → decodedNumber r ≡ 1
-  pub by-2 : T (isProfile i) → lengthsFit i v (length first) (length second) ≡ false → decodedNumber r ≡ 2
-  pub by-3 : T (isProfile i) → T (lengthsFit i v (length first) (length second)) → symbolsBelow (profile i .q) v ≡ false → decodedNumber r ≡ 3
+  pub by-2 : T (isProfile i) → decodeLengthsFit i v (length first) (length second) ≡ false → decodedNumber r ≡ 2
+  pub by-3 : T (isProfile i) → T (decodeLengthsFit i v (length first) (length second)) → symbolsBelow (profile i .q) v ≡ false → decodedNumber r ≡ 3
   pub keeps : decodedNumber r ≢ 0 → (first′ ≡ first) × (second′ ≡ second)
 
 abbrev pub DecodeRefuses : Type 0
 DecodeRefuses =
     (i : ℕ) (v : List ℕ) (r : Decoded) (first first′ second second′ : List ℕ) → DecodeAllows i v r first first′ second second′
-    → Refuses i v r first first′ second second′
+    → RefusesDecoding i v r first first′ second second′
 
 pub record Claims : Type 0 where
   pub decode-corrects : DecodeCorrects

@@ -5,11 +5,11 @@ use mathlib.Core.Bool.{true, false}
 use mathlib.Core.List.{List}
 use Prim.Native.Nat.{ℕ}
 use lib.ListN.{length}
-use Rattle.code.specs.Reading.{Correction, clean, corrected}
-use Rattle.code.specs.Operations.{Answer, Report, refusal, failure, success, decodeAnswer, report, decodeOutput}
-use Rattle.decoder.specs.declared.reader.Correction as declared
-use Rattle.decoder.specs.declared.reader.Decoded.{Decoded}
-use Rattle.decoder.specs.declared.reader.Decoded.the-variants.{Clean, Corrected, Unreadable, Refused}
+use Rattle.code_theory.specs.Reading.{Correction, clean, corrected}
+use Rattle.code_theory.specs.Operations.{Answer, Report, refusal, failure, success, decodeAnswer, report, decodeOutput}
+use Rattle.decoder.specs.declared.word.Correction as declared
+use Rattle.decoder.specs.declared.word.Decoded.{Decoded}
+use Rattle.decoder.specs.declared.word.Decoded.the-variants.{Clean, Corrected, Unreadable, Refused}
 
 -- the code's struct, as the model has it
 abbrev pub correctionOf : declared.Correction → Correction

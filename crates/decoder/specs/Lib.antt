@@ -4,7 +4,7 @@ pub mod Sides
 pub mod Received
 pub mod Totals
 pub mod Search
-pub mod Place
+pub mod Locate
 pub mod Outputs
 pub mod Decode
 pub mod Steps

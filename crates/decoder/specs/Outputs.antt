@@ -5,13 +5,13 @@ use mathlib.Core.Bool.{Bool, true, false, not}
 use mathlib.Core.List.{List}
 use Prim.Native.Nat.{ℕ, zero, suc, _+_, _*_}
 use lib.ListN.{length, getD, set}
-use Rattle.code.specs.Parameters.{Parameters, messageLength}
-use Rattle.code.specs.Component.{message}
-use Rattle.decoding.specs.Syndromes.{restoredBy}
+use Rattle.code_theory.specs.Parameters.{Parameters, messageLength}
+use Rattle.code_theory.specs.Component.{message}
+use Rattle.decoding_theory.specs.Syndromes.{restoredBy}
 use Rattle.profiles.specs.declared.row.Row.{Row}
 use Rattle.profiles.specs.Row.{parameters}
 use Rattle.symbols.specs.Syndromes.{part}
-use Rattle.decoder.specs.Received.{Body}
+use Rattle.decoder.specs.Received.{BodyArray}
 
 -- outputs that a message each fits
 pub record Outputs (t : Row) (first second : List ℕ) : Type 0 where
@@ -20,7 +20,7 @@ pub record Outputs (t : Row) (first second : List ℕ) : Type 0 where
 
 -- y is x with the component b, of which S is the syndrome, restored
 pub record Restored (t : Row) (S : List ℕ) (b : Bool) (x y : List ℕ) : Type 0 where
-  pub levels : Body t y
+  pub levels : BodyArray t y
   pub this : part b (t .n) y ≡ restoredBy (parameters t) S (part b (t .n) x)
   pub other : part (not b) (t .n) y ≡ part (not b) (t .n) x
 

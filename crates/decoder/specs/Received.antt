@@ -8,7 +8,7 @@ use Rattle.profiles.specs.declared.row.Row.{Row}
 use Rattle.profiles.specs.Row.{parameters, Valid}
 
 -- an array of 97 that begins with m symbols below q, as a body does and its differences do
-pub record Body (t : Row) (w : List ℕ) : Type 0 where
+pub record BodyArray (t : Row) (w : List ℕ) : Type 0 where
   pub valid : Valid t
   pub size : length w ≡ 97
   pub below : (i : ℕ) → i < t .balanced → getD w i 0 < t .q

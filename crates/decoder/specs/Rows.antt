@@ -6,10 +6,10 @@ use mathlib.Core.List.{List, [], _∷_}
 use Prim.Native.Nat.{ℕ, suc, _+_, _-_, _*_, _%_, _≤_, _<_}
 use lib.Dec.{T, eqb}
 use lib.ListN.{getD}
-use Rattle.decoding.specs.Syndromes.{tabulate, nearSyndromes, moved}
+use Rattle.decoding_theory.specs.Syndromes.{tabulate, nearSyndromes, moved}
 use Rattle.profiles.specs.declared.row.Row.{Row}
 use Rattle.profiles.specs.Row.{parameters}
-use Rattle.symbols.specs.declared.syndromes.Syndrome.{Syndrome}
+use Rattle.symbols.specs.declared.sums.Syndrome.{Syndrome}
 use Rattle.decoder.specs.Multiples.{Multiples}
 
 -- where row j of r stands among the four: the digit rows first, and the row of ones last
@@ -42,7 +42,7 @@ pub record Movable (q : ℕ) (column s multiples : List ℕ) : Type 0 where
   pub second-digit : getD column 1 0 < q
   pub third-digit : getD column 2 0 < q
   pub low : getD s 0 0 < q
-  pub middle : getD s 1 0 < q
+  pub target : getD s 1 0 < q
   pub high : getD s 2 0 < q
   pub ones : getD s 3 0 < q
   pub table : Multiples q multiples
@@ -50,7 +50,7 @@ pub record Movable (q : ℕ) (column s multiples : List ℕ) : Type 0 where
 -- each row of y is that of s so moved
 pub record RowsMoved (q f : ℕ) (column : List ℕ) (s y : Syndrome) : Type 0 where
   pub low : y .low ≡ (s .low + f * getD column 0 0) % q
-  pub middle : y .middle ≡ (s .middle + f * getD column 1 0) % q
+  pub mid : y .mid ≡ (s .mid + f * getD column 1 0) % q
   pub high : y .high ≡ (s .high + f * getD column 2 0) % q
   pub ones : y .ones ≡ (s .ones + f * 1) % q
 
@@ -60,7 +60,7 @@ pub record Moved (t : Row) (f a : ℕ) (s s′ : List ℕ) : Type 0 where
   pub are : rowsOf t s′ ≡ moved (parameters t) f a (rowsOf t s)
 
 -- the four rows of two syndromes that are near
-pub record NearRows (t : Row) (s s′ : List ℕ) : Type 0 where
+pub record NearFourRows (t : Row) (s s′ : List ℕ) : Type 0 where
   pub first-rows : FourRows t s
   pub second-rows : FourRows t s′
   pub near : T (nearSyndromes (parameters t) (rowsOf t s) (rowsOf t s′))

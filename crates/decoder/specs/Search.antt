@@ -5,15 +5,15 @@ use mathlib.Core.Bool.{Bool, true, false, not}
 use mathlib.Core.List.{List}
 use Prim.Native.Nat.{ℕ, _≤_}
 use lib.ListN.{getD}
-use Rattle.modular.specs.Residue.{minus}
-use Rattle.code.specs.Parameters.{Parameters}
-use Rattle.decoding.specs.Syndromes.{movedOf}
-use Rattle.decoding.specs.Decoded.{Sums, gain}
+use Rattle.modular_theory.specs.Residue.{minus}
+use Rattle.code_theory.specs.Parameters.{Parameters}
+use Rattle.decoding_theory.specs.Syndromes.{movedOf}
+use Rattle.decoding_theory.specs.Decoded.{Sums, gain}
 use Rattle.profiles.specs.Row.{Valid, parameters}
-use Rattle.symbols.specs.declared.syndromes.Syndromes.{Syndromes}
+use Rattle.symbols.specs.declared.sums.Syndromes.{Syndromes}
 use Rattle.symbols.specs.Columns.{Columns}
 use Rattle.symbols.specs.Syndromes.{rows}
-use Rattle.decoder.specs.declared.place.Search.{Search}
+use Rattle.decoder.specs.declared.locate.Search.{Search}
 use Rattle.decoder.specs.Multiples.{Multiples}
 use Rattle.decoder.specs.Rows.{FourRows, rowsOf}
 use Rattle.decoder.specs.Sides.{isFirst}

@@ -5,18 +5,18 @@ use mathlib.Core.Bool.{Bool, true, false}
 use mathlib.Core.List.{List}
 use Prim.Native.Nat.{ℕ}
 use lib.Dec.{T}
-use Rattle.code.specs.Parameters.{Parameters}
-use Rattle.code.specs.Codeword.{received}
-use Rattle.code.specs.Reading.{Finding, clean, corrected, unreadable}
-use Rattle.code.specs.Operations.{answered}
-use Rattle.decoding.specs.Syndromes.{nearSyndromes}
-use Rattle.decoding.specs.Decoded.{Sums, readBy, decodedBalanced}
+use Rattle.code_theory.specs.Parameters.{Parameters}
+use Rattle.code_theory.specs.Codeword.{received}
+use Rattle.code_theory.specs.Reading.{Finding, clean, corrected, unreadable}
+use Rattle.code_theory.specs.Operations.{answered}
+use Rattle.decoding_theory.specs.Syndromes.{nearSyndromes}
+use Rattle.decoding_theory.specs.Decoded.{Sums, readBy, decodedBalanced}
 use Rattle.profiles.specs.declared.row.Row.{Row}
 use Rattle.profiles.specs.Row.{parameters}
 use Rattle.symbols.specs.Syndromes.{part}
 use Rattle.decoder.specs.declared.totals.Totals.{Totals}
-use Rattle.decoder.specs.declared.reader.Decoded.{Decoded}
-use Rattle.decoder.specs.declared.reader.Decoded.the-variants.{Clean, Corrected, Unreadable, Refused}
+use Rattle.decoder.specs.declared.word.Decoded.{Decoded}
+use Rattle.decoder.specs.declared.word.Decoded.the-variants.{Clean, Corrected, Unreadable, Refused}
 use Rattle.decoder.specs.Totals.{sumsOf}
 use Rattle.decoder.specs.Decode.{correctionOf, Answers}
 

@@ -6,21 +6,21 @@ use mathlib.Core.List.{List}
 use Prim.Native.Nat.{ℕ, suc, _≤_, _<_}
 use lib.Dec.{T}
 use lib.ListN.{length, getD}
-use Rattle.code.specs.Parameters.{codewordLength}
-use Rattle.code.specs.Component.{symbolsBelow}
-use Rattle.code.specs.Balance.{neighbourDifference}
-use Rattle.code.specs.Codeword.{received}
-use Rattle.decoding.specs.Decoded.{Sums, sums, lack}
+use Rattle.code_theory.specs.Parameters.{codewordLength}
+use Rattle.code_theory.specs.Component.{symbolsBelow}
+use Rattle.code_theory.specs.Balance.{neighbourDifference}
+use Rattle.code_theory.specs.Codeword.{received}
+use Rattle.decoding_theory.specs.Decoded.{Sums, sums, lack}
 use Rattle.profiles.specs.declared.row.Row.{Row}
 use Rattle.decoder.specs.declared.totals.Totals.{Totals}
 use Rattle.profiles.specs.Row.{parameters, Valid}
 use Rattle.symbols.specs.Syndromes.{rows, part}
 use Rattle.symbols.specs.declared.checks.Checks.{Checks}
 use Rattle.decoder.specs.Rows.{FourRows, rowsOf}
-use Rattle.decoder.specs.Received.{Body}
+use Rattle.decoder.specs.Received.{BodyArray}
 
 -- a word that numbers 1 to 3 let through
-pub record Word (t : Row) (word : List ℕ) : Type 0 where
+pub record ReceivedWord (t : Row) (word : List ℕ) : Type 0 where
   pub valid : Valid t
   pub long : length word ≡ codewordLength (parameters t)
   pub below : T (symbolsBelow (t .q) word)
@@ -51,12 +51,12 @@ pub record Totalled (t : Row) (s : Totals) : Type 0 where
 
 -- x holds the differences of the body of the word u, after a symbol that is not looked at, and so its components
 pub record Components (t : Row) (u x : List ℕ) : Type 0 where
-  pub levels : Body t x
+  pub levels : BodyArray t x
   pub at : (j : ℕ) → suc j < t .balanced → getD x (suc j) 0 ≡ neighbourDifference (parameters t) (getD u j 0) (getD u (suc j) 0)
   pub parts : (b : Bool) → part b (t .n) x ≡ received (parameters t) b u
 
 -- s are the sums over the word, and x holds its components
-pub record Summed (t : Row) (word x : List ℕ) (s : Totals) : Type 0 where
+pub record SummedWord (t : Row) (word x : List ℕ) (s : Totals) : Type 0 where
   pub totalled : Totalled t s
   pub are : sumsOf t s ≡ sums (parameters t) word
   pub held : Components t word x

@@ -1,13 +1,13 @@
 // How a changed symbol moves a syndrome: by a multiple of a column.
 use crate::multiples::multiple;
+use modular::add;
 use profiles::Row;
-use residues::add;
 use symbols::Syndrome;
 use syndromes::is_zero;
 ghost use mathlib.Core.Path.{_≡_};
 ghost use Prim.Native.Nat.{_+_, _*_, _%_, _≤_, _<_};
 ghost use lib.ListN.{getD};
-ghost use Rattle.decoding.specs.Syndromes.{zeroSyndrome, moved};
+ghost use Rattle.decoding_theory.specs.Syndromes.{zeroSyndrome, moved};
 ghost use Rattle.profiles.specs.Row.{Valid, parameters};
 ghost use Rattle.symbols.specs.Columns.{Columns};
 ghost use Rattle.symbols.specs.Syndromes.{rows};
@@ -30,7 +30,7 @@ fn moved_rows(q: u8, column: [u8; 3], s: Syndrome, multiples: &[u8; 16]) -> Synd
 {
     Syndrome {
         low: moved_row(q, s.low, multiples, column[0]),
-        middle: moved_row(q, s.middle, multiples, column[1]),
+        mid: moved_row(q, s.mid, multiples, column[1]),
         high: moved_row(q, s.high, multiples, column[2]),
         ones: moved_row(q, s.ones, multiples, 1),
     }
@@ -69,7 +69,7 @@ fn rows_to_zero(q: u8, column: [u8; 3], s: Syndrome, multiples: &[u8; 16]) -> bo
     if moved_row(q, s.low, multiples, column[0]) != 0 {
         return false;
     }
-    if moved_row(q, s.middle, multiples, column[1]) != 0 {
+    if moved_row(q, s.mid, multiples, column[1]) != 0 {
         return false;
     }
     moved_row(q, s.high, multiples, column[2]) == 0

@@ -1,8 +1,8 @@
 // What correcting a symbol of one parity does to the two syndromes: a multiple of a column is added to each.
 use crate::column::moved;
+use crate::locate::Search;
 use crate::multiples::multiples;
-use crate::place::Search;
-use residues::sub;
+use modular::sub;
 use symbols::Syndromes;
 ghost use Prim.Native.Nat.{_≤_};
 ghost use Rattle.decoder.specs.Search.{Searches, Moves, Tries, After};

@@ -3,12 +3,12 @@
 mod body;
 mod column;
 mod effect;
+mod locate;
 mod message;
 mod multiples;
-mod place;
-mod reader;
 mod totals;
+mod word;
 
-pub use reader::Correction;
-pub use reader::Decoded;
-pub use reader::decode;
+pub use word::Correction;
+pub use word::Decoded;
+pub use word::decode;

@@ -1,7 +1,7 @@
 // The messages that the components of a word hold.
+use modular::sub;
+use modular::wide;
 use profiles::Row;
-use residues::sub;
-use residues::wide;
 use symbols::Syndrome;
 use syndromes::is_zero;
 use syndromes::position;
@@ -10,17 +10,17 @@ ghost use mathlib.Core.Bool.{true, false};
 ghost use Prim.Native.Nat.{_+_, _-_, _*_, _≤_, _<_};
 ghost use lib.Dec.{T};
 ghost use lib.ListN.{length};
-ghost use Rattle.decoding.specs.Syndromes.{nearSyndrome};
+ghost use Rattle.decoding_theory.specs.Syndromes.{nearSyndrome};
 ghost use Rattle.profiles.specs.Row.{parameters};
 ghost use Rattle.symbols.specs.Syndromes.{rows, part};
-ghost use Rattle.decoder.specs.Rows.{FourRows, rowsOf, NearRows};
+ghost use Rattle.decoder.specs.Rows.{FourRows, rowsOf, NearFourRows};
 ghost use Rattle.decoder.specs.Sides.{isFirst};
-ghost use Rattle.decoder.specs.Received.{Body};
+ghost use Rattle.decoder.specs.Received.{BodyArray};
 ghost use Rattle.decoder.specs.Outputs.{Restored, Outputs, Messages, RestoredMessages, copiedRun};
 
 // One component restored by its syndrome: as it is, or with 1 taken from the symbol that the syndrome names.
 fn restore(row: Row, s: Syndrome, side: usize, x: &mut [u8; 97])
-    requires { ⌜ Body row (now x) × FourRows row (rows s) × T (nearSyndrome (parameters row) (rowsOf row (rows s))) × (side ≤ 1) ⌝ }
+    requires { ⌜ BodyArray row (now x) × FourRows row (rows s) × T (nearSyndrome (parameters row) (rowsOf row (rows s))) × (side ≤ 1) ⌝ }
     ensures { λ _. ⌜ Restored row (rowsOf row (rows s)) (isFirst side) (now (x .entry)) (now (x .exit)) ⌝ }
 {
     if is_zero(s) {
@@ -49,7 +49,7 @@ fn copy_run(x: &[u8; 97], i: usize, end: usize, next: usize, first: &mut [u8], s
 
 // The messages of both components: the symbols at the positions that are no check positions, 2 and the powers of q.
 fn extract(row: Row, x: &[u8; 97], first: &mut [u8], second: &mut [u8])
-    requires { ⌜ Body row (now x) × Outputs row (now first) (now second) ⌝ }
+    requires { ⌜ BodyArray row (now x) × Outputs row (now first) (now second) ⌝ }
     ensures { λ _. ⌜ Messages row (now (x .entry)) (now (first .exit)) (now (second .exit)) ⌝ }
 {
     let q = wide(row.q);
@@ -76,7 +76,7 @@ pub(crate) fn write_pair(
     first: &mut [u8],
     second: &mut [u8],
 )
-    requires { ⌜ Body row (now x) × NearRows row (rows s) (rows t) × Outputs row (now first) (now second) ⌝ }
+    requires { ⌜ BodyArray row (now x) × NearFourRows row (rows s) (rows t) × Outputs row (now first) (now second) ⌝ }
     ensures { λ _. ⌜
         RestoredMessages (parameters row) (part true (row .n) (now (x .entry))) (part false (row .n) (now (x .entry)))
         (rowsOf row (rows s)) (rowsOf row (rows t)) (now (first .exit)) (now (second .exit)) ⌝ }

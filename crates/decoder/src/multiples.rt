@@ -1,6 +1,6 @@
 // The multiples of a symbol mod q, in a table.
-use residues::add;
-use residues::wide;
+use modular::add;
+use modular::wide;
 ghost use mathlib.Core.Path.{_≡_};
 ghost use Prim.Native.Nat.{_≤_, _<_};
 ghost use lib.ListN.{getD};

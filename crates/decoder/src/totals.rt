@@ -1,7 +1,7 @@
 // What is summed over a received word, once: its weight, its check symbols and the syndromes of its components.
 use crate::body::difference_body;
+use modular::difference;
 use profiles::Row;
-use residues::difference;
 use symbols::Checks;
 use symbols::Syndrome;
 use symbols::checks_of;
@@ -10,9 +10,9 @@ use symbols::weigh;
 ghost use mathlib.Core.Path.{_≡_};
 ghost use Rattle.profiles.specs.Row.{parameters};
 ghost use Rattle.symbols.specs.Columns.{Columns};
-ghost use Rattle.decoding.specs.Decoded.{sums};
+ghost use Rattle.decoding_theory.specs.Decoded.{sums};
 ghost use lib.ListN.{length};
-ghost use Rattle.decoder.specs.Totals.{Word, sumsOf, Components, Totalled, Summed};
+ghost use Rattle.decoder.specs.Totals.{ReceivedWord, sumsOf, Components, Totalled, SummedWord};
 
 pub(crate) struct Totals {
     // The weight of the body.
@@ -29,7 +29,7 @@ pub(crate) struct Totals {
 
 // The sums over a word, of whose body x holds the differences.
 fn total(row: Row, columns: &[[u8; 3]; 48], word: &[u8], x: &[u8; 97]) -> Totals
-    requires { ⌜ Word row (now word) × Components row (now word) (now x) × Columns (row .q) (row .n) (now columns) ⌝ }
+    requires { ⌜ ReceivedWord row (now word) × Components row (now word) (now x) × Columns (row .q) (row .n) (now columns) ⌝ }
     ensures { λ s. ⌜ Totalled row s × (sumsOf row s ≡ sums (parameters row) (now (word .entry))) ⌝ }
 {
     let q = row.q;
@@ -45,7 +45,7 @@ fn total(row: Row, columns: &[[u8; 3]; 48], word: &[u8], x: &[u8; 97]) -> Totals
     let second = syndromes.second;
     Totals {
         weight,
-        lack: difference(q, row.middle, weight),
+        lack: difference(q, row.target, weight),
         asked,
         arrived,
         first,
@@ -55,8 +55,8 @@ fn total(row: Row, columns: &[[u8; 3]; 48], word: &[u8], x: &[u8; 97]) -> Totals
 
 // The sums over a word, whose components are put into x.
 pub(crate) fn sums_of(row: Row, columns: &[[u8; 3]; 48], word: &[u8], x: &mut [u8; 97]) -> Totals
-    requires { ⌜ Word row (now word) × Columns (row .q) (row .n) (now columns) × (length (now x) ≡ 97) ⌝ }
-    ensures { λ s. ⌜ Summed row (now (word .entry)) (now (x .exit)) s ⌝ }
+    requires { ⌜ ReceivedWord row (now word) × Columns (row .q) (row .n) (now columns) × (length (now x) ≡ 97) ⌝ }
+    ensures { λ s. ⌜ SummedWord row (now (word .entry)) (now (x .exit)) s ⌝ }
 {
     difference_body(row, word, x);
     total(row, columns, word, x)

@@ -7,20 +7,20 @@ use Prim.Native.Nat.{ℕ, suc}
 use native.Mathlib.Omega.{arith}
 use lib.Dec.{T, eqb}
 use lib.ListN.{length}
-use Rattle.code.specs.Parameters.{Sized}
-use Rattle.code.specs.Codeword.{encoded}
-use Rattle.code.specs.Profiles.{isProfile, profile}
-use Rattle.code.specs.Refusal.{Test, asks}
-use Rattle.code.specs.Operations.{refusedBy, outcome, encodeTests, encodeRefusal, encodeOutput}
-use Rattle.code.specs.Claims.{Encodes}
-use Rattle.code.proofs.Pair.{balance-of-pair}
-use Rattle.code.proofs.Encoded.{encoded-carries}
-use Rattle.code.proofs.Profiles.{profiles-fit}
-use Rattle.code.proofs.Refusal.{past, stops}
+use Rattle.code_theory.specs.Parameters.{Sized}
+use Rattle.code_theory.specs.Codeword.{encoded}
+use Rattle.code_theory.specs.Profiles.{isProfile, profile}
+use Rattle.code_theory.specs.Refusal.{Test, asks}
+use Rattle.code_theory.specs.Operations.{refusedBy, outcome, encodeTests, encodeRefusal, encodeOutput}
+use Rattle.code_theory.specs.Claims.{Encodes}
+use Rattle.code_theory.proofs.Pair.{balance-of-pair}
+use Rattle.code_theory.proofs.Encoded.{encoded-carries}
+use Rattle.code_theory.proofs.Profiles.{profiles-fit}
+use Rattle.code_theory.proofs.Refusal.{past, stops}
 use Rattle.profiles.proofs.Refusing.{Accepted, accepted-by}
 use Rattle.encoder.specs.declared.Encoded.{Encoded}
 use Rattle.encoder.specs.Answer.{EncodeAllows}
-use Rattle.encoder.specs.Claims.{lengthsFit, levelsFit, WordOf, EncodeWrites, RefusedBy, EncodeRefuses, Claims}
+use Rattle.encoder.specs.Claims.{encodeLengthsFit, levelsFit, WordOf, EncodeWrites, RefusedBy, EncodeRefuses, Claims}
 use Rattle.encoder.proofs.Refusing.{output-kept, output-done}
 
 module _ {i : ℕ} {a b : List ℕ} {r : Encoded} {out out′ : List ℕ} (h : EncodeAllows i a b r out out′) where
@@ -53,7 +53,7 @@ pub encode-refuses : EncodeRefuses
 unfolding encodeRefusal
 encode-refuses i a b r out out′ h =
     let profiled : Test = asks (isProfile i) 1 in
-    let long : Test = asks (lengthsFit i a b (length out)) 2 in
+    let long : Test = asks (encodeLengthsFit i a b (length out)) 2 in
     let levels : Test = asks (levelsFit i a b) 3 in
     record {
       by-1 = λ p. refused-by h 0 (sym (stops [] profiled (long ∷ levels ∷ []) tt p));

@@ -8,30 +8,30 @@ use native.Mathlib.Numerals.{add-one}
 use native.Mathlib.Omega.{arith}
 use lib.ListN.{length, getD, take, set, replicate}
 use lib.Seq.{getD-take, take-take, ext-getD, length-take-le}
-use Rattle.modular.specs.Sum.{weight}
-use Rattle.modular.proofs.Residue.{of-eq, same, add, reduce, _then_}
-use Rattle.code.specs.Balance.{integrate}
-use Rattle.code.proofs.Choice.{length-integrate}
-use Rattle.residues.specs.Remainder.{residuesOf}
-use Rattle.residues.proofs.Filling.{FilledTo, filled-none, filled-more}
-use Rattle.residues.proofs.Dividing.{residue-is, residue-at, residues-long}
+use Rattle.modular_theory.specs.Sum.{weight}
+use Rattle.modular_theory.proofs.Residue.{of-eq, same, add, reduce, _then_}
+use Rattle.code_theory.specs.Balance.{integrate}
+use Rattle.code_theory.proofs.Choice.{length-integrate}
+use Rattle.modular.specs.Remainder.{residuesOf}
+use Rattle.modular.proofs.Filling.{FilledTo, filled-none, filled-more}
+use Rattle.modular.proofs.Dividing.{residue-is, residue-at, residues-long}
 use Rattle.symbols.proofs.Words.{weight-take}
-use Rattle.encoder.specs.Symbols.{Symbols, Summed}
+use Rattle.encoder.specs.Symbols.{SymbolArray, PrefixSums}
 
 -- The sums.
 
 -- those up to i are written, and `sum` is the last
-pub record Running (x sums : List ℕ) (sum i : ℕ) : Type 0 where
+pub record PrefixSumming (x sums : List ℕ) (sum i : ℕ) : Type 0 where
   pub is : sum ≡ weight (take i x)
   pub small : sum ≤ 255 * i
   pub written : FilledTo (λ k. weight (take (suc k) x)) 97 sums i
 
-pub running-none : (x : List ℕ) → Running x (replicate 97 0) 0 0
-running-none x = record { is = refl; small = zero-le; written = filled-none _ _ refl }
+pub prefix-none : (x : List ℕ) → PrefixSumming x (replicate 97 0) 0 0
+prefix-none x = record { is = refl; small = zero-le; written = filled-none _ _ refl }
 
-pub running-more : {x sums : List ℕ} {sum i : ℕ} → Running x sums sum i → i < 97 → {y : ℕ} → y ≡ getD x i 0 → y ≤ 255
-    → Running x (set sums i (sum + y)) (sum + y) (i + 1)
-running-more {x} {sums} {sum} {i} s l {y} e b =
+pub prefix-more : {x sums : List ℕ} {sum i : ℕ} → PrefixSumming x sums sum i → i < 97 → {y : ℕ} → y ≡ getD x i 0 → y ≤ 255
+    → PrefixSumming x (set sums i (sum + y)) (sum + y) (i + 1)
+prefix-more {x} {sums} {sum} {i} s l {y} e b =
     let is : sum + y ≡ weight (take (suc i) x) = omega (arith, s .is, weight-take i x) in
     record { is = rw add-one is; small = omega (arith, s .small); written = filled-more (s .written) l is }
 
@@ -45,7 +45,7 @@ integrate-at q a (x ∷ xs) (suc i) l =
     let e : a + x + w ≡ a + (x + w) = omega arith in
     integrate-at q ((a + x) % q) xs i (le-of-suc-le-suc l) ∙ (add (reduce q (a + x)) (same w) then of-eq e) .same
 
-module _ {q m : ℕ} {x sums d : List ℕ} (s : Symbols q m x) (w : Summed m x sums) (r : d ≡ residuesOf q (λ i. getD sums i 0) 97) where
+module _ {q m : ℕ} {x sums d : List ℕ} (s : SymbolArray q m x) (w : PrefixSums m x sums) (r : d ≡ residuesOf q (λ i. getD sums i 0) 97) where
   at : (i : ℕ) → i < 97 → getD d i 0 ≡ getD sums i 0 % q
   at i h = rw (r, residue-at q (λ i. getD sums i 0) 97 i h) (residue-is (getD sums i 0) (s .some))
 
@@ -67,7 +67,7 @@ module _ {q m : ℕ} {x sums d : List ℕ} (s : Symbols q m x) (w : Summed m x s
       ∙ sym (integrate-at q 0 (take m x) i j ∙ ap (λ (t : List ℕ). (0 + weight t) % q) (take-take (suc i) m x h)))
 
   -- all of the array holds symbols
-  pub integral-symbols : Symbols q 97 d
+  pub integral-symbols : SymbolArray q 97 d
   integral-symbols =
       record {
         size = size;
@@ -78,6 +78,6 @@ module _ {q m : ℕ} {x sums d : List ℕ} (s : Symbols q m x) (w : Summed m x s
       }
 
 -- as its first ones are
-pub symbols-fewer : {q m : ℕ} {d : List ℕ} → Symbols q 97 d → m ≤ 97 → Symbols q m d
+pub symbols-fewer : {q m : ℕ} {d : List ℕ} → SymbolArray q 97 d → m ≤ 97 → SymbolArray q m d
 symbols-fewer s h =
     record { size = s .size; some = s .some; levels = s .levels; room = h; below = λ i l. s .below i (omega arith) }

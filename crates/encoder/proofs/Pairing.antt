@@ -7,20 +7,20 @@ use native.Mathlib.Omega.{arith}
 use lib.Dec.{T}
 use lib.ListN.{length, take}
 use lib.Seq.{getD-take}
-use Rattle.code.specs.Parameters.{Parameters, Sized, messageLength, balancedLength, codewordLength}
-use Rattle.code.specs.Component.{Below, isWord, component}
-use Rattle.code.specs.Balance.{interleave, balanced}
-use Rattle.code.specs.Codeword.{withChecks, interleaved, encoded}
-use Rattle.code.specs.Profiles.{profile}
-use Rattle.code.proofs.Merge.{word-length}
-use Rattle.code.proofs.Component.{component-below}
-use Rattle.code.proofs.Columns.{q-positive}
+use Rattle.code_theory.specs.Parameters.{Parameters, Sized, messageLength, balancedLength, codewordLength}
+use Rattle.code_theory.specs.Component.{Below, isWord, component}
+use Rattle.code_theory.specs.Balance.{interleave, balanced}
+use Rattle.code_theory.specs.Codeword.{withChecks, interleaved, encoded}
+use Rattle.code_theory.specs.Profiles.{profile}
+use Rattle.code_theory.proofs.Merge.{word-length}
+use Rattle.code_theory.proofs.Component.{component-below}
+use Rattle.code_theory.proofs.Columns.{q-positive}
 use Rattle.profiles.specs.declared.row.Row.{Row}
 use Rattle.profiles.specs.Row.{parameters, RowOf}
 use Rattle.profiles.proofs.Table.{levels-are, codeword-is}
 use Rattle.components.specs.Components.{zeroFirst, componentsOf}
 use Rattle.components.proofs.Lengths.{components-interleaved}
-use Rattle.encoder.specs.Symbols.{Symbols}
+use Rattle.encoder.specs.Symbols.{SymbolArray}
 
 interleave-below : (q : ℕ) → 1 ≤ q → (c d : List ℕ) → Below q c → Below q d → Below q (interleave c d)
 interleave-below q h [] d hc hd i = h
@@ -44,7 +44,7 @@ module _ {i : ℕ} {t : Row} (of : RowOf i t) (a b : List ℕ) (pre : T (isWord 
       ap₂ take (of .valid .balanced ∙ ap balancedLength (of .same)) made
       ∙ components-interleaved i a b (of .known) (word-length (profile i .q) (messageLength (profile i)) a (pre .0)) (word-length (profile i .q) (messageLength (profile i)) b (pre .1))
 
-  pub pair-symbols : length x ≡ 97 → Symbols (t .q) (t .balanced) x
+  pub pair-symbols : length x ≡ 97 → SymbolArray (t .q) (t .balanced) x
   pair-symbols size =
       record {
         size = size;

@@ -11,10 +11,10 @@ use native.Mathlib.Omega.{arith}
 use lib.ListN.{length, getD, take}
 use lib.Seq.{getD-take, ext-getD, length-take-le}
 use borrow.Author.Tests.{lt-ltb, le-ltb}
-use Rattle.modular.specs.Sum.{weight}
-use Rattle.modular.proofs.Search.{le-or-lt}
-use Rattle.code.specs.Balance.{shifted, shiftedFrom}
-use Rattle.encoder.specs.Symbols.{Symbols, Raised, stepAt}
+use Rattle.modular_theory.specs.Sum.{weight}
+use Rattle.modular_theory.proofs.Search.{le-or-lt}
+use Rattle.code_theory.specs.Balance.{shifted, shiftedFrom}
+use Rattle.encoder.specs.Symbols.{SymbolArray, Raised, stepAt}
 
 -- The weight, a symbol at a time.
 
@@ -84,7 +84,7 @@ shifted-after q s (suc i) [] k l h = absurd (not-suc-le-zero l)
 shifted-after q s (suc i) (a ∷ d) zero l h = absurd (not-suc-le-zero h)
 shifted-after q s (suc i) (a ∷ d) (suc k) l h = shifted-after q s i d k (le-of-suc-le-suc l) (le-of-suc-le-suc h)
 
-pub raised-is : {q s from : ℕ} {d w : List ℕ} (m : ℕ) → Symbols q 97 d → m ≤ 97 → Raised q d s from w → length w ≡ 97
+pub raised-is : {q s from : ℕ} {d w : List ℕ} (m : ℕ) → SymbolArray q 97 d → m ≤ 97 → Raised q d s from w → length w ≡ 97
     → take m w ≡ shiftedFrom q s from (take m d)
 raised-is {q} {s} {from} {d} {w} m symbols room r lw =
     let n : length (take m d) ≡ m = length-take-le m d (omega (arith, symbols .size)) in

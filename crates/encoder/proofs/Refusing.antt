@@ -5,10 +5,10 @@ use mathlib.Core.Logic.{_≢_}
 use mathlib.Core.List.{List}
 use Prim.Native.Nat.{ℕ, zero, suc}
 use lib.ListN.{length}
-use Rattle.code.specs.Codeword.{encoded}
-use Rattle.code.proofs.Refusal.{kept, wrote}
-use Rattle.code.specs.Profiles.{profile}
-use Rattle.code.specs.Operations.{Outcome, refusedBy, outcome, encodeRefusal, encodeOutput}
+use Rattle.code_theory.specs.Codeword.{encoded}
+use Rattle.code_theory.proofs.Refusal.{kept, wrote}
+use Rattle.code_theory.specs.Profiles.{profile}
+use Rattle.code_theory.specs.Operations.{Outcome, refusedBy, outcome, encodeRefusal, encodeOutput}
 
 -- a call that a number refuses
 some-outcome : (n : ℕ) → n ≢ 0 → refusedBy n ≡ outcome n

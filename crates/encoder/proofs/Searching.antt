@@ -10,13 +10,13 @@ use native.Mathlib.Omega.{arith}
 use native.Mathlib.Decide.{ℕ-discrete}
 use lib.ListN.{length, getD, take, set, replicate}
 use lib.Seq.{length-take-le, getD-set-same, getD-set-other}
-use Rattle.modular.specs.Sum.{weight}
-use Rattle.modular.proofs.Search.{le-or-lt, le-of-not-lt}
-use Rattle.code.specs.Parameters.{Parameters, balancingValue}
-use Rattle.code.specs.Balance.{shifted, shiftedFrom, integrated, chosen, earliestS, earliestV, balanced}
-use Rattle.code.specs.Claims.{Tried, Balanced}
-use Rattle.code.proofs.Balance.{weight-step}
-use Rattle.code.proofs.Choice.{chosen-shifted, length-integrate, balance-exists}
+use Rattle.modular_theory.specs.Sum.{weight}
+use Rattle.modular_theory.proofs.Search.{le-or-lt, le-of-not-lt}
+use Rattle.code_theory.specs.Parameters.{Parameters, balancingValue}
+use Rattle.code_theory.specs.Balance.{shifted, shiftedFrom, integrated, chosen, earliestS, earliestV, balanced}
+use Rattle.code_theory.specs.Claims.{Tried, Balanced}
+use Rattle.code_theory.proofs.Balance.{weight-step}
+use Rattle.code_theory.proofs.Choice.{chosen-shifted, length-integrate, balance-exists}
 use Rattle.profiles.specs.declared.row.Row.{Row}
 use Rattle.profiles.specs.Row.{parameters, Valid}
 use Rattle.encoder.specs.Symbols.{Integral, Chosen}

@@ -7,8 +7,8 @@ use native.Mathlib.Numerals.{add-one}
 use native.Mathlib.Omega.{arith}
 use lib.ListN.{length, take, set, length-set}
 use lib.Seq.{take-suc-set, append-snoc, length-take-le}
-use Rattle.code.specs.Codeword.{alpha, beta, withChecks}
-use Rattle.code.proofs.Columns.{q-positive}
+use Rattle.code_theory.specs.Codeword.{alpha, beta, withChecks}
+use Rattle.code_theory.proofs.Columns.{q-positive}
 use Rattle.profiles.specs.declared.row.Row.{Row}
 use Rattle.profiles.specs.Row.{parameters, Valid}
 use Rattle.symbols.specs.declared.checks.Checks.{Checks}

@@ -4,7 +4,7 @@ use mathlib.Core.Path.{_≡_}
 use mathlib.Core.List.{List}
 use Prim.Native.Nat.{ℕ}
 use lib.ListN.{length}
-use Rattle.code.specs.Operations.{Outcome, done, refusedBy, outcome, encodeRefusal, encodeOutput}
+use Rattle.code_theory.specs.Operations.{Outcome, done, refusedBy, outcome, encodeRefusal, encodeOutput}
 use Rattle.encoder.specs.declared.Encoded.{Encoded}
 use Rattle.encoder.specs.declared.Encoded.the-variants.{Done, Refused}
 

@@ -6,19 +6,19 @@ use mathlib.Core.List.{List}
 use Prim.Native.Nat.{ℕ}
 use lib.Dec.{T, eqb}
 use lib.ListN.{length}
-use Rattle.code.specs.Parameters.{messageLength, codewordLength}
-use Rattle.code.specs.Component.{symbolsBelow}
-use Rattle.code.specs.Balance.{balanced}
-use Rattle.code.specs.Codeword.{interleaved, withChecks, codeword, carried}
-use Rattle.code.specs.Profiles.{isProfile, profile}
-use Rattle.code.specs.Operations.{done, refusedBy}
-use Rattle.code.specs.Claims.{Balanced}
+use Rattle.code_theory.specs.Parameters.{messageLength, codewordLength}
+use Rattle.code_theory.specs.Component.{symbolsBelow}
+use Rattle.code_theory.specs.Balance.{balanced}
+use Rattle.code_theory.specs.Codeword.{interleaved, withChecks, codeword, carried}
+use Rattle.code_theory.specs.Profiles.{isProfile, profile}
+use Rattle.code_theory.specs.Operations.{done, refusedBy}
+use Rattle.code_theory.specs.Claims.{Balanced}
 use Rattle.encoder.specs.declared.Encoded.{Encoded}
 use Rattle.encoder.specs.Answer.{encodedOutcome, EncodeAllows}
 
 -- the lengths of the messages and of the output are the profile's
-abbrev pub lengthsFit : ℕ → List ℕ → List ℕ → ℕ → Bool
-lengthsFit i a b l =
+abbrev pub encodeLengthsFit : ℕ → List ℕ → List ℕ → ℕ → Bool
+encodeLengthsFit i a b l =
     eqb (length a) (messageLength (profile i)) && eqb (length b) (messageLength (profile i)) && eqb l (codewordLength (profile i))
 
 -- the symbols of the messages are below the profile's levels
@@ -40,20 +40,20 @@ pub record WordOf (i : ℕ) (a b u : List ℕ) : Type 0 where
 abbrev pub EncodeWrites : Type 0
 EncodeWrites =
     (i : ℕ) (a b : List ℕ) (r : Encoded) (out out′ : List ℕ) → EncodeAllows i a b r out out′
-    → T (isProfile i) → T (lengthsFit i a b (length out)) → T (levelsFit i a b)
+    → T (isProfile i) → T (encodeLengthsFit i a b (length out)) → T (levelsFit i a b)
     → (encodedOutcome r ≡ done) × WordOf i a b out′
 
 -- any other call is refused by the first number that applies, and leaves the output
 abbrev pub RefusedBy : ℕ → Encoded → List ℕ → List ℕ → Type 0
 RefusedBy k r out out′ = (encodedOutcome r ≡ refusedBy k) × (out′ ≡ out)
 
-pub record Refuses (i : ℕ) (a b : List ℕ) (r : Encoded) (out out′ : List ℕ) : Type 0 where
+pub record RefusesEncoding (i : ℕ) (a b : List ℕ) (r : Encoded) (out out′ : List ℕ) : Type 0 where
   pub by-1 : isProfile i ≡ false → RefusedBy 1 r out out′
-  pub by-2 : T (isProfile i) → lengthsFit i a b (length out) ≡ false → RefusedBy 2 r out out′
-  pub by-3 : T (isProfile i) → T (lengthsFit i a b (length out)) → levelsFit i a b ≡ false → RefusedBy 3 r out out′
+  pub by-2 : T (isProfile i) → encodeLengthsFit i a b (length out) ≡ false → RefusedBy 2 r out out′
+  pub by-3 : T (isProfile i) → T (encodeLengthsFit i a b (length out)) → levelsFit i a b ≡ false → RefusedBy 3 r out out′
 
 abbrev pub EncodeRefuses : Type 0
-EncodeRefuses = (i : ℕ) (a b : List ℕ) (r : Encoded) (out out′ : List ℕ) → EncodeAllows i a b r out out′ → Refuses i a b r out out′
+EncodeRefuses = (i : ℕ) (a b : List ℕ) (r : Encoded) (out out′ : List ℕ) → EncodeAllows i a b r out out′ → RefusesEncoding i a b r out out′
 
 pub record Claims : Type 0 where
   pub encode-writes : EncodeWrites

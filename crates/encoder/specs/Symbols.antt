@@ -6,12 +6,12 @@ use mathlib.Core.List.{List}
 use Prim.Native.Nat.{ℕ, suc, _+_, _-_, _%_, _≤_, _<_}
 use lib.Dec.{ltb}
 use lib.ListN.{length, getD, take}
-use Rattle.modular.specs.Sum.{weight}
-use Rattle.code.specs.Parameters.{Parameters}
-use Rattle.code.specs.Balance.{shiftedFrom, integrated, balanced}
+use Rattle.modular_theory.specs.Sum.{weight}
+use Rattle.code_theory.specs.Parameters.{Parameters}
+use Rattle.code_theory.specs.Balance.{shiftedFrom, integrated, balanced}
 
 -- the first m of x's 97 symbols are below q, and q is small enough that sums of two symbols fit a byte
-pub record Symbols (q m : ℕ) (x : List ℕ) : Type 0 where
+pub record SymbolArray (q m : ℕ) (x : List ℕ) : Type 0 where
   pub size : length x ≡ 97
   pub some : 1 ≤ q
   pub levels : q ≤ 15
@@ -19,7 +19,7 @@ pub record Symbols (q m : ℕ) (x : List ℕ) : Type 0 where
   pub below : (i : ℕ) → i < m → getD x i 0 < q
 
 -- the sums of the first symbols of x, up to each of the first m
-pub record Summed (m : ℕ) (x sums : List ℕ) : Type 0 where
+pub record PrefixSums (m : ℕ) (x sums : List ℕ) : Type 0 where
   pub at : (i : ℕ) → i < m → getD sums i 0 ≡ weight (take (suc i) x)
 
 -- d is the integral of a word

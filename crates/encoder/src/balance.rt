@@ -1,22 +1,22 @@
 // Balancing (01: How a word is made, 4 and 5): w of the first choice that balances x. A choice s, v adds s to every symbol of the integrated x,
 // and 1 more from position v on, so x is integrated once.
+use modular::SumArray;
+use modular::add;
+use modular::remainders;
+use modular::wide16;
 use profiles::Row;
-use residues::Sums;
-use residues::add;
-use residues::remainders;
-use residues::wide16;
 ghost use mathlib.Core.Path.{_≡_};
 ghost use Prim.Native.Nat.{_≤_, _<_};
 ghost use lib.ListN.{take};
-ghost use Rattle.modular.specs.Sum.{weight};
-ghost use Rattle.code.specs.Balance.{integrate, shifted, balanced};
+ghost use Rattle.modular_theory.specs.Sum.{weight};
+ghost use Rattle.code_theory.specs.Balance.{integrate, shifted, balanced};
 ghost use Rattle.profiles.specs.Row.{parameters, Valid};
-ghost use Rattle.encoder.specs.Symbols.{Symbols, Summed, Integral, Chosen, Raised, stepAt};
+ghost use Rattle.encoder.specs.Symbols.{SymbolArray, PrefixSums, Integral, Chosen, Raised, stepAt};
 
 // The sums of the first symbols, up to each of the first m.
-fn summed(m: usize, x: &[u8; 97]) -> Sums
+fn summed(m: usize, x: &[u8; 97]) -> SumArray
     requires { ⌜ m ≤ 97 ⌝ }
-    ensures { λ sums. ⌜ Summed m (now (x .entry)) sums ⌝ }
+    ensures { λ sums. ⌜ PrefixSums m (now (x .entry)) sums ⌝ }
 {
     let mut sums = [0u16; 97];
     let mut sum: u16 = 0;
@@ -31,8 +31,8 @@ fn summed(m: usize, x: &[u8; 97]) -> Sums
 
 // The running sums mod q of the first m symbols.
 fn integrated(q: u8, m: usize, x: &[u8; 97]) -> [u8; 97]
-    requires { ⌜ Symbols q m (now x) ⌝ }
-    ensures { λ d. ⌜ (take m d ≡ integrate q 0 (take m (now (x .entry)))) × Symbols q 97 d ⌝ }
+    requires { ⌜ SymbolArray q m (now x) ⌝ }
+    ensures { λ d. ⌜ (take m d ≡ integrate q 0 (take m (now (x .entry)))) × SymbolArray q 97 d ⌝ }
 {
     let sums = summed(m, x);
     remainders(q, &sums)
@@ -40,7 +40,7 @@ fn integrated(q: u8, m: usize, x: &[u8; 97]) -> [u8; 97]
 
 // The weight of the first m symbols with `by` added mod q to each.
 fn weight_raised(q: u8, m: usize, d: &[u8; 97], by: u8) -> usize
-    requires { ⌜ Symbols q m (now d) × (by ≤ q) ⌝ }
+    requires { ⌜ SymbolArray q m (now d) × (by ≤ q) ⌝ }
     ensures { λ r. ⌜ r ≡ weight (shifted q by (take m (now (d .entry)))) ⌝ }
 {
     let mut sum: u16 = 0;
@@ -61,7 +61,7 @@ pub(crate) struct Choice {
 // 01: the choice used, the first whose w has weight middle, s before v. One exists, so the search ends at the label. From v to v + 1 the
 // symbol at v loses 1 mod q, and the weight with it: it gains q first where that symbol is 0. No word is weighed anew.
 fn earliest(row: Row, d: &[u8; 97]) -> Choice
-    requires { ⌜ Valid row × Symbols (row .q) (row .balanced) (now d) × Integral (parameters row) (take (row .balanced) (now d)) ⌝ }
+    requires { ⌜ Valid row × SymbolArray (row .q) (row .balanced) (now d) × Integral (parameters row) (take (row .balanced) (now d)) ⌝ }
     ensures { λ c. ⌜ Chosen (parameters row) (take (row .balanced) (now (d .entry))) (c .s) (c .v) ⌝ }
 {
     let m = row.balanced;
@@ -73,7 +73,7 @@ fn earliest(row: Row, d: &[u8; 97]) -> Choice
         let mut weight = weight_raised(row.q, m, d, s + 1);
         v = 1;
         while v <= m {
-            if weight == row.middle {
+            if weight == row.target {
                 break 'search;
             }
             weight = weight + gain[d[v - 1] as usize] as usize - 1;
@@ -94,7 +94,7 @@ fn step(i: u8, from: u8, s: u8) -> u8
 
 // s added mod q to every symbol of the array, and 1 more from an index on. The index is counted in bytes too: so compared, many at a time are.
 fn raised(q: u8, d: &[u8; 97], s: u8, from: u8) -> [u8; 97]
-    requires { ⌜ Symbols q 97 (now d) × (s < q) ⌝ }
+    requires { ⌜ SymbolArray q 97 (now d) × (s < q) ⌝ }
     ensures { λ w. ⌜ Raised q (now (d .entry)) s from w ⌝ }
 {
     let mut w = [0u8; 97];
@@ -110,7 +110,7 @@ fn raised(q: u8, d: &[u8; 97], s: u8, from: u8) -> [u8; 97]
 
 // 01: w of the choice used.
 pub(crate) fn balanced(row: Row, x: &[u8; 97]) -> [u8; 97]
-    requires { ⌜ Valid row × Symbols (row .q) (row .balanced) (now x) ⌝ }
+    requires { ⌜ Valid row × SymbolArray (row .q) (row .balanced) (now x) ⌝ }
     ensures { λ w. ⌜ take (row .balanced) w ≡ balanced (parameters row) (take (row .balanced) (now (x .entry))) ⌝ }
 {
     let d = integrated(row.q, row.balanced, x);

@@ -1,13 +1,13 @@
 // Encoding (01: Write) of a pair of messages into the word that goes on the line. The components of the pair are those of crate `components`.
 mod balance;
+mod pair;
 mod word;
-mod writer;
 
+use pair::word_of;
 use profiles::Lookup;
 use profiles::encode_refusal;
 use profiles::row_of;
 use word::put;
-use writer::written;
 ghost use Rattle.encoder.specs.Answer.{EncodeAllows};
 
 // The answer to encode: the output holds the word, or the call is refused by 01's number and the output is as it was.
@@ -27,6 +27,6 @@ pub fn encode(profile: usize, first: &[u8], second: &[u8], out: &mut [u8]) -> En
     if number != 0 {
         return Encoded::Refused(number);
     }
-    put(written(row, profile, first, second), out);
+    put(word_of(row, profile, first, second), out);
     Encoded::Done
 }

@@ -5,7 +5,7 @@ use symbols::weigh;
 ghost use mathlib.Core.Path.{_≡_};
 ghost use Prim.Native.Nat.{_≤_};
 ghost use lib.ListN.{length, take};
-ghost use Rattle.code.specs.Codeword.{withChecks};
+ghost use Rattle.code_theory.specs.Codeword.{withChecks};
 ghost use Rattle.profiles.specs.Row.{Valid};
 
 // 01: the line word, in the first `len` symbols.

@@ -6,9 +6,9 @@ use Prim.Native.Nat.{ℕ, zero, suc, _+_, _*_, _/_, _%_, _≤_}
 use native.Mathlib.Omega.{arith}
 use lib.Dec.{lit≤}
 use lib.ListN.{getD}
-use Rattle.code.specs.Reading.{clean, corrected, read, unreadable}
-use Rattle.code.specs.Operations.{Answer, refused, answered, Report, report, decodeAnswer}
-use Rattle.stream.proofs.Bounds.{SmallAnswer, decode-small}
+use Rattle.code_theory.specs.Reading.{clean, corrected, read, unreadable}
+use Rattle.code_theory.specs.Operations.{Answer, refused, answered, Report, report, decodeAnswer}
+use Rattle.lines_theory.proofs.Bounds.{SmallAnswer, decode-small}
 use Rattle.fogzurt.specs.Packed.{Parts, partsOf, joined, byte, bytes, packed, unpacked, Within}
 use Rattle.fogzurt.specs.Claims.{Unpacks}
 

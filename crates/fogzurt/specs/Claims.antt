@@ -5,14 +5,14 @@ use mathlib.Core.List.{List}
 use Prim.Native.Nat.{ℕ, _+_, _*_}
 use lib.Dec.{T}
 use lib.ListN.{length}
-use Rattle.code.specs.Parameters.{messageLength}
-use Rattle.code.specs.Reading.{clean, corrected}
-use Rattle.code.specs.Profiles.{isProfile, profile}
-use Rattle.code.specs.Operations.{refusal, failure, success, decodeAnswer, report}
+use Rattle.code_theory.specs.Parameters.{messageLength}
+use Rattle.code_theory.specs.Reading.{clean, corrected}
+use Rattle.code_theory.specs.Profiles.{isProfile, profile}
+use Rattle.code_theory.specs.Operations.{refusal, failure, success, decodeAnswer, report}
 use Rattle.encoder.specs.declared.Encoded.{Encoded}
 use Rattle.encoder.specs.Answer.{EncodeAllows}
 use Rattle.encoder.specs.Claims as Encode
-use Rattle.decoder.specs.declared.reader.Decoded.{Decoded}
+use Rattle.decoder.specs.declared.word.Decoded.{Decoded}
 use Rattle.decoder.specs.Decode.{decodedReport, DecodeAllows}
 use Rattle.fogzurt.specs.Packed.{partsOf, packed, unpacked}
 
@@ -37,7 +37,7 @@ pub record GivesBack (a b : List ℕ) (r : Decoded) (first second : List ℕ) : 
 abbrev pub RoundTrip : Type 0
 RoundTrip =
     (i : ℕ) (a b : List ℕ) (made : Encoded) (out word : List ℕ) → EncodeAllows i a b made out word
-    → T (isProfile i) → T (Encode.lengthsFit i a b (length out)) → T (Encode.levelsFit i a b)
+    → T (isProfile i) → T (Encode.encodeLengthsFit i a b (length out)) → T (Encode.levelsFit i a b)
     → (r : Decoded) (before-first first before-second second : List ℕ) → DecodeAllows i word r before-first first before-second second
     → length before-first ≡ messageLength (profile i) → length before-second ≡ messageLength (profile i)
     → GivesBack a b r first second

@@ -4,8 +4,8 @@
 use mathlib.Core.List.{List, [], _∷_}
 use Prim.Native.Nat.{ℕ, zero, suc, _+_, _*_, _/_, _%_, _≤_}
 use lib.ListN.{length}
-use Rattle.code.specs.Reading.{Finding, clean, corrected, correction}
-use Rattle.code.specs.Operations.{Answer, decodeAnswer, Report, refusal, failure, success}
+use Rattle.code_theory.specs.Reading.{Finding, clean, corrected, correction}
+use Rattle.code_theory.specs.Operations.{Answer, decodeAnswer, Report, refusal, failure, success}
 
 -- decode's answer to the word u in profile i, with outputs that hold `first` and `second`
 abbrev pub answerInto : ℕ → List ℕ → List ℕ → List ℕ → Answer

@@ -3,14 +3,14 @@ ghost use mathlib.Core.Path.{_≡_};
 ghost use mathlib.Core.Bool.{true, false};
 ghost use mathlib.Core.List.{[], _∷_};
 ghost use lib.ListN.{length};
-ghost use Rattle.code.specs.Operations.{encodeRefusal, encodeOutput, outcomeNumber, decodeOutput, report};
-ghost use Rattle.sheet.specs.Allowed.{FormatAllows, EnqueueAllows, PeekAllows, DequeueAllows};
+ghost use Rattle.code_theory.specs.Operations.{encodeRefusal, encodeOutput, outcomeNumber, decodeOutput, report};
+ghost use Rattle.queue_theory.specs.Allowed.{FormatAllows, EnqueueAllows, PeekAllows, DequeueAllows};
 ghost use Rattle.encoder.specs.Answer.{encodedOutcome};
 ghost use Rattle.decoder.specs.Decode.{decodedReport};
 ghost use Rattle.fogzurt.specs.Packed.{answerInto, partsOf, joined, packed, Within};
 use decoder::Decoded;
 use encoder::Encoded;
-use residues::wide64;
+use modular::wide64;
 
 // The kinds of a decoded word, as C sees them.
 const CLEAN: u8 = 1;

@@ -7,7 +7,7 @@ use Prim.Native.Nat.{ℕ, _≤_, _<_}
 use native.Mathlib.Omega.{arith}
 use lib.ListN.{length, take, drop, drop-of-length-le}
 use lib.Seq.{take-all, length-take-le}
-use Rattle.modular.proofs.Search.{le-or-lt}
+use Rattle.modular_theory.proofs.Search.{le-or-lt}
 use Rattle.lines.specs.States.{pendingOf}
 
 -- the smaller of a number and a bound

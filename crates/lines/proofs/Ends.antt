@@ -10,10 +10,10 @@ use lib.Dec.{eqb}
 use lib.ListN.{getD, take, drop}
 use lib.Seq.{getD-drop}
 use borrow.Author.Tests.{eqb-true, eqb-false}
-use Rattle.modular.proofs.Search.{le-or-lt}
-use Rattle.code.proofs.Merge.{cases}
-use Rattle.stream.specs.Feed.{lineEnds}
-use Rattle.stream.proofs.Counting.{ends-further, ends-none, ends-one}
+use Rattle.modular_theory.proofs.Search.{le-or-lt}
+use Rattle.code_theory.proofs.Merge.{cases}
+use Rattle.lines_theory.specs.Feed.{lineEnds}
+use Rattle.lines_theory.proofs.Counting.{ends-further, ends-none, ends-one}
 use Rattle.lines.specs.Ends.{LineEnd, EndIndex}
 
 -- none of the bytes from an index on and before another is byte 10

@@ -9,10 +9,10 @@ use native.Mathlib.Omega.{arith}
 use lib.Dec.{eqb}
 use lib.ListN.{length, take}
 use borrow.Author.Tests.{eq-eqb, ne-eqb}
-use Rattle.modular.proofs.Search.{le-or-lt}
+use Rattle.modular_theory.proofs.Search.{le-or-lt}
 use lib.Seq.{take-all, take-nil}
-use Rattle.stream.specs.Feed.{Model, Fed, answerAtEnd, stopped, finishing, isEmpty, isDone, overwritten}
-use Rattle.stream.proofs.Cutting.{finish-on, finish-stop}
+use Rattle.lines_theory.specs.Feed.{Model, Fed, answerAtEnd, stopped, finishing, isEmpty, isDone, overwritten}
+use Rattle.lines_theory.proofs.Cutting.{finish-on, finish-stop}
 use Rattle.lines.specs.States.{partialOf, pendingOf, BeginsWith}
 use Rattle.lines.proofs.Stepping.{modelFrom, Turn, Done, length-pending, nothing, no-room, no-input, stepped}
 

@@ -8,10 +8,10 @@ use native.Mathlib.Omega.{arith}
 use lib.ListN.{length, take, drop, length-append, length-drop}
 use lib.Seq.{length-take-le, take-append-seam, take-length, take-paste, paste}
 use borrow.Author.Tests.{le-leb, lt-leb}
-use Rattle.modular.proofs.Search.{le-or-lt}
-use Rattle.stream.specs.Line.{hasForm, lineAnswer}
-use Rattle.stream.specs.Feed.{Partial, held, tooLong, answerTo, answerAtEnd, overwritten, lastLines}
-use Rattle.stream.proofs.Whole.{clip, clip-short, clip-long, extended-clip}
+use Rattle.modular_theory.proofs.Search.{le-or-lt}
+use Rattle.lines_theory.specs.Line.{hasForm, lineAnswer}
+use Rattle.lines_theory.specs.Feed.{Partial, held, tooLong, answerTo, answerAtEnd, overwritten, lastLines}
+use Rattle.lines_theory.proofs.Whole.{clip, clip-short, clip-long, extended-clip}
 use Rattle.lines.specs.States.{partialOf, extendedBy, BeginsWith}
 use Rattle.lines.proofs.Clamping.{Smaller}
 

@@ -7,8 +7,8 @@ use native.Mathlib.Nat.{zero-add}
 use native.Mathlib.Omega.{arith}
 use lib.ListN.{length, take, drop, length-drop, take-append-drop, drop-of-length-le}
 use lib.Seq.{length-take-le, drop-drop, take-take, getD-drop, take-paste, drop-paste, length-paste, take-nil, drop-nil}
-use Rattle.stream.specs.Feed.{Partial, Model, Fed, answerTo, feedFrom, overwritten}
-use Rattle.stream.proofs.Feed.{feed-stop}
+use Rattle.lines_theory.specs.Feed.{Partial, Model, Fed, answerTo, feedFrom, overwritten}
+use Rattle.lines_theory.proofs.Feed.{feed-stop}
 use Rattle.lines.specs.States.{partialOf, pendingOf, extendedBy, BeginsWith, Emitted}
 use Rattle.lines.specs.Ends.{LineEnd}
 use Rattle.lines.proofs.Turns.{ahead, ahead-ahead, emit-law, piece-law, end-law}

@@ -11,10 +11,10 @@ use lib.Dec.{eqb}
 use lib.ListN.{length, getD, take, drop, length-drop, take-append-drop}
 use lib.Seq.{drop-drop, take-add, drop-cons}
 use borrow.Author.Tests.{eq-eqb, ne-eqb}
-use Rattle.modular.proofs.Search.{le-or-lt}
-use Rattle.stream.specs.Feed.{Partial, held, Fed, extended, answerTo, lineAfter, answerAfter, stopped, onward, feedFrom}
-use Rattle.stream.proofs.Whole.{line-ends, line-grows}
-use Rattle.stream.proofs.Feed.{feed-on, feed-stop}
+use Rattle.modular_theory.proofs.Search.{le-or-lt}
+use Rattle.lines_theory.specs.Feed.{Partial, held, Fed, extended, answerTo, lineAfter, answerAfter, stopped, onward, feedFrom}
+use Rattle.lines_theory.proofs.Whole.{line-ends, line-grows}
+use Rattle.lines_theory.proofs.Feed.{feed-on, feed-stop}
 use Rattle.lines.specs.States.{extendedBy}
 
 -- o was put out and k bytes were taken before f

@@ -7,7 +7,7 @@ use Prim.Native.Nat.{ℕ, _+_, _-_, _≤_, _<_}
 use lib.Dec.{leb}
 use lib.ListN.{length, take, drop}
 use lib.Seq.{paste}
-use Rattle.stream.specs.Feed.{Partial, held, tooLong, extended, Model, Fed, feed, finishing}
+use Rattle.lines_theory.specs.Feed.{Partial, held, tooLong, extended, Model, Fed, feed, finishing}
 use Rattle.lines.specs.declared.State.{State}
 
 -- the line so far: len bytes of its array, or, past 101, that it has run over

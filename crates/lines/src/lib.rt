@@ -6,7 +6,7 @@ mod search;
 use answers::AnswerBuffer;
 ghost use mathlib.Core.Path.{_≡_};
 ghost use lib.ListN.{length, take};
-ghost use Rattle.stream.specs.Feed.{begin, overwritten, isDone, lineEnds, linesFinished};
+ghost use Rattle.lines_theory.specs.Feed.{begin, overwritten, isDone, lineEnds, linesFinished};
 ghost use Rattle.lines.specs.States.{modelOf, stepFed, finishFed};
 
 // What is kept between calls: the line so far (01: "a zeroed array of 101 bytes holds the line") and its length, and the

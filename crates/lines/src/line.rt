@@ -2,7 +2,7 @@
 use answers::AnswerBuffer;
 ghost use mathlib.Core.Path.{_≡_};
 ghost use lib.ListN.{length};
-ghost use Rattle.stream.specs.Feed.{answerTo, answerAtEnd};
+ghost use Rattle.lines_theory.specs.Feed.{answerTo, answerAtEnd};
 ghost use Rattle.lines.specs.States.{partialOf, extendedBy, BeginsWith};
 
 // More bytes of the line. Past 101 bytes only that it has run over is kept, as a length of 102.

@@ -1,4 +1,8 @@
-pub mod Search
-pub mod Residue
-pub mod Sum
-pub mod Digits
+-- Arrays
+pub mod Filling
+-- Symbols mod q
+pub mod Bytes
+-- Sums mod q
+pub mod Dividing
+-- Levels
+pub mod Levels

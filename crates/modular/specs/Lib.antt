@@ -1,4 +1,3 @@
-pub mod Search
-pub mod Sum
-pub mod Residue
-pub mod Digits
+pub mod Byte
+pub mod Remainder
+pub mod Level

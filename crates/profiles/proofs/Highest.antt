@@ -9,9 +9,9 @@ use native.Mathlib.Nat.{not-suc-le-zero}
 use native.Mathlib.Omega.{arith}
 use lib.Dec.{T, ltb, lt→ltb, ltb→lt}
 use lib.ListN.{length, getD}
-use Rattle.modular.proofs.Search.{le-or-lt, same-test, and-left}
-use Rattle.code.specs.Component.{symbolsBelow}
-use Rattle.code.proofs.Symbols.{symbol-below, symbols-below}
+use Rattle.modular_theory.proofs.Search.{le-or-lt, same-test, and-left}
+use Rattle.code_theory.specs.Component.{symbolsBelow}
+use Rattle.code_theory.proofs.Symbols.{symbol-below, symbols-below}
 
 -- the highest of the first i symbols, or 0: no symbol is above it, and it is below what is above them all
 pub record Highest (word : List ℕ) (highest i : ℕ) : Type 0 where

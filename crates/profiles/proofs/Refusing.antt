@@ -9,13 +9,13 @@ use Prim.Native.Nat.{ℕ}
 use native.Mathlib.Omega.{arith}
 use lib.Dec.{T, eqb, eqb→eq}
 use lib.ListN.{length}
-use Rattle.modular.proofs.Search.{eq-test, and-intro, and-left, and-right, passes}
-use Rattle.code.specs.Parameters.{messageLength, codewordLength}
-use Rattle.code.specs.Component.{symbolsBelow, isWord}
-use Rattle.code.specs.Profiles.{isProfile, profile}
-use Rattle.code.specs.Reading.{Reading, reading}
-use Rattle.code.specs.Refusal.{asks, firstRefusal}
-use Rattle.code.specs.Operations.{Answer, refused, answered, encodeRefusal, readUnless, decodeAnswer}
+use Rattle.modular_theory.proofs.Search.{eq-test, and-intro, and-left, and-right, passes}
+use Rattle.code_theory.specs.Parameters.{messageLength, codewordLength}
+use Rattle.code_theory.specs.Component.{symbolsBelow, isWord}
+use Rattle.code_theory.specs.Profiles.{isProfile, profile}
+use Rattle.code_theory.specs.Reading.{Reading, reading}
+use Rattle.code_theory.specs.Refusal.{asks, firstRefusal}
+use Rattle.code_theory.specs.Operations.{Answer, refused, answered, encodeRefusal, readUnless, decodeAnswer}
 use Rattle.profiles.specs.declared.row.Row.{Row}
 use Rattle.profiles.specs.Row.{RowOf}
 use Rattle.profiles.specs.Refusal.{numberBy, encodeNumber, decodeNumber}

@@ -8,13 +8,13 @@ use Prim.Native.Nat.{ℕ, suc, _-_, _≤_}
 use native.Mathlib.Omega.{arith}
 use lib.Dec.{T, eqb, leb, eqb→eq, leb→le}
 use lib.ListN.{length, getD}
-use Rattle.modular.specs.Search.{allBelow}
-use Rattle.modular.proofs.Search.{and-left, and-right, passes, fails}
-use Rattle.code.specs.Parameters.{Parameters, messageLength, codewordLength, balancingValue, delta}
-use Rattle.code.specs.Profiles.{profiles, isProfile, profile, table, derivedRow}
-use Rattle.code.specs.Reading.{distance}
-use Rattle.code.proofs.Distance.{distance-zero}
-use Rattle.code.proofs.Profiles.{every-profile, profiles-fit}
+use Rattle.modular_theory.specs.Search.{allBelow}
+use Rattle.modular_theory.proofs.Search.{and-left, and-right, passes, fails}
+use Rattle.code_theory.specs.Parameters.{Parameters, messageLength, codewordLength, balancingValue, delta}
+use Rattle.code_theory.specs.Profiles.{profiles, isProfile, profile, table, derivedRow}
+use Rattle.code_theory.specs.Reading.{distance}
+use Rattle.code_theory.proofs.Distance.{distance-zero}
+use Rattle.code_theory.proofs.Profiles.{every-profile, profiles-fit}
 use Rattle.profiles.specs.declared.row.Row.{Row}
 use Rattle.profiles.specs.declared.row.Entry.{Entry}
 use Rattle.profiles.specs.declared.row.Lookup.{Lookup}
@@ -35,7 +35,7 @@ fromCells l =
       message = getD l 4 0;
       balanced = getD l 5 0;
       codeword = getD l 6 0;
-      middle = getD l 7 0;
+      target = getD l 7 0;
       delta = getD l 8 0;
     }
 
@@ -115,7 +115,7 @@ row-of-profile i t h e =
             message = cc;
             balanced = cc;
             codeword = cc;
-            middle = cc;
+            target = cc;
             delta = cc;
           };
     }

@@ -5,8 +5,8 @@ use mathlib.Core.List.{List, [], _∷_}
 use Prim.Native.Nat.{ℕ}
 use lib.Dec.{eqb}
 use lib.ListN.{length}
-use Rattle.code.specs.Refusal.{asks, firstRefusal}
-use Rattle.code.specs.Component.{symbolsBelow}
+use Rattle.code_theory.specs.Refusal.{asks, firstRefusal}
+use Rattle.code_theory.specs.Component.{symbolsBelow}
 use Rattle.profiles.specs.declared.row.Row.{Row}
 
 -- 2 where a length is wrong, then 3 where a symbol is, and 0 where neither is

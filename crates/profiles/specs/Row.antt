@@ -7,8 +7,8 @@ use mathlib.Core.List.{List, [], _∷_}
 use Prim.Native.Nat.{ℕ, _-_, _≤_}
 use lib.Dec.{T}
 use lib.ListN.{getD}
-use Rattle.code.specs.Parameters.{Parameters, Sized, messageLength, balancedLength, codewordLength, balancingValue, delta}
-use Rattle.code.specs.Profiles.{row, isProfile, profile, table}
+use Rattle.code_theory.specs.Parameters.{Parameters, Sized, messageLength, balancedLength, codewordLength, balancingValue, delta}
+use Rattle.code_theory.specs.Profiles.{row, isProfile, profile, table}
 use Rattle.profiles.specs.declared.row.Row.{Row}
 use Rattle.profiles.specs.declared.row.Entry.{Entry}
 use Rattle.profiles.specs.declared.row.Lookup.{Lookup}
@@ -19,11 +19,11 @@ parameters t = row (t .q) (t .r) (t .n)
 
 -- a row's numbers in the order of 01's table, without the profile's own
 abbrev pub numbers : Row → List ℕ
-numbers t = t .q ∷ t .r ∷ t .n ∷ t .message ∷ t .balanced ∷ t .codeword ∷ t .middle ∷ t .delta ∷ []
+numbers t = t .q ∷ t .r ∷ t .n ∷ t .message ∷ t .balanced ∷ t .codeword ∷ t .target ∷ t .delta ∷ []
 
 -- the same of a row as the table has it
 abbrev pub entries : Entry → List ℕ
-entries e = e .q ∷ e .r ∷ e .n ∷ e .message ∷ e .balanced ∷ e .codeword ∷ e .middle ∷ e .delta ∷ []
+entries e = e .q ∷ e .r ∷ e .n ∷ e .message ∷ e .balanced ∷ e .codeword ∷ e .target ∷ e .delta ∷ []
 
 -- what a number was looked up as: the row of 01's table, or 01's number 1
 abbrev pub lookedUp : ℕ → Lookup → ℕ ⊎ List ℕ
@@ -43,7 +43,7 @@ pub record Valid (t : Row) : Type 0 where
   pub message : t .message ≡ messageLength (parameters t)
   pub balanced : t .balanced ≡ balancedLength (parameters t)
   pub codeword : t .codeword ≡ codewordLength (parameters t)
-  pub middle : t .middle ≡ balancingValue (t .q) (t .balanced)
+  pub target : t .target ≡ balancingValue (t .q) (t .balanced)
   pub delta : t .delta ≡ delta (t .q) (t .balanced)
 
 -- the row of profile i

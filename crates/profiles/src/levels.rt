@@ -1,6 +1,6 @@
 // Whether a word is one of levels below q.
 ghost use mathlib.Core.Path.{_≡_};
-ghost use Rattle.code.specs.Component.{symbolsBelow};
+ghost use Rattle.code_theory.specs.Component.{symbolsBelow};
 
 // Whether every symbol is below q, by the highest of them: a loop without another way out is done many symbols at a time.
 pub fn symbols_below(word: &[u8], q: u8) -> bool

@@ -13,7 +13,7 @@ pub struct Row {
     // 01: N
     pub codeword: usize,
     // 01: middle
-    pub middle: usize,
+    pub target: usize,
     // 01: δ
     pub delta: u8,
 }
@@ -33,7 +33,7 @@ pub(crate) struct Entry {
     pub(crate) message: u8,
     pub(crate) balanced: u8,
     pub(crate) codeword: u8,
-    pub(crate) middle: u16,
+    pub(crate) target: u16,
     pub(crate) delta: u8,
 }
 
@@ -46,7 +46,7 @@ const ROWS: [Entry; 4] = [
         message: 5,
         balanced: 17,
         codeword: 19,
-        middle: 17,
+        target: 17,
         delta: 0,
     },
     Entry {
@@ -56,7 +56,7 @@ const ROWS: [Entry; 4] = [
         message: 22,
         balanced: 53,
         codeword: 55,
-        middle: 53,
+        target: 53,
         delta: 0,
     },
     Entry {
@@ -66,7 +66,7 @@ const ROWS: [Entry; 4] = [
         message: 21,
         balanced: 49,
         codeword: 51,
-        middle: 98,
+        target: 98,
         delta: 1,
     },
     Entry {
@@ -76,7 +76,7 @@ const ROWS: [Entry; 4] = [
         message: 45,
         balanced: 97,
         codeword: 99,
-        middle: 291,
+        target: 291,
         delta: 2,
     },
 ];
@@ -92,7 +92,7 @@ fn widened(e: Entry) -> Row
         message: e.message as usize,
         balanced: e.balanced as usize,
         codeword: e.codeword as usize,
-        middle: e.middle as usize,
+        target: e.target as usize,
         delta: e.delta,
     }
 }

@@ -12,16 +12,16 @@ use lib.ListN.{length, getD, take}
 use lib.Seq.{take-all}
 use types.Run.{OneOf, miss}
 use denote.Enum.Declared.{tagOf}
-use Rattle.code.specs.Refusal.{Test, firstRefusal, onSuccess}
-use Rattle.code.proofs.Refusal.{refused-first}
-use Rattle.sheet.specs.Lists.{lastOf}
-use Rattle.sheet.specs.Chains.{used, lastUsed}
-use Rattle.sheet.specs.Sound.{Queue}
-use Rattle.sheet.specs.Operations.{soundTests, cellOf}
-use Rattle.sheet.proofs.Lists.{lists-of, fill}
-use Rattle.sheet.proofs.Answers.{queue-by}
-use Rattle.sheet.proofs.Laws.{length-records}
-use Rattle.sheet.proofs.Rule.{found-same}
+use Rattle.code_theory.specs.Refusal.{Test, firstRefusal, onSuccess}
+use Rattle.code_theory.proofs.Refusal.{refused-first}
+use Rattle.queue_theory.specs.Lists.{lastOf}
+use Rattle.queue_theory.specs.Chains.{used, lastUsed}
+use Rattle.queue_theory.specs.Sound.{Queue}
+use Rattle.queue_theory.specs.Operations.{soundTests, cellOf}
+use Rattle.queue_theory.proofs.Lists.{lists-of, fill}
+use Rattle.queue_theory.proofs.Answers.{queue-by}
+use Rattle.queue_theory.proofs.Laws.{length-records}
+use Rattle.queue_theory.proofs.Rule.{found-same}
 use Rattle.soundness.specs.declared.Checked.{Checked}
 use Rattle.soundness.specs.declared.Checked.the-variants.{WrongLength, Unsound, Sound}
 use Rattle.soundness.specs.Checked.{reached, CheckReport, checkReport, checkedReport, checkAnswer}

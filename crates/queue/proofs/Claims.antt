@@ -5,11 +5,11 @@ use mathlib.Core.Path.{_≡_, refl, sym, ap, ap₂, subst, _∙_}
 use mathlib.Core.List.{List, [], _∷_}
 use Prim.Native.Nat.{ℕ}
 use lib.ListN.{getD}
-use Rattle.sheet.specs.Chains.{records}
-use Rattle.sheet.specs.Sound.{Queue}
-use Rattle.sheet.specs.Operations.{formatQueue}
-use Rattle.sheet.specs.Model.{Call, Reply, reply, queueReply, queueAfter, replies, left}
-use Rattle.sheet.proofs.Rule.{format-succeeds, list-rule}
+use Rattle.queue_theory.specs.Chains.{records}
+use Rattle.queue_theory.specs.Sound.{Queue}
+use Rattle.queue_theory.specs.Operations.{formatQueue}
+use Rattle.queue_theory.specs.Model.{Call, Reply, reply, queueReply, queueAfter, replies, left}
+use Rattle.queue_theory.proofs.Rule.{format-succeeds, list-rule}
 use Rattle.queue.specs.declared.Answer.{Answer}
 use Rattle.queue.specs.declared.Answer.the-variants.{Done, NoProfile, Length, Symbol, QueueLength, Unsound, BoxNumber, Full, NoRecord}
 use Rattle.queue.specs.Answer.{numberOf}

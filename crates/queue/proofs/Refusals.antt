@@ -9,17 +9,17 @@ use native.Mathlib.Omega.{arith}
 use lib.Dec.{T, eqb}
 use lib.ListN.{length}
 use borrow.Author.Tests.{eq-eqb}
-use Rattle.modular.proofs.Search.{eq-test}
-use Rattle.code.specs.Refusal.{Test, asks}
-use Rattle.code.specs.Parameters.{codewordLength}
-use Rattle.code.specs.Component.{isReceived}
-use Rattle.code.specs.Profiles.{isProfile, profile}
-use Rattle.code.proofs.Refusal.{AllPass, stops, kept}
-use Rattle.sheet.specs.Layout.{cellSize, isQueueLength, firstFree}
-use Rattle.sheet.specs.Sound.{isBox, sound, Queue}
-use Rattle.sheet.specs.Operations.{formatAnswer, formatQueue, enqueueAnswer, enqueueQueue, cellOf, peekAnswer, peekOutput, dequeueAnswer}
-use Rattle.sheet.specs.Operations.{dequeueQueue, dequeueOutput}
-use Rattle.sheet.specs.Allowed.{EnqueueAllows, PeekAllows}
+use Rattle.modular_theory.proofs.Search.{eq-test}
+use Rattle.code_theory.specs.Refusal.{Test, asks}
+use Rattle.code_theory.specs.Parameters.{codewordLength}
+use Rattle.code_theory.specs.Component.{isReceived}
+use Rattle.code_theory.specs.Profiles.{isProfile, profile}
+use Rattle.code_theory.proofs.Refusal.{AllPass, stops, kept}
+use Rattle.queue_theory.specs.Layout.{cellSize, isQueueLength, firstFree}
+use Rattle.queue_theory.specs.Sound.{isBox, sound, Queue}
+use Rattle.queue_theory.specs.Operations.{formatAnswer, formatQueue, enqueueAnswer, enqueueQueue, cellOf, peekAnswer, peekOutput, dequeueAnswer}
+use Rattle.queue_theory.specs.Operations.{dequeueQueue, dequeueOutput}
+use Rattle.queue_theory.specs.Allowed.{EnqueueAllows, PeekAllows}
 use Rattle.queue.specs.Claims.{EnqueueRefuses, ShowRefuses, Refusals}
 
 -- the tests of the bytes, and that those of a sound queue pass

@@ -9,18 +9,18 @@ use native.Mathlib.Omega.{arith}
 use lib.ListN.{length, getD, take, drop, set, take-append-drop}
 use lib.Seq.{length-take-le}
 use borrow.Rule.Slice.PartMut.{putMid}
-use Rattle.sheet.specs.Lists.{zeros, count}
-use Rattle.sheet.specs.Layout.{cellSize, bodySize, paddedSize, capacity, nextCell, firstFree, cellBody, setNext, setFirstFree, setBody}
-use Rattle.sheet.specs.Chains.{used, lastUsed}
-use Rattle.sheet.specs.Sound.{recordOf, Queue}
-use Rattle.sheet.specs.Operations.{cellOf}
-use Rattle.sheet.proofs.Counts.{in-here, in-later}
-use Rattle.sheet.proofs.Writes.{length-cell-body, body-set-next, body-set-free}
-use Rattle.sheet.proofs.Meaning.{zeros-are}
-use Rattle.sheet.proofs.Lists.{Lists, lists-of, used-in, free-in}
-use Rattle.sheet.proofs.Answers.{Entering}
-use Rattle.sheet.proofs.Laws.{parts, lists-before, lists-first, first-parts}
-use Rattle.sheet.proofs.Enqueue as enq
+use Rattle.queue_theory.specs.Lists.{zeros, count}
+use Rattle.queue_theory.specs.Layout.{cellSize, bodySize, paddedSize, capacity, nextCell, firstFree, cellBody, setNext, setFirstFree, setBody}
+use Rattle.queue_theory.specs.Chains.{used, lastUsed}
+use Rattle.queue_theory.specs.Sound.{recordOf, Queue}
+use Rattle.queue_theory.specs.Operations.{cellOf}
+use Rattle.queue_theory.proofs.Counts.{in-here, in-later}
+use Rattle.queue_theory.proofs.Writes.{length-cell-body, body-set-next, body-set-free}
+use Rattle.queue_theory.proofs.Meaning.{zeros-are}
+use Rattle.queue_theory.proofs.Lists.{Lists, lists-of, used-in, free-in}
+use Rattle.queue_theory.proofs.Answers.{Entering}
+use Rattle.queue_theory.proofs.Laws.{parts, lists-before, lists-first, first-parts}
+use Rattle.queue_theory.proofs.Enqueue as enq
 
 -- a record put into a body of zeros
 drop-zeros : (k m : ℕ) (l : List ℕ) → k ≤ m → drop k (zeros m ++ l) ≡ zeros (m - k) ++ l

@@ -7,16 +7,16 @@ use mathlib.Core.List.{List, [], _∷_}
 use Prim.Native.Nat.{ℕ}
 use lib.Dec.{T, eqb}
 use lib.ListN.{length}
-use Rattle.code.specs.Parameters.{codewordLength}
-use Rattle.code.specs.Component.{isReceived}
-use Rattle.code.specs.Profiles.{isProfile, profile}
-use Rattle.sheet.specs.Layout.{cellSize, isQueueLength, capacity, firstFree}
-use Rattle.sheet.specs.Chains.{records}
-use Rattle.sheet.specs.Sound.{isBox, sound, Queue}
-use Rattle.sheet.specs.Operations.{cellOf}
-use Rattle.sheet.specs.Model.{Call, enqueue, peek, dequeue, Reply, reply, listReply, listAfter, replies, left}
+use Rattle.code_theory.specs.Parameters.{codewordLength}
+use Rattle.code_theory.specs.Component.{isReceived}
+use Rattle.code_theory.specs.Profiles.{isProfile, profile}
+use Rattle.queue_theory.specs.Layout.{cellSize, isQueueLength, capacity, firstFree}
+use Rattle.queue_theory.specs.Chains.{records}
+use Rattle.queue_theory.specs.Sound.{isBox, sound, Queue}
+use Rattle.queue_theory.specs.Operations.{cellOf}
+use Rattle.queue_theory.specs.Model.{Call, enqueue, peek, dequeue, Reply, reply, listReply, listAfter, replies, left}
 use Rattle.queue.specs.declared.Answer.{Answer}
-use Rattle.sheet.specs.Allowed.{FormatAllows, EnqueueAllows, PeekAllows, DequeueAllows}
+use Rattle.queue_theory.specs.Allowed.{FormatAllows, EnqueueAllows, PeekAllows, DequeueAllows}
 use Rattle.queue.specs.Answer.{numberOf}
 
 -- No two answers have the same number.

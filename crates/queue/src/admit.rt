@@ -5,8 +5,8 @@ use profiles::row_of;
 use profiles::symbols_below;
 use soundness::Checked;
 ghost use mathlib.Core.Path.{_≡_};
-ghost use Rattle.code.specs.Refusal.{firstRefusal};
-ghost use Rattle.sheet.specs.Operations.{recordTests};
+ghost use Rattle.code_theory.specs.Refusal.{firstRefusal};
+ghost use Rattle.queue_theory.specs.Operations.{recordTests};
 ghost use Rattle.soundness.specs.Checked.{checkedReport};
 ghost use Rattle.queue.specs.Answer.{numberOf};
 

@@ -2,9 +2,9 @@
 use cells::CELL_SIZE;
 use cells::copy;
 ghost use mathlib.Core.Path.{_≡_};
-ghost use Rattle.sheet.specs.Chains.{lastUsed};
-ghost use Rattle.sheet.specs.Sound.{recordOf};
-ghost use Rattle.sheet.specs.Operations.{enqueueAnswer, enqueued};
+ghost use Rattle.queue_theory.specs.Chains.{lastUsed};
+ghost use Rattle.queue_theory.specs.Sound.{recordOf};
+ghost use Rattle.queue_theory.specs.Operations.{enqueueAnswer, enqueued};
 
 // Puts a record into the first free cell, and that cell after the last used one. The cell's zeros after the word stay.
 pub(crate) fn store(queue: &mut [u8], last: usize, boxno: u8, profile: u8, word: &[u8])

@@ -7,7 +7,7 @@ use cells::CELL_SIZE;
 use soundness::Checked;
 use soundness::check;
 ghost use mathlib.Core.Path.{_≡_};
-ghost use Rattle.sheet.specs.Allowed.{FormatAllows, EnqueueAllows, PeekAllows, DequeueAllows};
+ghost use Rattle.queue_theory.specs.Allowed.{FormatAllows, EnqueueAllows, PeekAllows, DequeueAllows};
 ghost use Rattle.queue.specs.Answer.{numberOf};
 
 // What an operation answers. A refusal has changed no byte.

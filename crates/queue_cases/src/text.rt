@@ -1,6 +1,6 @@
 // Numbers and bytes of a line of text, and digests.
-use residues::wide;
-use residues::wide64;
+use modular::wide;
+use modular::wide64;
 ghost use Prim.Native.Nat.{_<_};
 
 // A number, and the index after it.

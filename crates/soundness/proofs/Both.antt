@@ -6,11 +6,11 @@ use mathlib.Core.List.{List, _++_}
 use Prim.Native.Nat.{ℕ, suc}
 use lib.Dec.{T, eqb}
 use lib.ListN.{length, getD}
-use Rattle.modular.specs.Search.{allBelow}
-use Rattle.sheet.specs.Layout.{isQueueLength, capacity, nextCell, firstFree, header}
-use Rattle.sheet.specs.Chains.{chain, used, free}
-use Rattle.sheet.specs.Sound.{isHeader, isList, eachOnce, sound}
-use Rattle.sheet.proofs.Lists.{size-of}
+use Rattle.modular_theory.specs.Search.{allBelow}
+use Rattle.queue_theory.specs.Layout.{isQueueLength, capacity, nextCell, firstFree, header}
+use Rattle.queue_theory.specs.Chains.{chain, used, free}
+use Rattle.queue_theory.specs.Sound.{isHeader, isList, eachOnce, sound}
+use Rattle.queue_theory.proofs.Lists.{size-of}
 use Rattle.soundness.specs.declared.lists.Walked.{Walked}
 use Rattle.soundness.specs.Checked.{reached}
 use Rattle.soundness.specs.Tally.{tallied, AtMost}

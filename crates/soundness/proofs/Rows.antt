@@ -3,8 +3,8 @@
 use mathlib.Core.Path.{_≡_, ap}
 use mathlib.Core.List.{List}
 use Prim.Native.Nat.{ℕ}
-use Rattle.code.specs.Component.{symbolsBelow, isReceived}
-use Rattle.code.specs.Profiles.{profile}
+use Rattle.code_theory.specs.Component.{symbolsBelow, isReceived}
+use Rattle.code_theory.specs.Profiles.{profile}
 use Rattle.profiles.specs.declared.row.Row.{Row}
 use Rattle.profiles.specs.Row.{RowOf}
 use Rattle.profiles.proofs.Table.{levels-are}

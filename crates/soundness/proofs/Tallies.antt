@@ -9,15 +9,15 @@ use native.Mathlib.Omega.{arith}
 use lib.Dec.{T, eqb}
 use lib.ListN.{length, getD, set, length-set, length-replicate}
 use lib.Seq.{getD-set-same, getD-set-other}
-use Rattle.modular.specs.Search.{allBelow}
-use Rattle.modular.proofs.Search.{same-test, all-at, all-of}
-use Rattle.code.proofs.Distance.{equal-or-not}
-use Rattle.sheet.specs.Lists.{zeros, bit, count}
-use Rattle.sheet.specs.Layout.{nextCell}
-use Rattle.sheet.specs.Chains.{chain}
-use Rattle.sheet.specs.Sound.{eachOnce}
-use Rattle.sheet.proofs.Counts.{bit-same, bit-other, count-append}
-use Rattle.sheet.proofs.Format.{getD-zeros}
+use Rattle.modular_theory.specs.Search.{allBelow}
+use Rattle.modular_theory.proofs.Search.{same-test, all-at, all-of}
+use Rattle.code_theory.proofs.Distance.{equal-or-not}
+use Rattle.queue_theory.specs.Lists.{zeros, bit, count}
+use Rattle.queue_theory.specs.Layout.{nextCell}
+use Rattle.queue_theory.specs.Chains.{chain}
+use Rattle.queue_theory.specs.Sound.{eachOnce}
+use Rattle.queue_theory.proofs.Counts.{bit-same, bit-other, count-append}
+use Rattle.queue_theory.proofs.Format.{getD-zeros}
 use Rattle.soundness.specs.Tally.{tallied, AtMost}
 use Rattle.soundness.proofs.Walks.{tally-one}
 

@@ -10,12 +10,12 @@ use native.Mathlib.Omega.{arith}
 use lib.Dec.{T, eqb, leb, leb→le}
 use lib.ListN.{length, getD, take, set}
 use borrow.Author.Tests.{ne-eqb, le-leb, lt-leb}
-use Rattle.modular.specs.Search.{allBelow}
-use Rattle.modular.proofs.Search.{and-left, and-right, and-intro, same-test, all-at, all-of, le-or-lt, holds}
-use Rattle.sheet.specs.Lists.{all, lastOf}
-use Rattle.sheet.specs.Layout.{capacity, nextCell, cellBody}
-use Rattle.sheet.specs.Chains.{chain, ends}
-use Rattle.sheet.specs.Sound.{isBody, isCell, isList}
+use Rattle.modular_theory.specs.Search.{allBelow}
+use Rattle.modular_theory.proofs.Search.{and-left, and-right, and-intro, same-test, all-at, all-of, le-or-lt, holds}
+use Rattle.queue_theory.specs.Lists.{all, lastOf}
+use Rattle.queue_theory.specs.Layout.{capacity, nextCell, cellBody}
+use Rattle.queue_theory.specs.Chains.{chain, ends}
+use Rattle.queue_theory.specs.Sound.{isBody, isCell, isList}
 use Rattle.soundness.specs.declared.lists.Walked.{Walked}
 use Rattle.soundness.specs.Tally.{tallied, AtMost}
 use Rattle.soundness.specs.Walked.{goOn, Walks}

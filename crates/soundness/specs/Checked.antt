@@ -3,10 +3,10 @@
 use mathlib.Core.List.{List}
 use Prim.Native.Nat.{ℕ}
 use lib.ListN.{length, take}
-use Rattle.code.specs.Refusal.{firstRefusal, onSuccess}
-use Rattle.sheet.specs.Lists.{lastOf}
-use Rattle.sheet.specs.Chains.{used}
-use Rattle.sheet.specs.Operations.{soundTests}
+use Rattle.code_theory.specs.Refusal.{firstRefusal, onSuccess}
+use Rattle.queue_theory.specs.Lists.{lastOf}
+use Rattle.queue_theory.specs.Chains.{used}
+use Rattle.queue_theory.specs.Operations.{soundTests}
 use Rattle.soundness.specs.declared.Checked.{Checked}
 use Rattle.soundness.specs.declared.Checked.the-variants.{WrongLength, Unsound, Sound}
 

@@ -6,10 +6,10 @@ use mathlib.Core.List.{List}
 use Prim.Native.Nat.{ℕ}
 use lib.Dec.{leb}
 use lib.ListN.{length, take}
-use Rattle.sheet.specs.Lists.{lastOf}
-use Rattle.sheet.specs.Layout.{capacity}
-use Rattle.sheet.specs.Chains.{chain, used}
-use Rattle.sheet.specs.Sound.{isList, sound}
+use Rattle.queue_theory.specs.Lists.{lastOf}
+use Rattle.queue_theory.specs.Layout.{capacity}
+use Rattle.queue_theory.specs.Chains.{chain, used}
+use Rattle.queue_theory.specs.Sound.{isList, sound}
 use Rattle.soundness.specs.declared.lists.Walked.{Walked}
 use Rattle.soundness.specs.Checked.{reached}
 use Rattle.soundness.specs.Tally.{tallied}

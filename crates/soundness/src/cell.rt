@@ -9,8 +9,8 @@ use profiles::symbols_below;
 ghost use mathlib.Core.Path.{_≡_};
 ghost use lib.Dec.{T};
 ghost use lib.ListN.{length};
-ghost use Rattle.sheet.specs.Layout.{bodySize, paddedSize, isQueueLength, header};
-ghost use Rattle.sheet.specs.Sound.{isPadded, isRecord, isHeader, isCell};
+ghost use Rattle.queue_theory.specs.Layout.{bodySize, paddedSize, isQueueLength, header};
+ghost use Rattle.queue_theory.specs.Sound.{isPadded, isRecord, isHeader, isCell};
 
 // Whether the bytes after box and profile are a word of the profile, and then zeros.
 fn is_padded(bytes: &[u8], profile: usize) -> bool

@@ -7,8 +7,8 @@ ghost use mathlib.Core.Path.{_≡_};
 ghost use Prim.Native.Nat.{suc, _≤_};
 ghost use lib.Dec.{T, eqb};
 ghost use lib.ListN.{length, getD};
-ghost use Rattle.modular.specs.Search.{allBelow};
-ghost use Rattle.sheet.specs.Layout.{isQueueLength};
+ghost use Rattle.modular_theory.specs.Search.{allBelow};
+ghost use Rattle.queue_theory.specs.Layout.{isQueueLength};
 ghost use Rattle.soundness.specs.Tally.{AtMost};
 ghost use Rattle.soundness.specs.Walked.{goOn, Walks, WalksBoth};
 

@@ -6,10 +6,10 @@ use mathlib.Core.List.{List}
 use Prim.Native.Nat.{ℕ, min, _+_, _%_, _≤_}
 use native.Mathlib.Nat.{min-eq-left}
 use lib.ListN.{length, take}
-use Rattle.modular.specs.Sum.{weight}
-use Rattle.code.specs.Parameters.{delta}
-use Rattle.code.specs.Codeword.{alternate, alpha, beta}
-use Rattle.residues.proofs.Dividing.{residue-is}
+use Rattle.modular_theory.specs.Sum.{weight}
+use Rattle.code_theory.specs.Parameters.{delta}
+use Rattle.code_theory.specs.Codeword.{alternate, alpha, beta}
+use Rattle.modular.proofs.Dividing.{residue-is}
 use Rattle.symbols.specs.declared.weight.Weight.{Weight}
 use Rattle.symbols.specs.Weight.{weightsOf, checksOf}
 

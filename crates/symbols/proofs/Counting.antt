@@ -11,10 +11,10 @@ use native.Mathlib.Omega.{arith}
 use lib.Dec.{eqb}
 use lib.ListN.{getD, set}
 use borrow.Author.Tests.{eq-eqb, ne-eqb}
-use Rattle.modular.specs.Digits.{digits}
-use Rattle.modular.proofs.Digits.{digits-below, digits-next, digits-carry, digits-zero}
+use Rattle.modular_theory.specs.Digits.{digits}
+use Rattle.modular_theory.proofs.Digits.{digits-below, digits-next, digits-carry, digits-zero}
 use Rattle.symbols.specs.declared.matrix.Count.{Count}
-use Rattle.symbols.specs.Columns.{Columns, counted, digitRows, zeroRows, positions, columnsOf}
+use Rattle.symbols.specs.Columns.{Columns, counted, digitRows, rowsOfZeros, positions, columnsOf}
 
 -- One more, by the digit that does not carry.
 
@@ -73,7 +73,7 @@ positions-levels (suc q) n e h = suc-le-suc zero-le
 -- The table.
 
 -- one row more
-filled : (q p k m : ℕ) → set (digitRows q p k ++ zeroRows (suc m)) k (digits q 3 (p + k)) ≡ digitRows q p (suc k) ++ zeroRows m
+filled : (q p k m : ℕ) → set (digitRows q p k ++ rowsOfZeros (suc m)) k (digits q 3 (p + k)) ≡ digitRows q p (suc k) ++ rowsOfZeros m
 filled q p zero m = let e : p + 0 ≡ p = omega arith in rw e
 filled q p (suc k) m =
     let e : p + suc k ≡ suc p + k = omega arith in
@@ -81,10 +81,10 @@ filled q p (suc k) m =
 
 -- the rows of the first i positions are built, and i is counted
 pub record Built (q : ℕ) (table : List (List ℕ)) (d : Count) (i : ℕ) : Type 0 where
-  pub is : table ≡ digitRows q 1 i ++ zeroRows (48 - i)
+  pub is : table ≡ digitRows q 1 i ++ rowsOfZeros (48 - i)
   pub count : counted d ≡ digits q 3 i
 
-pub built-none : (q : ℕ) {d : Count} → counted d ≡ 0 ∷ 0 ∷ 0 ∷ [] → Built q (zeroRows 48) d 0
+pub built-none : (q : ℕ) {d : Count} → counted d ≡ 0 ∷ 0 ∷ 0 ∷ [] → Built q (rowsOfZeros 48) d 0
 built-none q e = record { is = refl; count = e ∙ sym (digits-zero q 3) }
 
 module _ {q : ℕ} {table : List (List ℕ)} {d : Count} {i : ℕ} (b : Built q table d i) where
@@ -102,7 +102,7 @@ module _ {q : ℕ} {table : List (List ℕ)} {d : Count} {i : ℕ} (b : Built q 
 
   pub built-all : (n : ℕ) → i ≡ positions q n → table ≡ columnsOf q n
   unfolding columnsOf
-  built-all n e = b .is ∙ ap (λ (k : ℕ). digitRows q 1 k ++ zeroRows (48 - k)) e
+  built-all n e = b .is ∙ ap (λ (k : ℕ). digitRows q 1 k ++ rowsOfZeros (48 - k)) e
 
 -- What the table holds.
 
@@ -123,7 +123,7 @@ columns-right {q} {n} {columns} is some room =
       at =
           λ i l.
           let e : i < k = rw all l in
-          ap (λ (t : List (List ℕ)). getD t i []) is ∙ rw one-add at (rows-at q 1 k i (zeroRows (48 - k)) e);
+          ap (λ (t : List (List ℕ)). getD t i []) is ∙ rw one-add at (rows-at q 1 k i (rowsOfZeros (48 - k)) e);
     }
 
 -- a digit of a column is below q

@@ -5,7 +5,7 @@ use Prim.Native.Nat.{ℕ, zero, suc, _-_, _*_, _/_, _^_, _≤_, _<_}
 use native.Mathlib.Nat.{pow-zero, pow-suc, not-suc-le-zero, le-of-suc-le-suc, zero-mod, zero-div, div-lt-iff-lt-mul}
 use native.Mathlib.Omega.{arith}
 use lib.ListN.{getD}
-use Rattle.modular.specs.Digits.{digits}
+use Rattle.modular_theory.specs.Digits.{digits}
 
 pub digits-same : (q k l i j : ℕ) → j < k → j < l → getD (digits q k i) j 0 ≡ getD (digits q l i) j 0
 digits-same q zero l i j h g = absurd (not-suc-le-zero h)

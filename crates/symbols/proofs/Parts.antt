@@ -8,8 +8,8 @@ use native.Mathlib.Nat.{min-le-left}
 use native.Mathlib.Omega.{arith}
 use lib.ListN.{length, getD, take, drop, length-take, length-drop}
 use lib.Seq.{getD-take, getD-drop, length-take-le}
-use Rattle.code.proofs.Weights.{double, double-is, length-alternate}
-use Rattle.code.proofs.Alternate.{first-at, second-at}
+use Rattle.code_theory.proofs.Weights.{double, double-is, length-alternate}
+use Rattle.code_theory.proofs.Alternate.{first-at, second-at}
 use Rattle.symbols.specs.Syndromes.{part}
 use Rattle.symbols.proofs.Words.{alternate-most}
 

@@ -8,10 +8,10 @@ use native.Mathlib.Nat.{pow-zero, pow-suc, pow-le-pow-right, not-suc-le-zero, mu
 use native.Mathlib.Omega.{arith}
 use lib.Dec.{T, eqb, eqb→eq, eqb-refl}
 use borrow.Author.Tests.{eq-eqb, ne-eqb}
-use Rattle.modular.specs.Search.{anyBelow}
-use Rattle.modular.proofs.Search.{le-or-lt, same-test, any-at, any-of}
-use Rattle.code.specs.Parameters.{Parameters}
-use Rattle.code.specs.Component.{isCheck}
+use Rattle.modular_theory.specs.Search.{anyBelow}
+use Rattle.modular_theory.proofs.Search.{le-or-lt, same-test, any-at, any-of}
+use Rattle.code_theory.specs.Parameters.{Parameters}
+use Rattle.code_theory.specs.Component.{isCheck}
 
 -- p has q levels, and r - 1 digits are enough for the number i
 pub record Spans (p : Parameters) (q i : ℕ) : Type 0 where

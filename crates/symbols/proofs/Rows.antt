@@ -8,14 +8,14 @@ use native.Mathlib.Numerals.{add-one}
 use native.Mathlib.Omega.{arith}
 use lib.ListN.{length, getD, take}
 use lib.Seq.{take-all}
-use Rattle.modular.specs.Sum.{weight, dot}
-use Rattle.modular.proofs.Sum.{dot-same, dot-one, dot-zero}
-use Rattle.code.specs.Component.{checkRow, syndrome}
-use Rattle.residues.specs.Remainder.{residue}
-use Rattle.residues.proofs.Dividing.{residue-is}
-use Rattle.symbols.specs.declared.syndromes.Sums.{Sums}
+use Rattle.modular_theory.specs.Sum.{weight, dot}
+use Rattle.modular_theory.proofs.Sum.{dot-same, dot-one, dot-zero}
+use Rattle.code_theory.specs.Component.{checkRow, syndrome}
+use Rattle.modular.specs.Remainder.{residue}
+use Rattle.modular.proofs.Dividing.{residue-is}
+use Rattle.symbols.specs.declared.sums.Unreduced.{Unreduced}
 use Rattle.symbols.specs.Columns.{Columns}
-use Rattle.symbols.specs.Syndromes.{fourRows, digit, rowSums, Light, Added}
+use Rattle.symbols.specs.Syndromes.{fourRows, columnDigit, rowSums, Light, Added}
 use Rattle.symbols.proofs.Digits.{digits-high}
 use Rattle.symbols.proofs.Words.{dot-take, weight-take}
 
@@ -24,21 +24,21 @@ pub product-small : {a b : ℕ} → a ≤ 255 → b ≤ 255 → a * b ≤ 65025
 product-small h k = mul-le-mul h k
 
 -- s holds the sums of the first i symbols of c, each of them a byte times a byte
-pub record Summing (columns : List (List ℕ)) (c : List ℕ) (i : ℕ) (s : Sums) : Type 0 where
-  pub low : s .low ≡ dot (digit columns 0) (take i c)
-  pub middle : s .middle ≡ dot (digit columns 1) (take i c)
-  pub high : s .high ≡ dot (digit columns 2) (take i c)
+pub record Summing (columns : List (List ℕ)) (c : List ℕ) (i : ℕ) (s : Unreduced) : Type 0 where
+  pub low : s .low ≡ dot (columnDigit columns 0) (take i c)
+  pub mid : s .mid ≡ dot (columnDigit columns 1) (take i c)
+  pub high : s .high ≡ dot (columnDigit columns 2) (take i c)
   pub ones : s .ones ≡ weight (take i c)
   pub low-small : s .low ≤ 65025 * i
-  pub middle-small : s .middle ≤ 65025 * i
+  pub middle-small : s .mid ≤ 65025 * i
   pub high-small : s .high ≤ 65025 * i
   pub ones-small : s .ones ≤ 65025 * i
 
-pub summing-none : (columns : List (List ℕ)) (c : List ℕ) → Summing columns c 0 (record { low = 0; middle = 0; high = 0; ones = 0 })
+pub summing-none : (columns : List (List ℕ)) (c : List ℕ) → Summing columns c 0 (record { low = 0; mid = 0; high = 0; ones = 0 })
 summing-none columns c =
     record {
       low = refl;
-      middle = refl;
+      mid = refl;
       high = refl;
       ones = refl;
       low-small = zero-le;
@@ -47,17 +47,17 @@ summing-none columns c =
       ones-small = zero-le;
     }
 
-module _ {columns : List (List ℕ)} {c : List ℕ} {i : ℕ} {s : Sums} (h : Summing columns c i s) where
+module _ {columns : List (List ℕ)} {c : List ℕ} {i : ℕ} {s : Unreduced} (h : Summing columns c i s) where
   -- so that a product more fits
   pub summing-light : i < 48 → Light s
-  summing-light l = record { low = omega arith; middle = omega arith; high = omega arith; ones = omega arith }
+  summing-light l = record { low = omega arith; mid = omega arith; high = omega arith; ones = omega arith }
 
-  pub summing-more : {x : ℕ} → getD c i 0 ≡ x → {r : Sums} → Added s (getD columns i []) x r → Summing columns c (i + 1) r
+  pub summing-more : {x : ℕ} → getD c i 0 ≡ x → {r : Unreduced} → Added s (getD columns i []) x r → Summing columns c (i + 1) r
   summing-more {x} e {r} a =
       let f : i + 1 ≡ suc i = add-one i in
       record {
         low = rw f (row 0 (h .low) (a .low));
-        middle = rw f (row 1 (h .middle) (a .middle));
+        mid = rw f (row 1 (h .mid) (a .mid));
         high = rw f (row 2 (h .high) (a .high));
         ones = rw f (omega (arith, weight-take i c));
         low-small = omega arith;
@@ -66,21 +66,21 @@ module _ {columns : List (List ℕ)} {c : List ℕ} {i : ℕ} {s : Sums} (h : Su
         ones-small = omega arith;
       }
     where
-      row : (j : ℕ) {y z : ℕ} → y ≡ dot (digit columns j) (take i c) → z ≡ y + digit columns j i * x
-          → z ≡ dot (digit columns j) (take (suc i) c)
-      row j hy hz = hz ∙ ap₂ (λ (u v : ℕ). u + digit columns j i * v) hy (sym e) ∙ sym (dot-take (digit columns j) i c)
+      row : (j : ℕ) {y z : ℕ} → y ≡ dot (columnDigit columns j) (take i c) → z ≡ y + columnDigit columns j i * x
+          → z ≡ dot (columnDigit columns j) (take (suc i) c)
+      row j hy hz = hz ∙ ap₂ (λ (u v : ℕ). u + columnDigit columns j i * v) hy (sym e) ∙ sym (dot-take (columnDigit columns j) i c)
 
   pub summing-all : (q : ℕ) → length c ≤ i
-      → {l : List ℕ} → l ≡ residue q (s .low) ∷ residue q (s .middle) ∷ residue q (s .high) ∷ residue q (s .ones) ∷ []
+      → {l : List ℕ} → l ≡ residue q (s .low) ∷ residue q (s .mid) ∷ residue q (s .high) ∷ residue q (s .ones) ∷ []
       → l ≡ rowSums q columns c
   unfolding rowSums
   summing-all q k e =
       let t : take i c ≡ c = take-all i c k in
-      e ∙ rw (h .low, h .middle, h .high, h .ones, t)
+      e ∙ rw (h .low, h .mid, h .high, h .ones, t)
 
 -- a digit of a column, three of them
 column-digit : {q n : ℕ} {columns : List (List ℕ)} → Columns q n columns → (i j : ℕ) → i < n → j < 3
-    → digit columns j i ≡ checkRow (fourRows q n) j i
+    → columnDigit columns j i ≡ checkRow (fourRows q n) j i
 column-digit c i zero h k = ap (λ (l : List ℕ). getD l 0 0) (c .at i h)
 column-digit c i (suc zero) h k = ap (λ (l : List ℕ). getD l 1 0) (c .at i h)
 column-digit c i (suc (suc zero)) h k = ap (λ (l : List ℕ). getD l 2 0) (c .at i h)
@@ -88,10 +88,10 @@ column-digit c i (suc (suc (suc j))) h k = absurd (omega arith)
 
 -- The sums by a right table of columns.
 module _ {q n : ℕ} {columns : List (List ℕ)} (some : 1 ≤ q) (right : Columns q n columns) (c : List ℕ) (room : length c ≤ n) where
-  digit-row : (j : ℕ) → j < 3 → residue q (dot (digit columns j) c) ≡ dot (checkRow (fourRows q n) j) c % q
+  digit-row : (j : ℕ) → j < 3 → residue q (dot (columnDigit columns j) c) ≡ dot (checkRow (fourRows q n) j) c % q
   digit-row j h =
-      residue-is (dot (digit columns j) c) some
-      ∙ ap (λ (s : ℕ). s % q) (dot-same (digit columns j) (checkRow (fourRows q n) j) c (λ i l. column-digit right i j (omega arith) h))
+      residue-is (dot (columnDigit columns j) c) some
+      ∙ ap (λ (s : ℕ). s % q) (dot-same (columnDigit columns j) (checkRow (fourRows q n) j) c (λ i l. column-digit right i j (omega arith) h))
 
   -- they are the syndrome of four rows
   pub sums-are : (j : ℕ) → j < 4 → getD (rowSums q columns c) j 0 ≡ syndrome (fourRows q n) c j

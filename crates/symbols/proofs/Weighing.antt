@@ -6,9 +6,9 @@ use mathlib.Core.List.{List, [], _∷_}
 use Prim.Native.Nat.{ℕ, zero, suc, _+_, _-_, _*_, _%_, _≤_, zero-le}
 use native.Mathlib.Omega.{arith}
 use lib.ListN.{length, getD, drop, drop-of-length-le}
-use Rattle.modular.specs.Sum.{weight}
-use Rattle.code.specs.Codeword.{alternate}
-use Rattle.code.proofs.Delta.{alternate-weight}
+use Rattle.modular_theory.specs.Sum.{weight}
+use Rattle.code_theory.specs.Codeword.{alternate}
+use Rattle.code_theory.proofs.Delta.{alternate-weight}
 use Rattle.symbols.specs.Weight.{weightsOf}
 
 -- the weight of the even positions of a word whose first symbol has an index of the parity p

@@ -6,8 +6,8 @@ use mathlib.Core.List.{List, [], _∷_}
 use Prim.Native.Nat.{ℕ, zero, suc, _+_, _*_, _≤_, zero-le}
 use native.Mathlib.Omega.{arith}
 use lib.ListN.{length, getD, take, replicate}
-use Rattle.modular.specs.Sum.{weight, dot}
-use Rattle.code.specs.Codeword.{alternate}
+use Rattle.modular_theory.specs.Sum.{weight, dot}
+use Rattle.code_theory.specs.Codeword.{alternate}
 
 -- one symbol more; past the end it is 0
 pub dot-take : (f : ℕ → ℕ) (i : ℕ) (c : List ℕ) → dot f (take (suc i) c) ≡ dot f (take i c) + f i * getD c i 0

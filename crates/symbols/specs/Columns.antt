@@ -6,7 +6,7 @@ use mathlib.Core.List.{List, [], _∷_, _++_}
 use Prim.Native.Nat.{ℕ, zero, suc, min, _-_, _<_}
 use lib.Dec.{eqb}
 use lib.ListN.{getD, replicate}
-use Rattle.modular.specs.Digits.{digits}
+use Rattle.modular_theory.specs.Digits.{digits}
 use Rattle.symbols.specs.declared.matrix.Count.{Count}
 
 -- row i, of n, holds three digits of position i + 1: 01's column without its last 1, and zeros where r - 1 is below three
@@ -23,8 +23,8 @@ digitRows q i zero = []
 digitRows q i (suc k) = digits q 3 i ∷ digitRows q (suc i) k
 
 -- k rows of zeros
-abbrev pub zeroRows : ℕ → List (List ℕ)
-zeroRows k = replicate k (replicate 3 0)
+abbrev pub rowsOfZeros : ℕ → List (List ℕ)
+rowsOfZeros k = replicate k (replicate 3 0)
 
 -- how many positions have a column: up to n, 48 at most, and none where there are no levels
 unfoldable pub positions : ℕ → ℕ → ℕ
@@ -32,4 +32,4 @@ positions q n = elim (eqb q 0) [ true ↦ 0 | false ↦ min n 48 ]
 
 -- the table of 48 rows: those positions, and rows of zeros after them
 unfoldable pub columnsOf : ℕ → ℕ → List (List ℕ)
-columnsOf q n = digitRows q 1 (positions q n) ++ zeroRows (48 - positions q n)
+columnsOf q n = digitRows q 1 (positions q n) ++ rowsOfZeros (48 - positions q n)

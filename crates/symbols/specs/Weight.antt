@@ -3,9 +3,9 @@
 use mathlib.Core.Bool.{true, false}
 use mathlib.Core.List.{List}
 use Prim.Native.Nat.{ℕ, _+_}
-use Rattle.modular.specs.Sum.{weight}
-use Rattle.code.specs.Codeword.{alternate}
-use Rattle.residues.specs.Remainder.{residue}
+use Rattle.modular_theory.specs.Sum.{weight}
+use Rattle.code_theory.specs.Codeword.{alternate}
+use Rattle.modular.specs.Remainder.{residue}
 use Rattle.symbols.specs.declared.weight.Weight.{Weight}
 use Rattle.symbols.specs.declared.checks.Checks.{Checks}
 

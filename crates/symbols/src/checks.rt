@@ -1,7 +1,7 @@
 // The check symbols of a word (01: α and β), by the weights of its odd and its even positions.
 use crate::weight::Weight;
-use residues::remainder;
-use residues::wide;
+use modular::remainder;
+use modular::wide;
 ghost use mathlib.Core.Path.{_≡_};
 ghost use Rattle.symbols.specs.Weight.{checksOf};
 

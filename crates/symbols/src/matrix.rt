@@ -1,7 +1,7 @@
 // The columns of the check matrix (01: column i holds the digits of i in base q), counted up.
 ghost use mathlib.Core.Path.{_≡_};
 ghost use Prim.Native.Nat.{ℕ, suc, _<_};
-ghost use Rattle.modular.specs.Digits.{digits};
+ghost use Rattle.modular_theory.specs.Digits.{digits};
 ghost use Rattle.symbols.specs.Columns.{counted, positions, columnsOf};
 
 // A column for each position from 1 to 48.

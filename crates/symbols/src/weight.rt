@@ -1,5 +1,5 @@
 // The weight of a word (01: the plain sum of its symbols), that of its odd positions and that of its even ones.
-use residues::wide16;
+use modular::wide16;
 ghost use mathlib.Core.Path.{_≡_};
 ghost use Prim.Native.Nat.{min, _*_, _%_, _≤_};
 ghost use lib.ListN.{take};

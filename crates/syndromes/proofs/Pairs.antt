@@ -4,8 +4,8 @@ use mathlib.Core.Path.{_≡_, sym}
 use mathlib.Core.Bool.{true, false, and-true, and-false, or-false}
 use mathlib.Core.List.{List}
 use Prim.Native.Nat.{ℕ}
-use Rattle.code.specs.Parameters.{Parameters}
-use Rattle.decoding.specs.Syndromes.{zeroSyndrome, columnSyndrome, nearSyndrome, nearSyndromes}
+use Rattle.code_theory.specs.Parameters.{Parameters}
+use Rattle.decoding_theory.specs.Syndromes.{zeroSyndrome, columnSyndrome, nearSyndrome, nearSyndromes}
 
 module _ (p : Parameters) (S S′ : List ℕ) where
   pub near-both : zeroSyndrome p S ≡ true → zeroSyndrome p S′ ≡ true → true ≡ nearSyndromes p S S′

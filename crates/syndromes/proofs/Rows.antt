@@ -8,9 +8,9 @@ use Prim.Native.Nat.{ℕ, _+_, _*_, _≤_, _<_}
 use native.Mathlib.Omega.{arith}
 use lib.Dec.{eqb, leb, eqb→eq, leb→le, le→leb}
 use lib.ListN.{getD}
-use Rattle.modular.proofs.Search.{fails, same-test, all-at}
-use Rattle.decoding.specs.Syndromes.{fromDigits, zeroSyndrome, columnPosition, columnSyndrome}
-use Rattle.decoding.proofs.Near.{named, named-test}
+use Rattle.modular_theory.proofs.Search.{fails, same-test, all-at}
+use Rattle.decoding_theory.specs.Syndromes.{fromDigits, zeroSyndrome, columnPosition, columnSyndrome}
+use Rattle.decoding_theory.proofs.Near.{named, named-test}
 use Rattle.symbols.specs.Syndromes.{fourRows}
 use Rattle.syndromes.specs.FourRows.{zeroRows}
 

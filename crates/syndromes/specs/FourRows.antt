@@ -5,7 +5,7 @@ use mathlib.Core.List.{List}
 use Prim.Native.Nat.{ℕ}
 use lib.Dec.{eqb}
 use lib.ListN.{getD}
-use Rattle.modular.specs.Search.{allBelow}
+use Rattle.modular_theory.specs.Search.{allBelow}
 
 -- each of the four is 0: a zero syndrome whatever q and n are
 unfoldable pub zeroRows : List ℕ → Bool

@@ -5,7 +5,7 @@ use symbols::Checks;
 use symbols::Syndrome;
 ghost use mathlib.Core.Path.{_≡_};
 ghost use lib.Dec.{eqb};
-ghost use Rattle.decoding.specs.Syndromes.{nearSyndromes};
+ghost use Rattle.decoding_theory.specs.Syndromes.{nearSyndromes};
 ghost use Rattle.symbols.specs.Syndromes.{fourRows, rows};
 ghost use Rattle.syndromes.specs.Verdict.{verdictOf};
 

@@ -1,8 +1,8 @@
 // Syndromes of the two components (three digit rows and the row of ones): which are those of near components.
-use residues::wide;
+use modular::wide;
 use symbols::Syndrome;
 ghost use mathlib.Core.Path.{_≡_};
-ghost use Rattle.decoding.specs.Syndromes.{fromDigits, columnSyndrome, nearSyndromes};
+ghost use Rattle.decoding_theory.specs.Syndromes.{fromDigits, columnSyndrome, nearSyndromes};
 ghost use Rattle.symbols.specs.Syndromes.{fourRows, rows};
 ghost use Rattle.syndromes.specs.FourRows.{zeroRows};
 
@@ -13,7 +13,7 @@ pub fn is_zero(s: Syndrome) -> bool
     if s.low != 0 {
         return false;
     }
-    if s.middle != 0 {
+    if s.mid != 0 {
         return false;
     }
     if s.high != 0 {
@@ -27,7 +27,7 @@ pub fn position(q: u8, s: Syndrome) -> usize
     ensures { λ i. ⌜ i ≡ fromDigits q 3 (rows s) ⌝ }
 {
     let levels = wide(q);
-    (wide(s.high) * levels + wide(s.middle)) * levels + wide(s.low)
+    (wide(s.high) * levels + wide(s.mid)) * levels + wide(s.low)
 }
 
 // Whether the last row is 1 and the digits name one of the n positions: place 0 is none.

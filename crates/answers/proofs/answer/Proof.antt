@@ -7,7 +7,7 @@ use native.Mathlib.Omega.{arith}
 use denote.Ref.{now}
 use lib.ListN.{length}
 use lib.Seq.{length-take-le}
-use Rattle.stream.proofs.Order.{line-bad}
+use Rattle.lines_theory.proofs.Order.{line-bad}
 use Rattle.answers.proofs.Forms.{GoodLine, bad-line, good-line}
 use Rattle.answers.proofs.Writing.{reworded, overwrites}
 use Rattle.answers.proofs.Answers.{line-read}

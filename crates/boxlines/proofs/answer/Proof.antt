@@ -8,10 +8,10 @@ use denote.Ref.{now}
 use lib.ListN.{length, drop}
 use lib.Seq.{length-take-le}
 use borrow.Author.Needs.{needs}
-use Rattle.stream.proofs.Feed.{still}
+use Rattle.lines_theory.proofs.Feed.{still}
 use Rattle.lines.specs.States.{modelOf}
-use Rattle.stream.proofs.Progress.{StepCall, step-fits, step-less}
-use Rattle.stream.proofs.Counting.{ends-few}
+use Rattle.lines_theory.proofs.Progress.{StepCall, step-fits, step-less}
+use Rattle.lines_theory.proofs.Counting.{ends-few}
 use Rattle.boxlines.specs.Turns.{AnswersPiece}
 use Rattle.boxlines.proofs.Answering.{Sofar, nothing-taken, further, settles}
 use Rattle.boxlines.proofs.answer.Statement.{statement}

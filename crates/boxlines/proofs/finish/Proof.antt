@@ -5,9 +5,9 @@ use mathlib.Core.List.{[]}
 use native.Mathlib.Omega.{arith}
 use lib.ListN.{length}
 use lib.Seq.{length-take-le}
-use Rattle.stream.proofs.Feed.{still}
+use Rattle.lines_theory.proofs.Feed.{still}
 use Rattle.lines.specs.States.{modelOf}
-use Rattle.stream.proofs.Progress.{FinishCall, finish-within, finish-goes-on}
+use Rattle.lines_theory.proofs.Progress.{FinishCall, finish-within, finish-goes-on}
 use Rattle.boxlines.specs.Turns.{AnswersEnd}
 use Rattle.boxlines.proofs.Answering.{Remains, last-further, last-few, last-done}
 use Rattle.boxlines.proofs.finish.Statement.{statement}

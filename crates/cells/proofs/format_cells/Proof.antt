@@ -9,14 +9,14 @@ use lib.Dec.{T}
 use lib.ListN.{length, set, length-set, length-replicate}
 use denote.Ref.{now}
 use borrow.Author.Tests.{not-true, not-false}
-use Rattle.sheet.specs.Lists.{zeros}
-use Rattle.sheet.specs.Layout.{isQueueLength, capacity}
-use Rattle.sheet.specs.Operations.{linked, formatted, formatAnswer, formatQueue}
-use Rattle.sheet.proofs.Lists.{size-of}
-use Rattle.sheet.proofs.Format.{length-linked}
-use Rattle.sheet.proofs.Rule.{same-capacity}
+use Rattle.queue_theory.specs.Lists.{zeros}
+use Rattle.queue_theory.specs.Layout.{isQueueLength, capacity}
+use Rattle.queue_theory.specs.Operations.{linked, formatted, formatAnswer, formatQueue}
+use Rattle.queue_theory.proofs.Lists.{size-of}
+use Rattle.queue_theory.proofs.Format.{length-linked}
+use Rattle.queue_theory.proofs.Rule.{same-capacity}
 use borrow.Author.Needs.{needs}
-use Rattle.modular.proofs.Search.{holds}
+use Rattle.modular_theory.proofs.Search.{holds}
 use Rattle.cells.proofs.format_cells.Statement.{statement}
 use Rattle.cells.proofs.format_cells.Tie as tie
 

@@ -6,9 +6,9 @@ use Prim.Native.Nat.{ℕ, _+_, _-_, _*_, _≤_}
 use native.Mathlib.Omega.{arith}
 use lib.ListN.{length, length-set}
 use denote.Ref.{now}
-use Rattle.sheet.specs.Layout.{cellSize, Size}
-use Rattle.sheet.specs.Operations.{linked}
-use Rattle.sheet.proofs.Lists.{size-of}
+use Rattle.queue_theory.specs.Layout.{cellSize, Size}
+use Rattle.queue_theory.specs.Operations.{linked}
+use Rattle.queue_theory.proofs.Lists.{size-of}
 use borrow.Author.Needs.{needs}
 use Rattle.cells.proofs.Cells.{link-on, link-over}
 use Rattle.cells.proofs.link.Statement.{statement}

@@ -7,8 +7,8 @@ use native.Mathlib.Omega.{arith}
 use lib.ListN.{length, length-set}
 use lib.Seq.{getD-set-other}
 use denote.Ref.{now}
-use Rattle.sheet.specs.Lists.{zeros}
-use Rattle.sheet.specs.Layout.{cellSize, bodySize, nextCell}
+use Rattle.queue_theory.specs.Lists.{zeros}
+use Rattle.queue_theory.specs.Layout.{cellSize, bodySize, nextCell}
 use Rattle.cells.proofs.Cells.{freed, stays}
 use borrow.Author.Needs.{needs}
 use Rattle.cells.proofs.release.Statement.{statement}

@@ -6,12 +6,12 @@ use Prim.Native.Nat.{ℕ, _+_, _-_, _*_, _≤_}
 use native.Mathlib.Omega.{arith}
 use lib.ListN.{length, set}
 use denote.Ref.{now}
-use Rattle.sheet.specs.Operations.{shownCell}
+use Rattle.queue_theory.specs.Operations.{shownCell}
 use Rattle.cells.proofs.Bytes.{lent-part, copied-same}
 use Rattle.cells.proofs.Cells.{fits, fits-both, shows, keeps, cell-shown}
 use borrow.Author.Needs.{needs}
-use Rattle.modular.proofs.Search.{holds}
-use Rattle.sheet.specs.Layout.{cellSize}
+use Rattle.modular_theory.proofs.Search.{holds}
+use Rattle.queue_theory.specs.Layout.{cellSize}
 use Rattle.cells.proofs.show.Statement.{statement}
 use Rattle.cells.proofs.show.Tie as tie
 

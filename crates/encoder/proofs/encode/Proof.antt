@@ -7,7 +7,7 @@ use Prim.Native.Nat.{ℕ}
 use native.Mathlib.Omega.{arith}
 use lib.ListN.{length}
 use denote.Ref.{now}
-use Rattle.code.specs.Operations.{outcome, encodeRefusal}
+use Rattle.code_theory.specs.Operations.{outcome, encodeRefusal}
 use Rattle.profiles.specs.declared.row.Row.{Row}
 use Rattle.profiles.specs.Row.{RowOf}
 use Rattle.profiles.proofs.Table.{row-found, none-found, codeword-is}
@@ -78,12 +78,12 @@ returns-2 c =
     let number = number-is (c .before) in
     record { answer = refused-outcome number (c .if1 .taken); output = output-kept _ _ _ _ number (c .if1 .taken) }
 
-written-requires : tie.Need-written-requires
-written-requires c κs = (of (found c), accept c .first, accept c .second)
+word-of-requires : tie.Need-word-of-requires
+word-of-requires c κs = (of (found c), accept c .first, accept c .second)
 
 put-requires : tie.Need-put-requires
 put-requires c κs =
-    let e = c .before .written .ensures .1 in
+    let e = c .before .word-of .ensures .1 in
     let f = of (found (c .before .before)) in
     (e ∙ sym (accept (c .before .before) .room), omega (arith, e, codeword-is f, f .valid .codeword, f .valid .length))
 
@@ -93,7 +93,7 @@ same-length c = search needs
 returns-3 : tie.Need-returns-3
 returns-3 c =
     let d = c .before .before .before .before .before in
-    let word = c .before .before .put .ensures ∙ c .before .before .before .before .written .ensures .0 in
+    let word = c .before .before .put .ensures ∙ c .before .before .before .before .word-of .ensures .0 in
     record { answer = ap outcome (none d); output = word ∙ output-done _ _ _ _ (none d) }
 
 pub encode-spec : {M : Type 1} → statement M
@@ -106,7 +106,7 @@ encode-spec =
     returns
     encode-refusal-requires
     returns-2
-    written-requires
+    word-of-requires
     put-requires
     same-length
     returns-3)

@@ -4,7 +4,7 @@ use mathlib.Core.Path.{sym, ap, subst, _∙_}
 use borrow.Author.Needs.{needs}
 use denote.Ref.{now}
 use lib.ListN.{length}
-use Rattle.code.specs.Operations.{Report}
+use Rattle.code_theory.specs.Operations.{Report}
 use Rattle.fogzurt.specs.Packed.{partsOf, packed, Within}
 use Rattle.fogzurt.proofs.Packing.{within-answer}
 use Rattle.fogzurt.proofs.fogzurt_decode.Statement.{statement}

@@ -3,7 +3,7 @@
 use mathlib.Core.Path.{_≡_, refl, ap, _∙_}
 use Prim.Native.Nat.{ℕ, zero, suc}
 use borrow.Author.Needs.{needs}
-use Rattle.code.specs.Operations.{outcome, outcomeNumber}
+use Rattle.code_theory.specs.Operations.{outcome, outcomeNumber}
 use Rattle.fogzurt.proofs.fogzurt_encode.Statement.{statement}
 use Rattle.fogzurt.proofs.fogzurt_encode.Tie as tie
 

@@ -7,8 +7,8 @@ use native.Mathlib.Nat.{zero-add}
 use native.Mathlib.Omega.{arith}
 use denote.Ref.{now}
 use lib.ListN.{length}
-use Rattle.stream.specs.Feed.{Model, stopped, finishing, linesFinished}
-use Rattle.stream.proofs.Counting.{counts-on, counts-stop}
+use Rattle.lines_theory.specs.Feed.{Model, stopped, finishing, linesFinished}
+use Rattle.lines_theory.proofs.Counting.{counts-on, counts-stop}
 use Rattle.lines.specs.States.{partialOf, pendingOf, modelOf}
 use Rattle.lines.proofs.Clamping.{clamped}
 use Rattle.lines.proofs.Holding.{last-lines}

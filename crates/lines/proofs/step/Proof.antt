@@ -6,8 +6,8 @@ use Prim.Native.Nat.{ℕ, _+_, _-_, _<_}
 use native.Mathlib.Omega.{arith}
 use denote.Ref.{now}
 use lib.ListN.{length, take}
-use Rattle.stream.specs.Feed.{Fed, feedFrom, feed, lineEnds}
-use Rattle.stream.proofs.Counting.{ends-few}
+use Rattle.lines_theory.specs.Feed.{Fed, feedFrom, feed, lineEnds}
+use Rattle.lines_theory.proofs.Counting.{ends-few}
 use Rattle.lines.specs.States.{partialOf, pendingOf, modelOf}
 use Rattle.lines.proofs.Clamping.{clamped}
 use Rattle.lines.proofs.Ends.{counts-none, counts-one}

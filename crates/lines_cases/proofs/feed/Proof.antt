@@ -9,7 +9,7 @@ use lib.ListN.{length, take}
 use lib.Seq.{length-take-le}
 use borrow.Author.Needs.{needs}
 use Rattle.lines.specs.States.{modelOf}
-use Rattle.stream.proofs.Progress.{piece, piece-length, call-fits}
+use Rattle.lines_theory.proofs.Progress.{piece, piece-length, call-fits}
 use Rattle.lines_cases.proofs.feed.Statement.{statement}
 use Rattle.lines_cases.proofs.feed.Tie as tie
 

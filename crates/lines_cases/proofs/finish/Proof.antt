@@ -6,7 +6,7 @@ use native.Mathlib.Omega.{arith}
 use lib.ListN.{length}
 use lib.Seq.{length-take-le}
 use Rattle.lines.specs.States.{modelOf}
-use Rattle.stream.proofs.Progress.{FinishCall, finish-within}
+use Rattle.lines_theory.proofs.Progress.{FinishCall, finish-within}
 use Rattle.lines_cases.proofs.finish.Statement.{statement}
 use Rattle.lines_cases.proofs.finish.Tie as tie
 

@@ -4,10 +4,10 @@ use mathlib.Core.Path.{_≡_, sym, _∙_}
 use mathlib.Core.List.{List}
 use Prim.Native.Nat.{ℕ}
 use denote.Ref.{now}
-use Rattle.code.proofs.Refusal.{kept, wrote}
-use Rattle.sheet.specs.Operations.{peekAnswer, dequeueAnswer, dequeueQueue, dequeueOutput}
-use Rattle.sheet.proofs.Answers.{Showing, showing}
-use Rattle.sheet.proofs.Laws.{first-cell}
+use Rattle.code_theory.proofs.Refusal.{kept, wrote}
+use Rattle.queue_theory.specs.Operations.{peekAnswer, dequeueAnswer, dequeueQueue, dequeueOutput}
+use Rattle.queue_theory.proofs.Answers.{Showing, showing}
+use Rattle.queue_theory.proofs.Laws.{first-cell}
 use Rattle.cells.proofs.Cells.{releases}
 use Rattle.queue.proofs.Told.{told-done, told-refused}
 use Rattle.queue.proofs.Stores.{first-fits}

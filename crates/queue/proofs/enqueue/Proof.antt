@@ -9,18 +9,18 @@ use native.Mathlib.Omega.{arith}
 use lib.Dec.{eqb, leb, leb→le}
 use denote.Ref.{now}
 use borrow.Author.Tests.{not-true, not-false}
-use Rattle.modular.proofs.Search.{and-right, holds}
-use Rattle.code.specs.Refusal.{Test, asks, firstRefusal}
-use Rattle.code.proofs.Refusal.{past, past-none, stops, refused-first, kept, wrote}
-use Rattle.sheet.specs.Layout.{firstFree}
-use Rattle.sheet.specs.Sound.{recordOf}
-use Rattle.sheet.specs.Operations.{recordTests, roomTests, enqueueTests, enqueued, enqueueAnswer, enqueueQueue}
-use Rattle.sheet.proofs.Lists.{size-of}
-use Rattle.sheet.proofs.Answers.{Entering, on-sound, entering}
+use Rattle.modular_theory.proofs.Search.{and-right, holds}
+use Rattle.code_theory.specs.Refusal.{Test, asks, firstRefusal}
+use Rattle.code_theory.proofs.Refusal.{past, past-none, stops, refused-first, kept, wrote}
+use Rattle.queue_theory.specs.Layout.{firstFree}
+use Rattle.queue_theory.specs.Sound.{recordOf}
+use Rattle.queue_theory.specs.Operations.{recordTests, roomTests, enqueueTests, enqueued, enqueueAnswer, enqueueQueue}
+use Rattle.queue_theory.proofs.Lists.{size-of}
+use Rattle.queue_theory.proofs.Answers.{Entering, on-sound, entering}
 use Rattle.soundness.specs.Checked.{checkedReport}
 use Rattle.queue.specs.declared.Answer.{Answer}
 use Rattle.queue.specs.declared.Answer.the-variants.{Full}
-use Rattle.sheet.specs.Allowed.{EnqueueAllows}
+use Rattle.queue_theory.specs.Allowed.{EnqueueAllows}
 use Rattle.queue.specs.Answer.{numberOf}
 use Rattle.queue.proofs.Checking.{SoundAnswer, told-sound, told-unsound, last-at}
 use Rattle.queue.proofs.Told.{told-done, told-refused}

@@ -5,12 +5,12 @@ use mathlib.Core.List.{[]}
 use lib.ListN.{length}
 use denote.Ref.{now}
 use borrow.Author.Tests.{not-true, not-false}
-use Rattle.modular.proofs.Search.{holds}
-use Rattle.code.specs.Refusal.{asks}
-use Rattle.code.proofs.Refusal.{stops}
-use Rattle.sheet.specs.Layout.{isQueueLength}
-use Rattle.sheet.specs.Operations.{formatAnswer}
-use Rattle.sheet.proofs.Rule.{format-succeeds}
+use Rattle.modular_theory.proofs.Search.{holds}
+use Rattle.code_theory.specs.Refusal.{asks}
+use Rattle.code_theory.proofs.Refusal.{stops}
+use Rattle.queue_theory.specs.Layout.{isQueueLength}
+use Rattle.queue_theory.specs.Operations.{formatAnswer}
+use Rattle.queue_theory.proofs.Rule.{format-succeeds}
 use borrow.Author.Needs.{needs}
 use Rattle.queue.proofs.format.Statement.{statement}
 use Rattle.queue.proofs.format.Tie as tie

@@ -10,18 +10,18 @@ use lib.Dec.{eqb, leb, leb→le}
 use lib.ListN.{length}
 use denote.Ref.{now}
 use borrow.Author.Tests.{ne-eqb}
-use Rattle.modular.proofs.Search.{eq-test, and-right, holds}
-use Rattle.code.specs.Refusal.{Test, asks, firstRefusal}
-use Rattle.code.proofs.Refusal.{past, stops, kept, wrote}
-use Rattle.sheet.specs.Operations.{showTests, cellOf, peekAnswer, peekOutput}
-use Rattle.sheet.proofs.Answers.{on-sound, showing}
+use Rattle.modular_theory.proofs.Search.{eq-test, and-right, holds}
+use Rattle.code_theory.specs.Refusal.{Test, asks, firstRefusal}
+use Rattle.code_theory.proofs.Refusal.{past, stops, kept, wrote}
+use Rattle.queue_theory.specs.Operations.{showTests, cellOf, peekAnswer, peekOutput}
+use Rattle.queue_theory.proofs.Answers.{on-sound, showing}
 use Rattle.cells.specs.Cells.{shownAt}
 use Rattle.cells.proofs.Cells.{shows}
 use Rattle.soundness.specs.Checked.{checkedReport}
-use Rattle.sheet.specs.Layout.{cellSize}
+use Rattle.queue_theory.specs.Layout.{cellSize}
 use Rattle.queue.specs.declared.Answer.{Answer}
 use Rattle.queue.specs.declared.Answer.the-variants.{Length, NoRecord}
-use Rattle.sheet.specs.Allowed.{PeekAllows}
+use Rattle.queue_theory.specs.Allowed.{PeekAllows}
 use Rattle.queue.specs.Answer.{numberOf}
 use Rattle.queue.proofs.Checking.{SoundAnswer, told-sound, told-unsound, found-is, found-at}
 use Rattle.queue.proofs.Stores.{record-fits}

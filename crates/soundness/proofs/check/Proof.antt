@@ -7,10 +7,10 @@ use Prim.Native.Nat.{ℕ}
 use lib.ListN.{length}
 use denote.Ref.{now}
 use borrow.Author.Tests.{not-true, not-false}
-use Rattle.sheet.specs.Layout.{isQueueLength}
+use Rattle.queue_theory.specs.Layout.{isQueueLength}
 use Rattle.soundness.specs.Checked.{checkReport, checkAnswer}
 use borrow.Author.Needs.{needs}
-use Rattle.modular.proofs.Search.{holds}
+use Rattle.modular_theory.proofs.Search.{holds}
 use Rattle.soundness.proofs.check.Statement.{statement}
 use Rattle.soundness.proofs.check.Tie as tie
 

@@ -3,8 +3,8 @@
 use mathlib.Core.Path.{_≡_, sym, _∙_}
 use Prim.Native.Nat.{_≤_}
 use lib.Seq.{length-take-le}
-use Rattle.code.specs.Parameters.{messageLength}
-use Rattle.code.specs.Profiles.{profile}
+use Rattle.code_theory.specs.Parameters.{messageLength}
+use Rattle.code_theory.specs.Profiles.{profile}
 use borrow.Author.Needs.{needs}
 use Rattle.answers.proofs.respond.respond.Statement.{statement}
 use Rattle.answers.proofs.respond.respond.Tie as tie

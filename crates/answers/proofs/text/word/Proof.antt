@@ -6,7 +6,7 @@ use mathlib.Core.List.{List, map}
 use Prim.Native.Nat.{ℕ, _+_, _-_, _≤_}
 use denote.Ref.{now}
 use lib.ListN.{length, take, length-set}
-use Rattle.stream.specs.Line.{digitByte}
+use Rattle.lines_theory.specs.Line.{digitByte}
 use Rattle.answers.specs.Writing.{Written}
 use Rattle.answers.proofs.Writing.{first-none, word-more, word-end}
 use Rattle.answers.proofs.text.word.Statement.{statement}

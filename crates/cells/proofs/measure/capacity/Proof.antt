@@ -2,7 +2,7 @@
 -- Assumes nothing.
 use mathlib.Core.Path.{refl}
 use native.Mathlib.Omega.{arith}
-use Rattle.sheet.specs.Layout.{capacity}
+use Rattle.queue_theory.specs.Layout.{capacity}
 use borrow.Author.Needs.{needs}
 use Rattle.cells.proofs.measure.capacity.Statement.{statement}
 use Rattle.cells.proofs.measure.capacity.Tie as tie

@@ -1,7 +1,7 @@
 -- `is_length` meets its contract, test by test.
 -- Assumes nothing.
 use mathlib.Core.Path.{refl}
-use Rattle.sheet.specs.Layout.{isQueueLength}
+use Rattle.queue_theory.specs.Layout.{isQueueLength}
 use Rattle.cells.proofs.measure.is_length.Statement.{statement}
 use Rattle.cells.proofs.measure.is_length.Tie as tie
 

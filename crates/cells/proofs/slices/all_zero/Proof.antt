@@ -9,7 +9,7 @@ use lib.ListN.{length, take}
 use lib.Seq.{take-all}
 use denote.Ref.{now}
 use borrow.Author.Needs.{needs}
-use Rattle.sheet.specs.Lists.{allZero}
+use Rattle.queue_theory.specs.Lists.{allZero}
 use Rattle.cells.proofs.Bytes.{zero-risen, zero-kept}
 use Rattle.cells.proofs.slices.all_zero.Statement.{statement}
 use Rattle.cells.proofs.slices.all_zero.Tie as tie

@@ -3,7 +3,7 @@
 use mathlib.Core.Path.{_≡_}
 use borrow.Author.Needs.{needs}
 use native.Mathlib.Omega.{arith}
-use Rattle.components.specs.Checks.{symbols}
+use Rattle.components.specs.Checks.{checkSymbols}
 use Rattle.components.proofs.Setting.{position-inside, position-middle, position-high, filled-three, filled-four}
 use Rattle.components.proofs.component.filled.Statement.{statement}
 use Rattle.components.proofs.component.filled.Tie as tie
@@ -38,7 +38,7 @@ returns c =
     let a = s .before .before .before .before .before .before .before in
     let r : a .args .row .r ≡ 4 = omega (arith, c .before .before .if1 .taken, a .pre .0 .checks) in
     rw (c .set-pair4 .ensures, s .set-pair3 .ensures, s .before .before .set-pair2 .ensures, s .before .before .before .before .set-pair .ensures)
-    (filled-four (a .args .row) (a .pre .0) (symbols (a .args .first)) (symbols (a .args .second)) (a .args .x) r)
+    (filled-four (a .args .row) (a .pre .0) (checkSymbols (a .args .first)) (checkSymbols (a .args .second)) (a .args .x) r)
 
 returns-2 : tie.Need-returns-2
 returns-2 c =
@@ -46,7 +46,7 @@ returns-2 c =
     let a = s .before .before .before .before .before .before .before in
     let r : a .args .row .r ≡ 3 = omega (arith, c .if1 .left, a .pre .1) in
     rw (s .set-pair3 .ensures, s .before .before .set-pair2 .ensures, s .before .before .before .before .set-pair .ensures)
-    (filled-three (a .args .row) (a .pre .0) (symbols (a .args .first)) (symbols (a .args .second)) (a .args .x) r)
+    (filled-three (a .args .row) (a .pre .0) (checkSymbols (a .args .first)) (checkSymbols (a .args .second)) (a .args .x) r)
 
 pub filled-spec : {M : Type 1} → statement M
 filled-spec =

@@ -5,9 +5,9 @@ use mathlib.Core.Bool.{true, false}
 use Prim.Native.Nat.{_<_}
 use native.Mathlib.Nat.{min-eq-left}
 use denote.Ref.{now}
-use Rattle.code.proofs.Columns.{q-positive}
+use Rattle.code_theory.proofs.Columns.{q-positive}
 use Rattle.symbols.specs.Columns.{Columns}
-use Rattle.symbols.specs.declared.syndromes.Syndrome.{Syndrome}
+use Rattle.symbols.specs.declared.sums.Syndrome.{Syndrome}
 use Rattle.symbols.specs.Syndromes.{rows, part, rowSums}
 use Rattle.symbols.proofs.Counting.{columns-right}
 use Rattle.symbols.proofs.Parts.{part-length}
@@ -35,7 +35,7 @@ module _ (c : tie.After-syndromes-of) where
 
   -- and symbols
   abbrev Symbols : Syndrome → Type 0
-  Symbols s = (s .low < start .args .row .q) × (s .middle < start .args .row .q) × (s .high < start .args .row .q) × (s .ones < start .args .row .q)
+  Symbols s = (s .low < start .args .row .q) × (s .mid < start .args .row .q) × (s .high < start .args .row .q) × (s .ones < start .args .row .q)
 
   both : Symbols (c .syndromes-of .result .first) × Symbols (c .syndromes-of .result .second)
   both = (

@@ -5,13 +5,13 @@ use native.Mathlib.Omega.{arith}
 use denote.Ref.{now}
 use Prim.Native.Nat.{_-_, _≤_}
 use borrow.Author.Needs.{needs}
-use Rattle.residues.proofs.Filling.{FilledTo}
-use Rattle.decoder.proofs.Differencing.{held, level, symbols-long, short, differenced-first, differenced-more, differenced}
+use Rattle.modular.proofs.Filling.{FilledTo}
+use Rattle.decoder.proofs.Differencing.{heldAt, level, symbols-long, short, differenced-first, differenced-more, differenced}
 use Rattle.decoder.proofs.body.difference_body.Statement.{statement}
 use Rattle.decoder.proofs.body.difference_body.Tie as tie
 
 abbrev Inv-loop : tie.InvT-loop
-Inv-loop row word x₀ m i₀ x i = (1 ≤ i) × (i ≤ m) × FilledTo (held row word) 97 x i
+Inv-loop row word x₀ m i₀ x i = (1 ≤ i) × (i ≤ m) × FilledTo (heldAt row word) 97 x i
 
 abbrev μ-loop : tie.MeasureT-loop
 μ-loop row word x₀ m i₀ x i = m - i

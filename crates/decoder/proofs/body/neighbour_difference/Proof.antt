@@ -2,7 +2,7 @@
 -- Assumes nothing.
 use borrow.Author.Needs.{needs}
 use native.Mathlib.Omega.{arith}
-use Rattle.residues.proofs.Bytes.{byte-difference}
+use Rattle.modular.proofs.Bytes.{byte-difference}
 use Rattle.decoder.proofs.body.neighbour_difference.Statement.{statement}
 use Rattle.decoder.proofs.body.neighbour_difference.Tie as tie
 

@@ -4,8 +4,8 @@ use mathlib.Core.Path.{_≡_}
 use Prim.Native.Nat.{_<_}
 use native.Mathlib.Omega.{arith}
 use borrow.Author.Needs.{needs}
-use Rattle.modular.specs.Residue.{minus}
-use Rattle.residues.proofs.Bytes.{byte-difference}
+use Rattle.modular_theory.specs.Residue.{minus}
+use Rattle.modular.proofs.Bytes.{byte-difference}
 use Rattle.decoder.proofs.Fitting.{moves-odd, moves-even}
 use Rattle.decoder.proofs.effect.effect_of.Statement.{statement}
 use Rattle.decoder.proofs.effect.effect_of.Tie as tie

@@ -5,9 +5,9 @@ use mathlib.Core.Bool.{false}
 use mathlib.Core.List.{List}
 use Prim.Native.Nat.{ℕ, _+_, _-_, _*_, _≤_, _<_}
 use native.Mathlib.Omega.{arith}
-use Rattle.decoding.specs.Syndromes.{zeroSyndrome, columnPosition}
+use Rattle.decoding_theory.specs.Syndromes.{zeroSyndrome, columnPosition}
 use Rattle.profiles.specs.Row.{parameters}
-use Rattle.residues.proofs.Bytes.{byte-difference}
+use Rattle.modular.proofs.Bytes.{byte-difference}
 use Rattle.symbols.specs.Syndromes.{rows}
 use Rattle.decoder.specs.Rows.{rowsOf}
 use Rattle.decoder.proofs.FourRows.{zero-same, position-same}

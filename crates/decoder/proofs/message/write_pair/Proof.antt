@@ -1,7 +1,7 @@
 -- `decoder::message::write_pair` meets its contract: two near syndromes are near each, and restoring one component leaves the other.
 -- Assumes nothing.
 use native.Mathlib.Omega.{arith}
-use Rattle.decoding.proofs.Components.{near-parts}
+use Rattle.decoding_theory.proofs.Components.{near-parts}
 use Rattle.decoder.proofs.Restoring.{written-by}
 use borrow.Author.Needs.{needs}
 use Rattle.decoder.proofs.message.write_pair.Statement.{statement}

@@ -8,7 +8,7 @@ use native.Mathlib.Omega.{arith}
 use lib.ListN.{length, getD, take}
 use lib.Seq.{getD-take}
 use denote.Ref.{now}
-use Rattle.code.specs.Parameters.{balancingValue}
+use Rattle.code_theory.specs.Parameters.{balancingValue}
 use Rattle.encoder.proofs.Searching.{Trying, Missed, gains, weightAt, missed-none, trying-first, trying-next, trying-all, weight-next, weight-small, row-size, s-left, all-found}
 use Rattle.encoder.proofs.balance.earliest.Statement.{statement}
 use Rattle.encoder.proofs.balance.earliest.Tie as tie
@@ -32,8 +32,8 @@ word a = take (a .args .row .balanced) (now (a .args .d))
 size : (a : tie.Start Inv-loop μ-loop Inv-search μ-search) → length (word a) ≡ a .args .row .balanced
 size a = row-size (a .args .row) (a .pre .0) (now (a .args .d)) (a .pre .1 .size)
 
-middle : (a : tie.Start Inv-loop μ-loop Inv-search μ-search) → a .args .row .middle ≡ balancingValue (a .args .row .q) (length (word a))
-middle a = a .pre .0 .middle ∙ ap (balancingValue (a .args .row .q)) (sym (size a))
+target : (a : tie.Start Inv-loop μ-loop Inv-search μ-search) → a .args .row .target ≡ balancingValue (a .args .row .q) (length (word a))
+target a = a .pre .0 .target ∙ ap (balancingValue (a .args .row .q)) (sym (size a))
 
 s-below : (c : tie.At-search Inv-loop μ-loop Inv-search μ-search) → c .search .s < c .before .args .row .q
 s-below c = s-left (c .before .args .row) (c .before .pre .0) (size (c .before)) (c .before .pre .2) (c .search .inv)
@@ -129,7 +129,7 @@ loop-again : tie.Need-loop-again Inv-loop μ-loop Inv-search μ-search
 loop-again c =
     let i = c .before .before .before in
     let a = start i in
-    trying-next (i .before .loop .inv) (omega (arith, size a, i .loop-test .taken)) (λ e. c .before .if1 .left (e ∙ sym (middle a))) (omega (arith, gained i))
+    trying-next (i .before .loop .inv) (omega (arith, size a, i .loop-test .taken)) (λ e. c .before .if1 .left (e ∙ sym (target a))) (omega (arith, gained i))
 
 add-s : tie.Need-add-s Inv-loop μ-loop Inv-search μ-search
 add-s c = omega (arith, s-below (c .before .before .before .before), c .before .before .before .before .before .pre .1 .levels)
@@ -147,7 +147,7 @@ returns c =
     let i = c .before .before in
     let a = start i in
     all-found (a .args .row) (a .pre .0) (size a) (a .pre .2) (i .before .before .before .before .search .inv) (i .before .loop .inv) (omega (arith, size a, i .loop-test .taken))
-    (c .if1 .taken ∙ middle a)
+    (c .if1 .taken ∙ target a)
 
 pub earliest-spec : {M : Type 1} → statement M
 earliest-spec =

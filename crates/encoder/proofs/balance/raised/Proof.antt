@@ -7,8 +7,8 @@ use native.Mathlib.Omega.{arith}
 use denote.Ref.{now}
 use borrow.Author.Needs.{needs}
 use Rattle.encoder.specs.Symbols.{stepAt}
-use Rattle.residues.proofs.Filling.{FilledTo, filled-none, filled-more}
-use Rattle.residues.proofs.Bytes.{byte-sum}
+use Rattle.modular.proofs.Filling.{FilledTo, filled-none, filled-more}
+use Rattle.modular.proofs.Bytes.{byte-sum}
 use Rattle.encoder.proofs.Raising.{step-upto}
 use Rattle.encoder.proofs.balance.raised.Statement.{statement}
 use Rattle.encoder.proofs.balance.raised.Tie as tie

@@ -4,18 +4,18 @@
 use Prim.Native.Nat.{_-_, _≤_}
 use native.Mathlib.Omega.{arith}
 use borrow.Author.Needs.{needs}
-use Rattle.encoder.proofs.Integrating.{Running, running-none, running-more}
+use Rattle.encoder.proofs.Integrating.{PrefixSumming, prefix-none, prefix-more}
 use Rattle.encoder.proofs.balance.summed.Statement.{statement}
 use Rattle.encoder.proofs.balance.summed.Tie as tie
 
 abbrev Inv-loop : tie.InvT-loop
-Inv-loop m x sums₀ sum₀ i₀ sums sum i = Running x sums sum i × (i ≤ m)
+Inv-loop m x sums₀ sum₀ i₀ sums sum i = PrefixSumming x sums sum i × (i ≤ m)
 
 abbrev μ-loop : tie.MeasureT-loop
 μ-loop m x sums₀ sum₀ i₀ sums sum i = m - i
 
 loop-holds : tie.Need-loop-holds Inv-loop μ-loop
-loop-holds c = (running-none _, omega arith)
+loop-holds c = (prefix-none _, omega arith)
 
 element-copy-out-wide16 : tie.Need-element-copy-out-wide16 Inv-loop μ-loop
 element-copy-out-wide16 c = search needs
@@ -41,7 +41,7 @@ loop-less c = search needs
 loop-again : tie.Need-loop-again Inv-loop μ-loop
 loop-again c =
     let e = c .wide16 .ensures in
-    (running-more (c .before .before .before .loop .inv .0) (omega arith) (e .0) (e .1), omega arith)
+    (prefix-more (c .before .before .before .loop .inv .0) (omega arith) (e .0) (e .1), omega arith)
 
 returns : tie.Need-returns Inv-loop μ-loop
 returns c = record { at = λ k h. c .before .loop .inv .0 .written .at k (omega (arith, c .loop-test .left)) }

@@ -7,7 +7,7 @@ use native.Mathlib.Omega.{arith}
 use lib.ListN.{getD}
 use denote.Ref.{now}
 use borrow.Author.Needs.{needs}
-use Rattle.residues.proofs.Bytes.{byte-sum}
+use Rattle.modular.proofs.Bytes.{byte-sum}
 use Rattle.encoder.proofs.Raising.{Weighed, weighed-none, weighed-more}
 use Rattle.encoder.proofs.balance.weight_raised.Statement.{statement}
 use Rattle.encoder.proofs.balance.weight_raised.Tie as tie

@@ -6,7 +6,7 @@ use lib.ListN.{length, getD, length-set}
 use lib.Seq.{take-all}
 use native.Mathlib.Omega.{arith}
 use borrow.Author.Needs.{needs}
-use Rattle.residues.proofs.Filling.{FilledTo, filled-none, filled-more, filled-take}
+use Rattle.modular.proofs.Filling.{FilledTo, filled-none, filled-more, filled-take}
 use Rattle.encoder.proofs.word.put.Statement.{statement}
 use Rattle.encoder.proofs.word.put.Tie as tie
 

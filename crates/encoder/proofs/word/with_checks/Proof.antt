@@ -7,7 +7,7 @@ use denote.Ref.{now}
 use native.Mathlib.Omega.{arith}
 use borrow.Author.Needs.{needs}
 use Rattle.symbols.specs.Weight.{checksOf}
-use Rattle.residues.proofs.Filling.{FilledTo, filled-none, filled-more, filled-take}
+use Rattle.modular.proofs.Filling.{FilledTo, filled-none, filled-more, filled-take}
 use Rattle.encoder.proofs.Writing.{checks-put}
 use Rattle.encoder.proofs.word.with_checks.Statement.{statement}
 use Rattle.encoder.proofs.word.with_checks.Tie as tie

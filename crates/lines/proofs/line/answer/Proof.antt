@@ -1,7 +1,7 @@
 -- `lines::line::answer` meets its contract: the line is held, then answered.
 -- Assumes nothing.
 use mathlib.Core.Path.{ap, _∙_}
-use Rattle.stream.specs.Feed.{answerTo}
+use Rattle.lines_theory.specs.Feed.{answerTo}
 use borrow.Author.Needs.{needs}
 use Rattle.lines.proofs.line.answer.Statement.{statement}
 use Rattle.lines.proofs.line.answer.Tie as tie

@@ -5,8 +5,8 @@ use native.Mathlib.Omega.{arith}
 use lib.Dec.{T}
 use borrow.Author.Needs.{needs}
 use borrow.Author.Tests.{not-true, not-false}
-use Rattle.modular.proofs.Search.{holds}
-use Rattle.code.specs.Profiles.{isProfile}
+use Rattle.modular_theory.proofs.Search.{holds}
+use Rattle.code_theory.specs.Profiles.{isProfile}
 use Rattle.profiles.proofs.Table.{in-range, lookup-found, lookup-none}
 use Rattle.profiles.proofs.row.row_of.Statement.{statement}
 use Rattle.profiles.proofs.row.row_of.Tie as tie

@@ -7,16 +7,16 @@ use lib.Dec.{eqb}
 use lib.ListN.{length}
 use denote.Ref.{now}
 use borrow.Author.Tests.{not-true, not-false, ne-eqb}
-use Rattle.modular.proofs.Search.{eq-test, holds}
-use Rattle.code.specs.Refusal.{Test, asks}
-use Rattle.code.proofs.Refusal.{AllPass, past, stops}
-use Rattle.code.specs.Parameters.{codewordLength}
-use Rattle.code.specs.Component.{isReceived}
-use Rattle.code.specs.Profiles.{isProfile, profile}
+use Rattle.modular_theory.proofs.Search.{eq-test, holds}
+use Rattle.code_theory.specs.Refusal.{Test, asks}
+use Rattle.code_theory.proofs.Refusal.{AllPass, past, stops}
+use Rattle.code_theory.specs.Parameters.{codewordLength}
+use Rattle.code_theory.specs.Component.{isReceived}
+use Rattle.code_theory.specs.Profiles.{isProfile, profile}
 use Rattle.profiles.specs.Row.{RowOf}
 use Rattle.profiles.proofs.Table.{row-found, none-found, codeword-is}
-use Rattle.sheet.specs.Sound.{isBox}
-use Rattle.sheet.specs.Operations.{recordTests}
+use Rattle.queue_theory.specs.Sound.{isBox}
+use Rattle.queue_theory.specs.Operations.{recordTests}
 use Rattle.soundness.proofs.Rows.{received-is}
 use borrow.Author.Needs.{needs}
 use Rattle.queue.proofs.admit.admit.Statement.{statement}

@@ -6,12 +6,12 @@ use Prim.Native.Nat.{ℕ, _+_, _-_, _*_, _≤_}
 use native.Mathlib.Omega.{arith}
 use lib.ListN.{length, getD, set, length-set}
 use denote.Ref.{now}
-use Rattle.sheet.specs.Layout.{cellSize, firstFree, setBody}
-use Rattle.sheet.specs.Sound.{recordOf}
-use Rattle.sheet.specs.Operations.{enqueued}
-use Rattle.sheet.proofs.Lists.{size-of}
-use Rattle.sheet.proofs.Record.{word-fits}
-use Rattle.sheet.proofs.Answers.{Entering, entering}
+use Rattle.queue_theory.specs.Layout.{cellSize, firstFree, setBody}
+use Rattle.queue_theory.specs.Sound.{recordOf}
+use Rattle.queue_theory.specs.Operations.{enqueued}
+use Rattle.queue_theory.proofs.Lists.{size-of}
+use Rattle.queue_theory.proofs.Record.{word-fits}
+use Rattle.queue_theory.proofs.Answers.{Entering, entering}
 use Rattle.cells.proofs.Bytes.{copied-same}
 use Rattle.queue.proofs.Stores.{putFields, cell-fits, last-fits, cell-zero, store-put}
 use borrow.Author.Needs.{needs}

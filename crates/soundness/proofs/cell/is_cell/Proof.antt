@@ -10,10 +10,10 @@ use lib.ListN.{length, take, drop}
 use denote.Ref.{now}
 use borrow.Author.Needs.{needs}
 use borrow.Author.Tests.{le-leb, lt-leb}
-use Rattle.sheet.specs.Layout.{cellSize, bodySize, capacity, cellBody}
-use Rattle.sheet.specs.Sound.{isBody, isCell, isRecord}
-use Rattle.sheet.specs.Lists.{allZero}
-use Rattle.sheet.proofs.Lists.{size-of}
+use Rattle.queue_theory.specs.Layout.{cellSize, bodySize, capacity, cellBody}
+use Rattle.queue_theory.specs.Sound.{isBody, isCell, isRecord}
+use Rattle.queue_theory.specs.Lists.{allZero}
+use Rattle.queue_theory.proofs.Lists.{size-of}
 use Rattle.cells.proofs.Bytes.{lent-part}
 use Rattle.soundness.proofs.Conditions.{off, on}
 use Rattle.soundness.proofs.cell.is_cell.Statement.{statement}

@@ -2,8 +2,8 @@
 -- Assumes nothing.
 use native.Mathlib.Omega.{arith}
 use denote.Ref.{now}
-use Rattle.sheet.specs.Sound.{isHeader}
-use Rattle.sheet.proofs.Lists.{size-of}
+use Rattle.queue_theory.specs.Sound.{isHeader}
+use Rattle.queue_theory.proofs.Lists.{size-of}
 use borrow.Author.Needs.{needs}
 use Rattle.soundness.proofs.cell.is_header.Statement.{statement}
 use Rattle.soundness.proofs.cell.is_header.Tie as tie

@@ -8,15 +8,15 @@ use native.Mathlib.Omega.{arith}
 use lib.ListN.{length, take, drop}
 use lib.Seq.{length-take-le}
 use denote.Ref.{now}
-use Rattle.modular.proofs.Search.{passes}
-use Rattle.code.specs.Component.{isReceived}
-use Rattle.code.specs.Profiles.{isProfile, profile}
+use Rattle.modular_theory.proofs.Search.{passes}
+use Rattle.code_theory.specs.Component.{isReceived}
+use Rattle.code_theory.specs.Profiles.{isProfile, profile}
 use Rattle.profiles.specs.declared.row.Row.{Row}
 use Rattle.profiles.specs.Row.{RowOf}
 use Rattle.profiles.proofs.Table.{row-found, none-found, codeword-is}
-use Rattle.sheet.specs.Lists.{allZero}
-use Rattle.sheet.specs.Sound.{isPadded}
-use Rattle.sheet.proofs.Record.{word-fits}
+use Rattle.queue_theory.specs.Lists.{allZero}
+use Rattle.queue_theory.specs.Sound.{isPadded}
+use Rattle.queue_theory.proofs.Record.{word-fits}
 use Rattle.cells.proofs.Bytes.{lent-rest}
 use Rattle.soundness.proofs.Conditions.{on, off}
 use Rattle.soundness.proofs.Rows.{received-is}

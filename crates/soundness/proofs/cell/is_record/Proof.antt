@@ -4,7 +4,7 @@ use mathlib.Core.Path.{ap, _∙_}
 use mathlib.Core.Bool.{Bool, _&&_}
 use lib.ListN.{getD}
 use denote.Ref.{now}
-use Rattle.sheet.specs.Sound.{isBox, isPadded, isRecord}
+use Rattle.queue_theory.specs.Sound.{isBox, isPadded, isRecord}
 use Rattle.cells.proofs.Bytes.{lent-rest}
 use borrow.Author.Needs.{needs}
 use Rattle.soundness.proofs.cell.is_record.Statement.{statement}

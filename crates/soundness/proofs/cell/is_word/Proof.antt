@@ -5,10 +5,10 @@ use mathlib.Core.Bool.{false}
 use mathlib.Core.Logic.{_≢_}
 use Prim.Native.Nat.{ℕ, _≤_}
 use native.Mathlib.Omega.{arith}
-use Rattle.modular.proofs.Search.{fails}
-use Rattle.code.specs.Profiles.{isProfile}
+use Rattle.modular_theory.proofs.Search.{fails}
+use Rattle.code_theory.specs.Profiles.{isProfile}
 use Rattle.profiles.proofs.Table.{in-range}
-use Rattle.sheet.specs.Sound.{isPadded}
+use Rattle.queue_theory.specs.Sound.{isPadded}
 use Rattle.soundness.proofs.Conditions.{off}
 use Rattle.soundness.proofs.cell.is_word.Statement.{statement}
 use Rattle.soundness.proofs.cell.is_word.Tie as tie

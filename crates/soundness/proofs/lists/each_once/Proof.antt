@@ -6,7 +6,7 @@ use native.Mathlib.Omega.{arith}
 use lib.Dec.{eqb}
 use lib.ListN.{getD}
 use denote.Ref.{now}
-use Rattle.modular.specs.Search.{allBelow}
+use Rattle.modular_theory.specs.Search.{allBelow}
 use Rattle.soundness.proofs.Walks.{once-more}
 use Rattle.soundness.proofs.lists.each_once.Statement.{statement}
 use Rattle.soundness.proofs.lists.each_once.Tie as tie

@@ -8,9 +8,9 @@ use native.Mathlib.Omega.{arith}
 use denote.Ref.{now}
 use borrow.Author.Needs.{needs}
 use borrow.Author.Tests.{not-true, not-false}
-use Rattle.sheet.specs.Layout.{cellSize, Size, capacity}
-use Rattle.sheet.specs.Sound.{isCell}
-use Rattle.sheet.proofs.Lists.{size-of}
+use Rattle.queue_theory.specs.Layout.{cellSize, Size, capacity}
+use Rattle.queue_theory.specs.Sound.{isCell}
+use Rattle.queue_theory.proofs.Lists.{size-of}
 use Rattle.soundness.proofs.Walks.{Walk, walk-start, walk-ended, walk-over, walk-fails, walk-on, cell-below}
 use Rattle.soundness.proofs.lists.walk.Statement.{statement}
 use Rattle.soundness.proofs.lists.walk.Tie as tie

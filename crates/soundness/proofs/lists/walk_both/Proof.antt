@@ -9,9 +9,9 @@ use lib.Dec.{eqb}
 use lib.ListN.{length, getD}
 use denote.Ref.{now}
 use borrow.Author.Tests.{not-true, not-false}
-use Rattle.modular.specs.Search.{allBelow}
-use Rattle.sheet.specs.Layout.{cellSize, nextCell, firstFree}
-use Rattle.sheet.proofs.Lists.{size-of}
+use Rattle.modular_theory.specs.Search.{allBelow}
+use Rattle.queue_theory.specs.Layout.{cellSize, nextCell, firstFree}
+use Rattle.queue_theory.proofs.Lists.{size-of}
 use Rattle.soundness.specs.Walked.{Walks}
 use Rattle.soundness.proofs.Tallies.{noneSeen, none-seen}
 use Rattle.soundness.proofs.Both.{unsound, few-after, checks}

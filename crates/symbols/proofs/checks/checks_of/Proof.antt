@@ -3,7 +3,7 @@
 use mathlib.Core.Path.{ap, ap₂, _∙_}
 use Prim.Native.Nat.{ℕ, _+_}
 use borrow.Author.Needs.{needs}
-use Rattle.residues.specs.Remainder.{residue}
+use Rattle.modular.specs.Remainder.{residue}
 use Rattle.symbols.specs.Weight.{checksOf}
 use Rattle.symbols.proofs.checks.checks_of.Statement.{statement}
 use Rattle.symbols.proofs.checks.checks_of.Tie as tie

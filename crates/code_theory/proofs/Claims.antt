@@ -1,0 +1,33 @@
+-- Every claim of specs/Claims.antt, proved.
+-- Assumes nothing.
+use Rattle.code_theory.specs.Claims.{Claims}
+use Rattle.code_theory.proofs.Choice.{balance-exists}
+use Rattle.code_theory.proofs.Pair.{balance-of-pair}
+use Rattle.code_theory.proofs.Component.{one-component}
+use Rattle.code_theory.proofs.Encoded.{choice-carries, encoded-carries}
+use Rattle.code_theory.proofs.Restored.{one-pair}
+use Rattle.code_theory.proofs.Parity.{parity-sums}
+use Rattle.code_theory.proofs.Apart.{apart-by-units, differences-invertible, apart}
+use Rattle.code_theory.proofs.Reading.{near-is-one, reading-is, reading-corrects}
+use Rattle.code_theory.proofs.Profiles.{profiles-fit}
+use Rattle.code_theory.proofs.Cases.{starred-hold}
+
+pub claims : Claims
+claims =
+    record {
+      balance-exists = balance-exists;
+      balance-of-pair = balance-of-pair;
+      one-component = one-component;
+      choice-carries = choice-carries;
+      encoded-carries = encoded-carries;
+      one-pair = one-pair;
+      parity-sums = parity-sums;
+      apart-by-units = apart-by-units;
+      differences-invertible = differences-invertible;
+      apart = apart;
+      near-is-one = near-is-one;
+      reading-is = reading-is;
+      reading-corrects = reading-corrects;
+      profiles-fit = profiles-fit;
+      starred-hold = starred-hold;
+    }

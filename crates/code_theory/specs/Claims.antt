@@ -1,0 +1,192 @@
+-- What is claimed of the code, each claim a named type, all of them fields of one record. proofs/Claims.antt has a term of it.
+-- Assumes nothing.
+use mathlib.Core.Path.{_≡_}
+use mathlib.Core.Logic.{_≢_, _↔_, _⊎_}
+use mathlib.Core.Bool.{true, false}
+use mathlib.Core.List.{List, [], _∷_, map}
+use Prim.Native.Nat.{ℕ, _+_, _-_, _*_, _%_, _≤_, _<_}
+use lib.Dec.{T}
+use lib.ListN.{length, getD, set}
+use Rattle.modular_theory.specs.Sum.{weight}
+use Rattle.modular_theory.specs.Residue.{Invertible, Prime, minus}
+use Rattle.code_theory.specs.Parameters.{Parameters, Sized, messageLength, balancedLength, codewordLength, balancingValue, delta}
+use Rattle.code_theory.specs.Component.{isWord, inCode, message, component}
+use Rattle.code_theory.specs.Balance.{chosen, earliestS, earliestV, balanced}
+use Rattle.code_theory.specs.Codeword.{alternate, alpha, beta, withChecks, interleaved, encoded, body, received, lowered, codeword, carried}
+use Rattle.code_theory.specs.Reading.{distance, clean, corrected, findingOf, unreadable, readAs, reading}
+use Rattle.code_theory.specs.Profiles.{isProfile, profile, table, derivedRow}
+use Rattle.code_theory.specs.Cases.{AllHold, starred}
+
+-- Why a balance can always be found.
+
+-- the choice s, v is tried before the choice s′, v′
+abbrev pub Before : ℕ → ℕ → ℕ → ℕ → Type 0
+Before s v s′ v′ = (s < s′) ⊎ ((s ≡ s′) × (v < v′))
+
+-- v is one of those that are tried for m symbols: from 1 to m
+abbrev pub Tried : Parameters → ℕ → ℕ → Type 0
+Tried p m v = (1 ≤ v) × (v ≤ m)
+
+-- the earliest choice is one of the choices, it balances x, and no choice before it does
+pub record Balanced (p : Parameters) (x : List ℕ) : Type 0 where
+  pub s-below : earliestS p x < p .q
+  pub v-tried : Tried p (length x) (earliestV p x)
+  pub balances : weight (balanced p x) ≡ balancingValue (p .q) (length x)
+  pub first : (s v : ℕ) → Tried p (length x) v → Before s v (earliestS p x) (earliestV p x)
+      → weight (chosen p x s v) ≢ balancingValue (p .q) (length x)
+
+-- so a balancing choice exists, for every x of m symbols with m (q - 1) even
+abbrev pub BalanceExists : Type 0
+BalanceExists = (p : Parameters) (x : List ℕ) → 1 ≤ p .q → 1 ≤ length x → length x * (p .q - 1) % 2 ≡ 0 → Balanced p x
+
+-- and for every pair of messages
+abbrev pub BalanceOfPair : Type 0
+BalanceOfPair =
+    (p : Parameters) → Sized p → (a b : List ℕ) → (length (interleaved p a b) ≡ balancedLength p) × Balanced p (interleaved p a b)
+
+-- The component code.
+
+-- c is a component codeword that holds the message a
+pub record Holding (p : Parameters) (a c : List ℕ) : Type 0 where
+  pub word : T (isWord (p .q) (p .n) c)
+  pub code : T (inCode p c)
+  pub holds : message p c ≡ a
+
+-- a message has exactly one component, and that one gives the message back
+abbrev pub OneComponent : Type 0
+OneComponent =
+    (p : Parameters) → Sized p → (a : List ℕ) → T (isWord (p .q) (messageLength p) a)
+    → Holding p a (component p a) × ((c : List ℕ) → Holding p a c → c ≡ component p a)
+
+-- Codewords and the pair that each carries.
+
+-- u is a codeword, it carries the pair a, b, and its check symbols are balanced
+pub record Encodes (p : Parameters) (u a b : List ℕ) : Type 0 where
+  pub lawful : T (codeword p u)
+  pub first : carried p true u ≡ a
+  pub second : carried p false u ≡ b
+  pub checks : alpha (p .q) (body p u) + beta (p .q) (body p u) ≡ p .q - 1
+
+-- so it is with the word of every balancing choice
+abbrev pub ChoiceCarries : Type 0
+ChoiceCarries =
+    (p : Parameters) → Sized p → (a b : List ℕ) → T (isWord (p .q) (messageLength p) a) → T (isWord (p .q) (messageLength p) b)
+    → (s v : ℕ) → Tried p (balancedLength p) v → weight (chosen p (interleaved p a b) s v) ≡ balancingValue (p .q) (balancedLength p)
+    → Encodes p (withChecks (p .q) (chosen p (interleaved p a b) s v)) a b
+
+-- and with the encoder's word
+abbrev pub EncodedCarries : Type 0
+EncodedCarries =
+    (p : Parameters) → Sized p → (a b : List ℕ) → T (isWord (p .q) (messageLength p) a) → T (isWord (p .q) (messageLength p) b)
+    → Encodes p (encoded p a b) a b
+
+-- c is in code, and is h or h with 1 taken mod q from one symbol
+pub record Restores (p : Parameters) (h c : List ℕ) : Type 0 where
+  pub code : T (inCode p c)
+  pub change : (c ≡ h) ⊎ ((i : ℕ) × (i < length h) × (c ≡ lowered (p .q) h i))
+
+-- u carries the pair a, b: its halves can be restored, one of them as it stands, to halves with these messages
+pub record Carries (p : Parameters) (u a b : List ℕ) : Type 0 where
+  pub first : List ℕ
+  pub second : List ℕ
+  pub restores-first : Restores p (received p true u) first
+  pub restores-second : Restores p (received p false u) second
+  pub intact : (first ≡ received p true u) ⊎ (second ≡ received p false u)
+  pub messages : (message p first ≡ a) × (message p second ≡ b)
+
+-- a codeword carries its pair, and one pair only
+abbrev pub OnePair : Type 0
+OnePair =
+    (p : Parameters) → Sized p → (u : List ℕ) → T (codeword p u)
+    → Carries p u (carried p true u) (carried p false u)
+    × ((a b : List ℕ) → Carries p u a b → (a ≡ carried p true u) × (b ≡ carried p false u))
+
+-- Why one bad symbol is never taken for another pair.
+
+-- the symbols of a codeword at odd positions, β among them, add up to the balancing value mod q, and those at even positions, α among
+-- them, to δ more: so two codewords that differ in two positions differ in two of one parity
+abbrev pub ParitySums : Type 0
+ParitySums =
+    (p : Parameters) → Sized p → (u : List ℕ) → T (codeword p u)
+    → (weight (alternate true u) % p .q ≡ balancingValue (p .q) (balancedLength p) % p .q)
+    × (weight (alternate false u) % p .q ≡ (balancingValue (p .q) (balancedLength p) + delta (p .q) (balancedLength p)) % p .q)
+
+-- two codewords that differ in at most two positions are equal, where, if there are two, each difference has an inverse mod q
+abbrev pub ApartByUnits : Type 0
+ApartByUnits =
+    (p : Parameters) → Sized p → (u v : List ℕ) → T (codeword p u) → T (codeword p v)
+    → (distance u v ≡ 2 → (i : ℕ) → getD u i 0 ≢ getD v i 0 → Invertible (p .q) (minus (p .q) (getD u i 0) (getD v i 0)))
+    → distance u v ≤ 2 → u ≡ v
+
+-- as every difference of two symbols has where q is prime
+abbrev pub DifferencesInvertible : Type 0
+DifferencesInvertible = (q : ℕ) → Prime q → (a b : ℕ) → a < q → b < q → a ≢ b → Invertible q (minus q a b)
+
+abbrev pub Apart : Type 0
+Apart =
+    (p : Parameters) → Sized p → Prime (p .q) → (u v : List ℕ) → T (codeword p u) → T (codeword p v) → distance u v ≤ 2 → u ≡ v
+
+-- u is a codeword near v: it may have been sent where v arrived
+pub record NearCodeword (p : Parameters) (v u : List ℕ) : Type 0 where
+  pub lawful : T (codeword p u)
+  pub close : distance u v ≤ 1
+
+-- there is at most one
+abbrev pub OneNear : Parameters → Type 0
+OneNear p =
+    (v : List ℕ) → T (isWord (p .q) (codewordLength p) v) → (u w : List ℕ) → NearCodeword p v u → NearCodeword p v w → u ≡ w
+
+abbrev pub NearIsOne : Type 0
+NearIsOne = (p : Parameters) → Sized p → Prime (p .q) → OneNear p
+
+-- so a word is read as the pair of the codeword near it, with what was found from the position in which they differ; and as nothing
+-- where there is none
+pub record Reads (p : Parameters) (v : List ℕ) : Type 0 where
+  pub sent : (u : List ℕ) → NearCodeword p v u → reading p v ≡ readAs p (findingOf v u) u
+  pub none : ((u : List ℕ) → NearCodeword p v u → ⊥) → reading p v ≡ unreadable
+
+abbrev pub ReadingIs : Type 0
+ReadingIs = (p : Parameters) → Sized p → OneNear p → (v : List ℕ) → T (isWord (p .q) (codewordLength p) v) → Reads p v
+
+-- demand 3, of the reading as it is defined
+pub record Corrects (p : Parameters) : Type 0 where
+  -- a codeword as sent is read as its pair
+  pub unchanged : (u : List ℕ) → T (codeword p u) → reading p u ≡ readAs p clean u
+  -- and so it is with any one symbol changed, with the position and the symbol sent
+  pub changed : (u : List ℕ) → T (codeword p u) → (i y : ℕ) → i < codewordLength p → y < p .q → y ≢ getD u i 0
+      → reading p (set u i y) ≡ readAs p (corrected (record { position = i + 1; symbol = getD u i 0 })) u
+  -- every other codeword differs from what arrived in at least two positions
+  pub others : (u v : List ℕ) → T (codeword p u) → T (codeword p v) → v ≢ u → (i y : ℕ) → i < codewordLength p → y < p .q
+      → 2 ≤ distance v (set u i y)
+  -- a word is refused exactly when every codeword does
+  pub refused : (v : List ℕ) → T (isWord (p .q) (codewordLength p) v)
+      → (reading p v ≡ unreadable) ↔ ((u : List ℕ) → T (codeword p u) → 2 ≤ distance u v)
+
+abbrev pub ReadingCorrects : Type 0
+ReadingCorrects = (p : Parameters) → Sized p → Prime (p .q) → Corrects p
+
+-- The four profiles are sized and prime, and their columns are those of 01's table.
+abbrev pub ProfilesFit : Type 0
+ProfilesFit =
+    ((i : ℕ) → T (isProfile i) → Sized (profile i) × Prime (profile i .q)) × (map derivedRow (1 ∷ 2 ∷ 3 ∷ 4 ∷ []) ≡ table)
+
+-- Document 01's starred cases.
+abbrev pub StarredHold : Type 0
+StarredHold = AllHold starred
+
+pub record Claims : Type 0 where
+  pub balance-exists : BalanceExists
+  pub balance-of-pair : BalanceOfPair
+  pub one-component : OneComponent
+  pub choice-carries : ChoiceCarries
+  pub encoded-carries : EncodedCarries
+  pub one-pair : OnePair
+  pub parity-sums : ParitySums
+  pub apart-by-units : ApartByUnits
+  pub differences-invertible : DifferencesInvertible
+  pub apart : Apart
+  pub near-is-one : NearIsOne
+  pub reading-is : ReadingIs
+  pub reading-corrects : ReadingCorrects
+  pub profiles-fit : ProfilesFit
+  pub starred-hold : StarredHold

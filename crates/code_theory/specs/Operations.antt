@@ -1,0 +1,92 @@
+-- What encoding and decoding answer (01: Operations and their numbers, Write and Read): the refusals in their order, then the word or the
+-- reading.
+-- Assumes nothing.
+use mathlib.Core.Bool.{Bool, true, false, _&&_}
+use mathlib.Core.List.{List, [], _∷_}
+use Prim.Native.Nat.{ℕ, zero, suc}
+use lib.Dec.{eqb}
+use lib.ListN.{length}
+use Rattle.code_theory.specs.Refusal.{Test, asks, firstRefusal, onSuccess}
+use Rattle.code_theory.specs.Parameters.{Parameters, messageLength, codewordLength}
+use Rattle.code_theory.specs.Component.{symbolsBelow, isReceived}
+use Rattle.code_theory.specs.Codeword.{encoded}
+use Rattle.code_theory.specs.Reading.{Finding, Reading, read, unreadable, reading}
+use Rattle.code_theory.specs.Profiles.{isProfile, profile}
+
+-- 01: Write, what is tested, in this order: profile i, messages a and b, an output of l symbols
+abbrev pub encodeTests : ℕ → List ℕ → List ℕ → ℕ → List Test
+encodeTests i a b l =
+    let p : Parameters = profile i in
+    asks (isProfile i) 1
+    ∷ asks (eqb (length a) (messageLength p) && eqb (length b) (messageLength p) && eqb l (codewordLength p)) 2
+    ∷ asks (symbolsBelow (p .q) a && symbolsBelow (p .q) b) 3
+    ∷ []
+
+-- the number of the refusal, or 0
+unfoldable pub encodeRefusal : ℕ → List ℕ → List ℕ → ℕ → ℕ
+encodeRefusal i a b l = firstRefusal (encodeTests i a b l)
+
+-- the output afterwards: the encoded word, or what it held where the call is refused
+unfoldable pub encodeOutput : ℕ → List ℕ → List ℕ → List ℕ → List ℕ
+encodeOutput i a b out = onSuccess (encodeRefusal i a b (length out)) (encoded (profile i) a b) out
+
+-- what a call answers beside its output: it is done, or refused by a number
+pub data Outcome : Type 0 where
+  done : Outcome
+  refusedBy : ℕ → Outcome
+
+-- by the number of the refusal; 0 is none
+abbrev pub outcome : ℕ → Outcome
+outcome zero = done
+outcome (suc k) = refusedBy (suc k)
+
+-- and back
+abbrev pub outcomeNumber : Outcome → ℕ
+outcomeNumber done = 0
+outcomeNumber (refusedBy k) = k
+
+-- 01: Read, refused by one of the numbers 1 to 3, or a reading
+pub data Answer : Type 0 where
+  refused : ℕ → Answer
+  answered : Reading → Answer
+
+-- what is tested, in this order: profile i, received word u, outputs of k and l symbols
+abbrev pub decodeTests : ℕ → List ℕ → ℕ → ℕ → List Test
+decodeTests i u k l =
+    let p : Parameters = profile i in
+    asks (isProfile i) 1
+    ∷ asks (eqb (length u) (codewordLength p) && eqb k (messageLength p) && eqb l (messageLength p)) 2
+    ∷ asks (isReceived p u) 3
+    ∷ []
+
+-- a reading, unless a number refuses
+abbrev pub readUnless : ℕ → Reading → Answer
+readUnless zero d = answered d
+readUnless (suc n) d = refused (suc n)
+
+unfoldable pub decodeAnswer : ℕ → List ℕ → ℕ → ℕ → Answer
+decodeAnswer i u k l = readUnless (firstRefusal (decodeTests i u k l)) (reading (profile i) u)
+
+-- what is answered beside the outputs: the number of a refusal by 1 to 3, that no codeword is near, or what was found
+pub data Report : Type 0 where
+  refusal : ℕ → Report
+  failure : Report
+  success : Finding → Report
+
+abbrev pub report : Answer → Report
+report (refused k) = refusal k
+report (answered unreadable) = failure
+report (answered (read f a b)) = success f
+
+-- 01: the number of a refusal, 4 where no codeword is near; 0 where the word is read
+abbrev pub reportNumber : Report → ℕ
+reportNumber (refusal k) = k
+reportNumber failure = 4
+reportNumber (success f) = 0
+
+-- the first output afterwards (true) and the second (false): the message, or what it held where the word is refused
+abbrev pub decodeOutput : Bool → Answer → List ℕ → List ℕ
+decodeOutput b (refused k) out = out
+decodeOutput b (answered unreadable) out = out
+decodeOutput true (answered (read f first second)) out = first
+decodeOutput false (answered (read f first second)) out = second

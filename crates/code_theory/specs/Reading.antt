@@ -1,0 +1,83 @@
+-- Reading a received word (01: Reading), by the lawful words near it.
+-- Assumes nothing.
+use mathlib.Core.Bool.{Bool, true, false, not}
+use mathlib.Core.List.{List, [], _∷_}
+use Prim.Native.Nat.{ℕ, suc, _+_}
+use lib.Dec.{eqb, ltb}
+use lib.ListN.{length, getD, set}
+use Rattle.modular_theory.specs.Search.{least, anyBelow}
+use Rattle.code_theory.specs.Parameters.{Parameters}
+use Rattle.code_theory.specs.Codeword.{codeword, carried}
+
+-- the places in which two words differ, the longer word's tail among them
+abbrev pub distance : List ℕ → List ℕ → ℕ
+distance [] ys = length ys
+distance (x ∷ xs) [] = suc (length xs)
+distance (x ∷ xs) (y ∷ ys) = elim (eqb x y) [ true ↦ distance xs ys | false ↦ suc (distance xs ys) ]
+
+-- what is said of a corrected symbol: its position (01: place), from 1, and the symbol sent there
+pub record Correction : Type 0 where
+  pub position : ℕ
+  pub symbol : ℕ
+
+-- the symbol at index i arrived as x and was sent as y
+abbrev pub correctionAt : ℕ → ℕ → ℕ → Correction
+correctionAt i x y = record { position = i + 1; symbol = y }
+
+-- 01: kind, clean or mended, with what is said of the change
+pub data Finding : Type 0 where
+  clean : Finding
+  corrected : Correction → Finding
+
+-- 01: the place and the symbol sent there, 0 if clean
+abbrev pub correction : Finding → Correction
+correction clean = record { position = 0; symbol = 0 }
+correction (corrected c) = c
+
+-- the first index at which two words differ; the length of v where there is none
+unfoldable pub differsAt : List ℕ → List ℕ → ℕ
+differsAt v u = least (λ i. not (eqb (getD v i 0) (getD u i 0))) (length v)
+
+-- what is found where v arrived and u was sent
+unfoldable pub findingOf : List ℕ → List ℕ → Finding
+findingOf v u =
+    elim (ltb (differsAt v u) (length v)) [
+      | true ↦ let i = differsAt v u in corrected (correctionAt i (getD v i 0) (getD u i 0))
+      | false ↦ clean
+    ]
+
+-- 01: the answer to a word that numbers 1 to 3 let through: what was found, and the pair; or 4
+pub data Reading : Type 0 where
+  read : Finding → List ℕ → List ℕ → Reading
+  unreadable : Reading
+
+-- the answer that gives a codeword's pair
+abbrev pub readAs : Parameters → Finding → List ℕ → Reading
+readAs p f u = read f (carried p true u) (carried p false u)
+
+-- y in place of the symbol at index i makes u a codeword
+unfoldable pub mends : Parameters → List ℕ → ℕ → ℕ → Bool
+mends p u i y = codeword p (set u i y)
+
+-- the first index at which a level does; u's length where there is none
+unfoldable pub changedAt : Parameters → List ℕ → ℕ
+changedAt p u = least (λ i. anyBelow (mends p u i) (p .q)) (length u)
+
+-- that level
+unfoldable pub sentAt : Parameters → List ℕ → ℕ → ℕ
+sentAt p u i = least (mends p u i) (p .q)
+
+-- the answer to a word that is no codeword: by a codeword that differs from it in one place
+unfoldable pub nearReading : Parameters → List ℕ → Reading
+nearReading p u =
+    elim (ltb (changedAt p u) (length u)) [
+      | true ↦
+          let i = changedAt p u in
+          let y = sentAt p u i in
+          readAs p (corrected (correctionAt i (getD u i 0) y)) (set u i y)
+      | false ↦ unreadable
+    ]
+
+-- 01: Reading
+unfoldable pub reading : Parameters → List ℕ → Reading
+reading p u = elim (codeword p u) [ true ↦ readAs p clean u | false ↦ nearReading p u ]

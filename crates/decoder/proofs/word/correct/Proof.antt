@@ -1,0 +1,75 @@
+-- `decoder::word::correct` meets its contract: the index fits, so its symbol is a level and the moved syndromes are near.
+-- Assumes nothing.
+use borrow.Author.Needs.{needs}
+use mathlib.Core.Path.{refl}
+use mathlib.Core.Bool.{true, false}
+use native.Mathlib.Omega.{arith}
+use Rattle.decoder.proofs.Answering.{answers-read, messages-of}
+use Rattle.decoder.proofs.Finding.{fit-index, fit-small, fit-level, fit-near, fit-read}
+use Rattle.decoder.proofs.word.correct.Statement.{statement}
+use Rattle.decoder.proofs.word.correct.Tie as tie
+
+-- The moments: at the start, once the symbol sent is known, once the body is corrected.
+
+abbrev start : tie.After-balancing-symbol → tie.Start
+start c = c .before .before .before .before .before .before
+
+abbrev sent : tie.After-correct-differences → tie.After-balancing-symbol
+sent c = c .before .before
+
+abbrev corrected : tie.After-write-pair → tie.After-correct-differences
+corrected c = c .before .before .before .before
+
+mul-i : tie.Need-mul-i
+mul-i c = let found = c .before .before .before .pre .0 in omega (arith, fit-small found)
+
+add-i : tie.Need-add-i
+add-i c = let found = c .before .before .before .before .pre .0 in omega (arith, fit-small found, found .given .parity-number)
+
+shared-slice-read-balancing-symbol : tie.Need-shared-slice-read-balancing-symbol
+shared-slice-read-balancing-symbol c =
+    let found = c .before .before .before .before .before .pre .0 in
+    omega (arith, fit-index found, found .is .long, found .is .valid .balanced)
+
+balancing-symbol-requires : tie.Need-balancing-symbol-requires
+balancing-symbol-requires c κs = c .before .before .before .before .before .pre .0 .given
+
+correct-differences-requires : tie.Need-correct-differences-requires
+correct-differences-requires c κs =
+    let found = start (c .before) .pre .0 in
+    (found .is, fit-index found, fit-level found (c .before .balancing-symbol .ensures), start (c .before) .pre .2)
+
+write-pair-requires : tie.Need-write-pair-requires
+write-pair-requires c κs =
+    let body = c .before .before .before in
+    let (found, after, _, outputs) = start (sent body) .pre in (
+      body .correct-differences .ensures .levels,
+      record { first-rows = after .first-rows; second-rows = after .second-rows; near = fit-near found after },
+      record { first-long = outputs .first-long; second-long = outputs .second-long },
+    )
+
+add-position : tie.Need-add-position
+add-position c =
+    let written = c .before .before .before .before in
+    let found = start (sent (corrected written)) .pre .0 in
+    omega (arith, fit-small found, found .given .parity-number)
+
+same-length : tie.Need-same-length
+same-length c = search needs
+
+same-length-2 : tie.Need-same-length-2
+same-length-2 c = search needs
+
+returns : tie.Need-returns
+returns c =
+    let written = c .before .before .before .before in
+    let body = corrected written in
+    let (found, after, _, outputs) = start (sent body) .pre in
+    let parts = body .correct-differences .ensures .parts in
+    answers-read _ _ (fit-read found after (sent body .balancing-symbol .ensures))
+    (messages-of (parts true) (parts false) (written .write-pair .ensures)) refl
+
+pub correct-spec : {M : Type 1} → statement M
+correct-spec =
+    tie.close (tie.spec mul-i add-i shared-slice-read-balancing-symbol balancing-symbol-requires correct-differences-requires
+    write-pair-requires add-position same-length same-length-2 returns)

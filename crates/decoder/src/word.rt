@@ -1,0 +1,208 @@
+// Decoding of a received word, by its sums.
+use crate::body::correct_differences;
+use crate::effect::effect_of;
+use crate::effect::syndromes_after;
+use crate::locate::Fit;
+use crate::locate::Search;
+use crate::locate::balancing_symbol;
+use crate::locate::locate;
+use crate::message::write_pair;
+use crate::totals::Totals;
+use crate::totals::sums_of;
+use profiles::Lookup;
+use profiles::Row;
+use profiles::decode_refusal;
+use profiles::row_of;
+use symbols::Syndromes;
+use symbols::columns;
+use syndromes::Verdict;
+use syndromes::verdict;
+ghost use mathlib.Core.Path.{_≡_};
+ghost use lib.Dec.{eqb};
+ghost use Rattle.code_theory.specs.Operations.{answered};
+ghost use Rattle.decoding_theory.specs.Decoded.{decodedBody, decodedUnbalanced, decoded};
+ghost use Rattle.profiles.specs.Row.{Valid, parameters};
+ghost use Rattle.symbols.specs.Columns.{Columns};
+ghost use Rattle.decoder.specs.Received.{BodyArray};
+ghost use Rattle.decoder.specs.Totals.{ReceivedWord, sumsOf, Components, Totalled};
+ghost use Rattle.decoder.specs.Search.{parametersOf, sumsIn, parityOf, After};
+ghost use Rattle.decoder.specs.Locate.{Located};
+ghost use Rattle.decoder.specs.Outputs.{Outputs};
+ghost use Rattle.decoder.specs.Decode.{Answers, DecodeAllows};
+ghost use Rattle.decoder.specs.Steps.{Judged, wrongParity, BalancedAnswers};
+
+// What is said of a changed symbol: its position, from 1, and the symbol sent there.
+pub struct Correction {
+    pub position: usize,
+    pub symbol: u8,
+}
+
+// What a received word is read as; the outputs hold its messages where it is clean or corrected.
+pub enum Decoded {
+    Clean,
+    Corrected(Correction),
+    // 01: number 4.
+    Unreadable,
+    // 01: number 1 to 3.
+    Refused(u8),
+}
+
+// A balanced body: clean, or one check symbol is wrong.
+fn judge(row: Row, s: Totals) -> Decoded
+    requires { ⌜ Valid row × Totalled row s ⌝ }
+    ensures { λ r. ⌜ Judged (parameters row) (sumsOf row s) r ⌝ }
+{
+    let first = s.first;
+    let second = s.second;
+    let asked = s.asked;
+    let arrived = s.arrived;
+    let told = verdict(row.q, row.n, first, second, asked, arrived);
+    match told {
+        Verdict::Clean => Decoded::Clean,
+        Verdict::Alpha => {
+            let position = row.balanced + 1;
+            Decoded::Corrected(Correction {
+                position,
+                symbol: asked.alpha,
+            })
+        }
+        Verdict::Beta => {
+            let position = row.balanced + 2;
+            Decoded::Corrected(Correction {
+                position,
+                symbol: asked.beta,
+            })
+        }
+        Verdict::Unreadable => Decoded::Unreadable,
+    }
+}
+
+// The parity whose check symbol alone disagrees: 0 for the odd positions, 1 for the even ones, 2 where none does or both do.
+fn wrong_parity(s: Totals) -> usize
+    ensures { λ r. ⌜ r ≡ wrongParity (eqb (s .asked .alpha) (s .arrived .alpha)) (eqb (s .asked .beta) (s .arrived .beta)) ⌝ }
+{
+    if s.asked.alpha == s.arrived.alpha {
+        if s.asked.beta == s.arrived.beta {
+            return 2;
+        }
+        return 1;
+    }
+    if s.asked.beta == s.arrived.beta {
+        return 0;
+    }
+    2
+}
+
+// The symbol at index k of the parity corrected, where that is the first that fits and the syndromes are then those given. The
+// components of the word are in x.
+fn correct(
+    search: Search,
+    after: Syndromes,
+    word: &[u8],
+    k: usize,
+    x: &mut [u8; 97],
+    first: &mut [u8],
+    second: &mut [u8],
+) -> Decoded
+    requires { ⌜
+        Located search (now word) k × After search k after × Components (search .row) (now word) (now x)
+        × Outputs (search .row) (now first) (now second) ⌝ }
+    ensures { λ r. ⌜
+        Answers (answered (decodedBody (parametersOf search) (sumsIn search) (parityOf search) (now (word .entry)))) r
+        (now (first .entry)) (now (first .exit)) (now (second .entry)) (now (second .exit)) ⌝ }
+{
+    let i = 2 * k + search.parity;
+    let y = balancing_symbol(search, word[i]);
+    correct_differences(search.row, word, i, y, x);
+    write_pair(search.row, after.first, after.second, x, first, second);
+    let position = i + 1;
+    Decoded::Corrected(Correction {
+        position,
+        symbol: y,
+    })
+}
+
+// An unbalanced body, whose components are in x: one of its symbols changed where exactly one check symbol disagrees.
+fn decode_unbalanced(
+    row: Row,
+    columns: &[[u8; 3]; 48],
+    s: Totals,
+    word: &[u8],
+    x: &mut [u8; 97],
+    first: &mut [u8],
+    second: &mut [u8],
+) -> Decoded
+    requires { ⌜
+        ReceivedWord row (now word) × Columns (row .q) (row .n) (now columns) × Totalled row s × Components row (now word) (now x)
+        × Outputs row (now first) (now second) ⌝ }
+    ensures { λ r. ⌜
+        Answers (answered (decodedUnbalanced (parameters row) (sumsOf row s) (now (word .entry)))) r
+        (now (first .entry)) (now (first .exit)) (now (second .entry)) (now (second .exit)) ⌝ }
+{
+    let parity = wrong_parity(s);
+    if 1 < parity {
+        return Decoded::Unreadable;
+    }
+    let search = Search { row, s, parity };
+    let effect = effect_of(search);
+    let Fit::At(k) = locate(search, columns, &effect.first, &effect.second, word) else {
+        return Decoded::Unreadable;
+    };
+    let after = syndromes_after(search, columns, effect, k);
+    correct(search, after, word, k, x, first, second)
+}
+
+// What follows the balance test of a balanced word, whose components are in x.
+fn decode_balanced(
+    row: Row,
+    s: Totals,
+    x: &mut [u8; 97],
+    first: &mut [u8],
+    second: &mut [u8],
+) -> Decoded
+    requires { ⌜ BodyArray row (now x) × Totalled row s × Outputs row (now first) (now second) ⌝ }
+    ensures { λ r. ⌜
+        BalancedAnswers row s (now (x .entry)) r
+        (now (first .entry)) (now (first .exit)) (now (second .entry)) (now (second .exit)) ⌝ }
+{
+    let found = judge(row, s);
+    if let Decoded::Unreadable = found {
+        return Decoded::Unreadable;
+    }
+    let f = s.first;
+    let g = s.second;
+    write_pair(row, f, g, x, first, second);
+    found
+}
+
+// A word that numbers 1 to 3 let through, by its sums. The columns are built once.
+fn decode_word(row: Row, word: &[u8], first: &mut [u8], second: &mut [u8]) -> Decoded
+    requires { ⌜ ReceivedWord row (now word) × Outputs row (now first) (now second) ⌝ }
+    ensures { λ r. ⌜
+        Answers (answered (decoded (parameters row) (now (word .entry)))) r
+        (now (first .entry)) (now (first .exit)) (now (second .entry)) (now (second .exit)) ⌝ }
+{
+    let matrix = columns(row.q, row.n);
+    let mut x = [0u8; 97];
+    let s = sums_of(row, &matrix, word, &mut x);
+    if s.weight != row.target {
+        return decode_unbalanced(row, &matrix, s, word, &mut x, first, second);
+    }
+    decode_balanced(row, s, &mut x, first, second)
+}
+
+// 01: Read. Refused 1: no such profile; 2: a length is wrong; 3: a symbol is not a level. A refusal and `Unreadable` change no output.
+pub fn decode(profile: usize, word: &[u8], first: &mut [u8], second: &mut [u8]) -> Decoded
+    ensures { λ r. ⌜
+        DecodeAllows profile (now (word .entry)) r
+        (now (first .entry)) (now (first .exit)) (now (second .entry)) (now (second .exit)) ⌝ }
+{
+    let Lookup::Found(row) = row_of(profile) else {
+        return Decoded::Refused(1);
+    };
+    let number = decode_refusal(row, word, first.len(), second.len());
+    if number != 0 {
+        return Decoded::Refused(number);
+    }
+    decode_word(row, word, first, second)
+}

@@ -1,0 +1,131 @@
+-- What a reading prints is small: the place has at most two digits, the symbol and the symbols of the messages one.
+-- Assumes nothing.
+use mathlib.Core.Path.{_≡_, refl, subst}
+use mathlib.Core.Bool.{Bool, true, false, _&&_}
+use mathlib.Core.List.{List, [], _∷_}
+use Prim.Native.Nat.{ℕ, zero, suc, _≤_, _<_, zero-le}
+use native.Mathlib.Nat.{le-trans}
+use native.Mathlib.Numerals.{add-one}
+use lib.Dec.{lit≤, T, leb, ltb, eqb, leb→le, eqb→eq}
+use lib.ListN.{length, set, getD}
+use borrow.Author.Tests.{ltb-true}
+use Rattle.modular_theory.specs.Search.{allBelow}
+use Rattle.modular_theory.proofs.Search.{and-left, and-right, least-le}
+use Rattle.modular_theory.proofs.Residue.{minus-below}
+use Rattle.code_theory.specs.Parameters.{Parameters, messageLength, codewordLength}
+use Rattle.code_theory.specs.Refusal.{Test, firstRefusal}
+use Rattle.code_theory.specs.Component.{Below, message, inCode}
+use Rattle.code_theory.specs.Balance.{differences}
+use Rattle.code_theory.specs.Codeword.{alternate, received, restored, carried, codeword, body}
+use Rattle.code_theory.specs.Reading.{Finding, correctionAt, clean, corrected, correction, Reading, read, unreadable, readAs, reading, nearReading}
+use Rattle.code_theory.specs.Reading.{mends, changedAt, sentAt}
+use Rattle.code_theory.specs.Profiles.{profiles, isProfile, profile}
+use Rattle.code_theory.specs.Operations.{Answer, refused, answered, decodeTests, readUnless, decodeAnswer}
+use Rattle.code_theory.proofs.Refusal.{AllPass, passed-every, number-most}
+use Rattle.code_theory.proofs.Weights.{differences-below}
+use Rattle.code_theory.proofs.Merge.{cases, below-keep}
+use Rattle.code_theory.proofs.Profiles.{every-profile}
+
+-- The symbols of a message are below q.
+
+below-alternate : (q : ℕ) (b : Bool) (z : List ℕ) → Below q z → Below q (alternate b z)
+below-alternate q b [] h i = h i
+below-alternate q true (x ∷ z) h zero = h 0
+below-alternate q true (x ∷ z) h (suc i) = below-alternate q false z (λ j. h (suc j)) i
+below-alternate q false (x ∷ z) h i = below-alternate q true z (λ j. h (suc j)) i
+
+below-set : (q : ℕ) (c : List ℕ) (i y : ℕ) → y < q → Below q c → Below q (set c i y)
+below-set q [] i y k h j = h j
+below-set q (x ∷ c) zero y k h zero = k
+below-set q (x ∷ c) zero y k h (suc j) = h (suc j)
+below-set q (x ∷ c) (suc i) y k h zero = h 0
+below-set q (x ∷ c) (suc i) y k h (suc j) = below-set q c i y k (λ l. h (suc l)) j
+
+below-restored : (p : Parameters) → 1 ≤ p .q → (c : List ℕ) → Below (p .q) c → Below (p .q) (restored p c)
+unfolding restored
+below-restored p h c k =
+    cases (inCode p c) (λ e. rw (e, restored) k) (λ e. rw (e, restored) (below-set (p .q) c _ _ (minus-below (p .q) _ 1 h) k))
+
+below-carried : (p : Parameters) → 1 ≤ p .q → (b : Bool) (u : List ℕ) → Below (p .q) (carried p b u)
+unfolding carried message received
+below-carried p h b u =
+    below-keep (p .q) _ (restored p (received p b u))
+    (below-restored p h (received p b u)
+    (below-alternate (p .q) b (differences p (body p u)) (differences-below p h (body p u))))
+
+-- A reading.
+
+SmallReading : ℕ → ℕ → Reading → Type 0
+SmallReading n q (read f a b) = (correction f .position ≤ n) × (correction f .symbol ≤ q) × Below q a × Below q b
+SmallReading n q unreadable = Unit {0}
+
+read-as : (p : Parameters) → 1 ≤ p .q → (f : Finding) (n : ℕ) (u : List ℕ) → correction f .position ≤ n → correction f .symbol ≤ p .q
+    → SmallReading n (p .q) (readAs p f u)
+unfolding SmallReading
+read-as p h f n u a b = (a, b, below-carried p h true u, below-carried p h false u)
+
+near-small : (p : Parameters) → 1 ≤ p .q → (u : List ℕ) → SmallReading (length u) (p .q) (nearReading p u)
+unfolding nearReading SmallReading sentAt
+near-small p h u =
+    let i = changedAt p u in
+    let found = corrected (correctionAt i (getD u i 0) (sentAt p u i)) in
+    cases (ltb i (length u))
+    (λ e.
+    rw (e, nearReading)
+    (read-as p h found (length u) _ (rw add-one (ltb-true i (length u) e)) (least-le (mends p u i) (p .q))))
+    (λ e. rw (e, nearReading) tt)
+
+reading-small : (p : Parameters) → 1 ≤ p .q → (u : List ℕ) → SmallReading (length u) (p .q) (reading p u)
+unfolding reading
+reading-small p h u =
+    cases (codeword p u) (λ e. rw (e, reading) (read-as p h clean (length u) u zero-le zero-le)) (λ e. rw (e, reading) (near-small p h u))
+
+-- An answer.
+
+abbrev pub SmallAnswer : Answer → Type 0
+SmallAnswer (refused n) = n ≤ 9
+SmallAnswer (answered unreadable) = Unit {0}
+SmallAnswer (answered (read f a b)) = (correction f .position ≤ 99) × (correction f .symbol ≤ 9) × Below 10 a × Below 10 b
+
+-- the numbers of a profile
+smallRow : ℕ → Bool
+smallRow i = leb (codewordLength (profile i)) 99 && (leb 1 (profile i .q) && leb (profile i .q) 9)
+
+small-rows : T (allBelow (λ j. smallRow (suc j)) (length profiles))
+unfolding smallRow profile
+small-rows = tt
+
+small-row : (i : ℕ) → T (isProfile i) → (codewordLength (profile i) ≤ 99) × (1 ≤ profile i .q) × (profile i .q ≤ 9)
+unfolding smallRow
+small-row i h =
+    let f : T (smallRow i) = every-profile smallRow small-rows i h in
+    let g : T (leb 1 (profile i .q) && leb (profile i .q) 9) = and-right (leb (codewordLength (profile i)) 99) _ f in (
+      leb→le _ _ (and-left (leb (codewordLength (profile i)) 99) _ f),
+      leb→le _ _ (and-left (leb 1 (profile i .q)) _ g),
+      leb→le _ _ (and-right (leb 1 (profile i .q)) _ g),
+    )
+
+small-reading : (n q : ℕ) (r : Reading) → n ≤ 99 → q ≤ 9 → SmallReading n q r → SmallAnswer (answered r)
+unfolding SmallReading
+small-reading n q (read f a b) h g s =
+    (le-trans (s .0) h, le-trans (s .1) g, (λ i. le-trans (s .2 i) (le-trans g (lit≤ tt))), (λ i. le-trans (s .3 i) (le-trans g (lit≤ tt))))
+small-reading n q unreadable h g s = tt
+
+pub decode-small : (i : ℕ) (u : List ℕ) (k l : ℕ) → SmallAnswer (decodeAnswer i u k l)
+unfolding decodeAnswer
+decode-small i u k l = go (firstRefusal tests) refl
+  where
+    tests : List Test
+    tests = decodeTests i u k l
+
+    full : AllPass (decodeTests i u k l) → SmallAnswer (answered (reading (profile i) u))
+    full (known, (lengths, rest)) =
+        let n = codewordLength (profile i) in
+        let (few, some, low) = small-row i known in
+        let two = eqb (length u) n && eqb k (messageLength (profile i)) in
+        let long : length u ≡ n = eqb→eq _ _ (and-left (eqb (length u) n) _ (and-left two _ lengths)) in
+        small-reading (length u) (profile i .q) (reading (profile i) u) (rw long few) low (reading-small (profile i) some u)
+
+    go : (n : ℕ) → firstRefusal tests ≡ n → SmallAnswer (readUnless n (reading (profile i) u))
+    go zero e = full (passed-every tests tt e)
+    go (suc n) e = subst (λ (m : ℕ). m ≤ 9) e (number-most 9 tests tt)

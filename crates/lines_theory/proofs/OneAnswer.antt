@@ -1,0 +1,94 @@
+-- Each line gets one answer: an answer has one byte 10, at its end, and so the output has as many as there are lines.
+-- Assumes nothing.
+use mathlib.Core.Path.{_≡_, refl, sym, ap, _∙_}
+use mathlib.Core.Bool.{false}
+use mathlib.Core.List.{List, [], _∷_, _++_, map}
+use Prim.Native.Nat.{ℕ, zero, suc, _+_, _/_, _%_}
+use native.Mathlib.Omega.{arith}
+use lib.Dec.{eqb, ltb}
+use borrow.Author.Tests.{ne-eqb}
+use Rattle.code_theory.specs.Reading.{Finding, clean, corrected, correction, read, unreadable, reading}
+use Rattle.code_theory.specs.Profiles.{profile}
+use Rattle.code_theory.specs.Refusal.{firstRefusal}
+use Rattle.code_theory.specs.Operations.{Answer, refused, answered, readUnless}
+use Rattle.code_theory.proofs.Merge.{cases}
+use Rattle.lines_theory.specs.Line.{digitByte, decimalBefore, decimal, letter, refusalLine, readingLine, answerLine, profileOf, symbolsOf}
+use Rattle.lines_theory.specs.Line.{lineTests, lineAnswer}
+use Rattle.lines_theory.specs.Feed.{Partial, held, tooLong, answerTo, answerAtEnd, lineAfterAll, lineEnds, lastLines}
+use Rattle.lines_theory.specs.Claims.{OneAnswerEach}
+use Rattle.lines_theory.proofs.Whole.{outputFrom, output-whole, line-ends, line-grows}
+use Rattle.lines_theory.proofs.Counting.{ends-append}
+
+-- digits are no byte 10
+ends-digit : (d : ℕ) (t : List ℕ) → lineEnds (digitByte d ∷ t) ≡ lineEnds t
+ends-digit d t = let e : eqb (48 + d) 10 ≡ false = ne-eqb (48 + d) 10 (λ h. omega arith) in rw (e, lineEnds)
+
+ends-digits : (a t : List ℕ) → lineEnds (map digitByte a ++ t) ≡ lineEnds t
+ends-digits [] t = refl
+ends-digits (d ∷ a) t = ends-digit d (map digitByte a ++ t) ∙ ends-digits a t
+
+ends-decimal-before : (k n : ℕ) (t : List ℕ) → lineEnds (decimalBefore k n t) ≡ lineEnds t
+ends-decimal-before zero n t = refl
+ends-decimal-before (suc k) n t =
+    cases (ltb n 10) (λ e. rw (e, decimalBefore) (ends-digit n t))
+    (λ e. rw (e, decimalBefore) (ends-decimal-before k (n / 10) (digitByte (n % 10) ∷ t) ∙ ends-digit (n % 10) t))
+
+ends-decimal : (n : ℕ) (t : List ℕ) → lineEnds (decimal n t) ≡ lineEnds t
+unfolding decimal
+ends-decimal n t = ends-decimal-before 20 n t
+
+-- an answer has one byte 10
+
+ends-refusal : (n : ℕ) → lineEnds (refusalLine n) ≡ 1
+unfolding refusalLine
+ends-refusal n = ends-decimal n (10 ∷ [])
+
+ends-words : (a b : List ℕ) → lineEnds (map digitByte a ++ 32 ∷ (map digitByte b ++ 10 ∷ [])) ≡ 1
+ends-words a b = ends-digits a (32 ∷ (map digitByte b ++ 10 ∷ [])) ∙ ends-digits b (10 ∷ [])
+
+ends-letter : (f : Finding) (t : List ℕ) → lineEnds (letter f ∷ t) ≡ lineEnds t
+ends-letter clean t = refl
+ends-letter (corrected c) t = refl
+
+ends-reading : (i : ℕ) (k : Finding) (position y : ℕ) (a b : List ℕ) → lineEnds (readingLine i (letter k) position y a b) ≡ 1
+unfolding readingLine
+ends-reading i k position y a b =
+    let words : List ℕ = 32 ∷ (map digitByte a ++ 32 ∷ (map digitByte b ++ 10 ∷ [])) in
+    let rest : List ℕ = 32 ∷ decimal y words in
+    ends-digit i (32 ∷ letter k ∷ 32 ∷ decimal position rest)
+    ∙ ends-letter k (32 ∷ decimal position rest)
+    ∙ ends-decimal position rest
+    ∙ ends-decimal y words
+    ∙ ends-words a b
+
+ends-answer : (i : ℕ) (a : Answer) → lineEnds (answerLine i a) ≡ 1
+ends-answer i (refused n) = ends-refusal n
+ends-answer i (answered unreadable) = ends-refusal 4
+ends-answer i (answered (read f a b)) = ends-reading i f (correction f .position) (correction f .symbol) a b
+
+ends-line : (l : List ℕ) → lineEnds (lineAnswer l) ≡ 1
+unfolding lineAnswer
+ends-line l = ends-answer (profileOf l) (readUnless (firstRefusal (lineTests l)) (reading (profile (profileOf l)) (symbolsOf l)))
+
+-- where byte 10 ends the line, and where the input does
+
+ends-to : (p : Partial) → lineEnds (answerTo p) ≡ 1
+ends-to (held l) = ends-line l
+ends-to tooLong = ends-refusal 9
+
+ends-at-end : (p : Partial) → lineEnds (answerAtEnd p) ≡ lastLines p
+ends-at-end (held []) = refl
+ends-at-end (held (b ∷ l)) = ends-line (b ∷ l)
+ends-at-end tooLong = ends-refusal 9
+
+ends-output : (p : Partial) (s : List ℕ) → lineEnds (outputFrom p s) ≡ lineEnds s + lastLines (lineAfterAll p s)
+ends-output p [] = ends-at-end p ∙ omega arith
+ends-output p (b ∷ s) =
+    cases (eqb b 10)
+    (λ e.
+    rw (line-ends p b e .0, line-ends p b e .1, e, lineEnds)
+    (ends-append (answerTo p) (outputFrom (held []) s) ∙ omega (arith, ends-to p, ends-output (held []) s)))
+    (λ e. rw (line-grows p b e .0, line-grows p b e .1, e, lineEnds) (ends-output _ s))
+
+pub one-answer-each : OneAnswerEach
+one-answer-each i = ap lineEnds (sym (output-whole i)) ∙ ends-output (held []) i

@@ -1,0 +1,59 @@
+-- Document 01's example of the line program, byte for byte, and short inputs that end in every way.
+-- Assumes nothing.
+use mathlib.Core.Path.{_≡_}
+use mathlib.Core.List.{List, [], _∷_, _++_}
+use Prim.Native.Nat.{ℕ}
+use lib.ListN.{replicate}
+use Rattle.lines_theory.specs.Stream.{streamOutput}
+
+-- seven lines, the last of them empty but ended
+abbrev pub exampleInput : List ℕ
+exampleInput =
+    (49 ∷ 32 ∷ 49 ∷ 49 ∷ 49 ∷ 49 ∷ 49 ∷ 49 ∷ 49 ∷ 49 ∷ 49 ∷ 49 ∷ 49 ∷ 49 ∷ 49 ∷ 49 ∷ 49 ∷ 49 ∷ 49 ∷ 48 ∷ 50 ∷ 10 ∷ [])
+    ++ (49 ∷ 32 ∷ 49 ∷ 50 ∷ 48 ∷ 48 ∷ 48 ∷ 50 ∷ 49 ∷ 49 ∷ 49 ∷ 49 ∷ 49 ∷ 49 ∷ 49 ∷ 49 ∷ 49 ∷ 50 ∷ 50 ∷ 50 ∷ 48 ∷ 10 ∷ [])
+    ++ (49 ∷ 32 ∷ 50 ∷ 50 ∷ 49 ∷ 49 ∷ 49 ∷ 49 ∷ 49 ∷ 49 ∷ 49 ∷ 49 ∷ 49 ∷ 49 ∷ 49 ∷ 49 ∷ 49 ∷ 49 ∷ 49 ∷ 48 ∷ 50 ∷ 10 ∷ [])
+    ++ (49 ∷ 32 ∷ 51 ∷ 49 ∷ 49 ∷ 49 ∷ 49 ∷ 49 ∷ 49 ∷ 49 ∷ 49 ∷ 49 ∷ 49 ∷ 49 ∷ 49 ∷ 49 ∷ 49 ∷ 49 ∷ 49 ∷ 48 ∷ 50 ∷ 10 ∷ [])
+    ++ (53 ∷ 32 ∷ 49 ∷ 49 ∷ 10 ∷ [])
+    ++ (49 ∷ 32 ∷ 49 ∷ 49 ∷ 49 ∷ 10 ∷ [])
+    ++ (10 ∷ [])
+
+-- and what is printed for each
+abbrev pub exampleOutput : List ℕ
+exampleOutput =
+    (49 ∷ 32 ∷ 67 ∷ 32 ∷ 48 ∷ 32 ∷ 48 ∷ 32 ∷ 48 ∷ 48 ∷ 48 ∷ 48 ∷ 48 ∷ 32 ∷ 48 ∷ 48 ∷ 48 ∷ 48 ∷ 48 ∷ 10 ∷ [])
+    ++ (49 ∷ 32 ∷ 77 ∷ 32 ∷ 54 ∷ 32 ∷ 49 ∷ 32 ∷ 48 ∷ 48 ∷ 48 ∷ 48 ∷ 49 ∷ 32 ∷ 48 ∷ 48 ∷ 48 ∷ 48 ∷ 48 ∷ 10 ∷ [])
+    ++ (82 ∷ 32 ∷ 52 ∷ 10 ∷ [])
+    ++ (82 ∷ 32 ∷ 51 ∷ 10 ∷ [])
+    ++ (82 ∷ 32 ∷ 49 ∷ 10 ∷ [])
+    ++ (82 ∷ 32 ∷ 50 ∷ 10 ∷ [])
+    ++ (82 ∷ 32 ∷ 57 ∷ 10 ∷ [])
+
+-- "R 9" and byte 10
+abbrev pub nine : List ℕ
+nine = 82 ∷ 32 ∷ 57 ∷ 10 ∷ []
+
+-- an input and all that is printed for it
+pub record Example : Type 0 where
+  pub input : List ℕ
+  pub output : List ℕ
+
+abbrev pub AllPrint : List Example → Type 0
+AllPrint [] = Unit {0}
+AllPrint (c ∷ cs) = (streamOutput (c .input) ≡ c .output) × AllPrint cs
+
+abbrev example : List ℕ → List ℕ → Example
+example s o = record { input = s; output = o }
+
+-- 01's example; no input; one byte 10 and two; an unended line; a line of 101 bytes (refused by 4) and lines of 102, ended and not
+abbrev pub examples : List Example
+examples =
+    example exampleInput exampleOutput
+    ∷ example [] []
+    ∷ example (10 ∷ []) nine
+    ∷ example (10 ∷ 10 ∷ []) (nine ++ nine)
+    ∷ example (49 ∷ []) nine
+    ∷ example (53 ∷ 32 ∷ 49 ∷ []) (82 ∷ 32 ∷ 49 ∷ 10 ∷ [])
+    ∷ example (52 ∷ 32 ∷ replicate 99 48) (82 ∷ 32 ∷ 52 ∷ 10 ∷ [])
+    ∷ example (52 ∷ 32 ∷ replicate 100 48) nine
+    ∷ example (52 ∷ 32 ∷ replicate 100 48 ++ 10 ∷ 49 ∷ []) (nine ++ nine)
+    ∷ []

@@ -1,0 +1,4 @@
+pub mod Search
+pub mod Residue
+pub mod Sum
+pub mod Digits

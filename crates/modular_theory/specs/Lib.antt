@@ -1,0 +1,4 @@
+pub mod Search
+pub mod Sum
+pub mod Residue
+pub mod Digits

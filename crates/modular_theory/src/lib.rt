@@ -1,0 +1,1 @@
+// Arithmetic mod q: definitions in specs/, laws in proofs/, no code.

@@ -1,3 +1,0 @@
-pub mod Byte
-pub mod Remainder
-pub mod Level
