@@ -24,7 +24,7 @@ use Rattle.code_theory.proofs.Moves.{Move, NearIn, move-weight, no-move
 use Rattle.code_theory.proofs.Told.{told}
 use Rattle.code_theory.proofs.Distance.{equal-or-not, Differing, differing, TwoApart, two-apart, distance-zero, distance-sym, distance-append}
 use Rattle.code_theory.proofs.Symbols.{symbol-below}
-use Rattle.code_theory.proofs.Lawful.{Lawful, lawful, body-length, balanced-length, body-at}
+use Rattle.code_theory.proofs.Conditions.{Conditions, conditions, body-length, balanced-length, body-at}
 
 -- two changed symbols that keep the weight are a move
 move : (q : ℕ) → 1 ≤ q → (w : List ℕ) (i j a b : ℕ) → i < length w → j < length w → j ≢ i → weight (set (set w i a) j b) ≡ weight w
@@ -119,11 +119,11 @@ pub apart-by-units : ApartByUnits
 unfolding withChecks received
 apart-by-units p s u v hu hv f d = sym (go (equal-or-not (distance w w′) 0))
   where
-    lu : Lawful p u
-    lu = lawful p (q-positive p s) u hu
+    lu : Conditions p u
+    lu = conditions p (q-positive p s) u hu
 
-    lv : Lawful p v
-    lv = lawful p (q-positive p s) v hv
+    lv : Conditions p v
+    lv = conditions p (q-positive p s) v hv
 
     w : List ℕ
     w = body p v
@@ -180,4 +180,4 @@ apart p s h u v hu hv d =
     apart-by-units p s u v hu hv (λ _ i n. differences-invertible (p .q) h (getD u i 0) (getD v i 0) (below u hu i) (below v hv i) n) d
   where
     below : (x : List ℕ) → T (codeword p x) → (i : ℕ) → getD x i 0 < p .q
-    below x hx i = symbol-below (p .q) (q-positive p s) x (lawful p (q-positive p s) x hx .below) i
+    below x hx i = symbol-below (p .q) (q-positive p s) x (conditions p (q-positive p s) x hx .below) i

@@ -24,7 +24,7 @@ use Rattle.code_theory.proofs.Syndrome.{Zero, ColumnOf, code-zero, lowe
 use Rattle.code_theory.proofs.Columns.{q-positive}
 use Rattle.code_theory.proofs.Moves.{Column, neither, first, second, NearIn}
 use Rattle.code_theory.proofs.Symbols.{symbol-below, symbols-set, symbols-append}
-use Rattle.code_theory.proofs.Lawful.{codeword-of, body-with-checks}
+use Rattle.code_theory.proofs.Conditions.{codeword-of, body-with-checks}
 use Rattle.code_theory.proofs.Choice.{length-chosen, tried-index}
 use Rattle.code_theory.proofs.Pair.{length-component, length-interleave, length-interleaved, balance-of-pair}
 use Rattle.code_theory.proofs.Component.{component-holding}
@@ -194,7 +194,7 @@ module _ (p : Parameters) (s : Sized p) (a b : List ℕ) (ha : Holding p a (comp
   unfolding carried received
   encodes =
       record {
-        lawful = codeword-of p (q-positive p s) w long below weighs near;
+        is-codeword = codeword-of p (q-positive p s) w long below weighs near;
         first =
             ap (λ (x : List ℕ). message p (restored p (differenced p true x))) here
             ∙ ap (message p) (restored-made .0)

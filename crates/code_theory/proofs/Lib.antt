@@ -18,7 +18,7 @@ pub mod Component
 -- Why one bad symbol is never taken for another pair
 pub mod Moves
 pub mod Told
-pub mod Lawful
+pub mod Conditions
 pub mod Parity
 pub mod Apart
 pub mod Found

@@ -18,7 +18,7 @@ use Rattle.code_theory.specs.Claims.{ParitySums}
 use Rattle.code_theory.proofs.Weights.{double}
 use Rattle.code_theory.proofs.Columns.{q-positive}
 use Rattle.code_theory.proofs.Delta.{alternate-weight}
-use Rattle.code_theory.proofs.Lawful.{Lawful, lawful, body-length, balanced-length}
+use Rattle.code_theory.proofs.Conditions.{Conditions, conditions, body-length, balanced-length}
 
 -- two symbols after a word of odd length: the first stands at an even position
 after-odd : (n : ℕ) (w : List ℕ) (a b : ℕ) → length w ≡ suc (double n)
@@ -31,8 +31,8 @@ after-odd (suc n) (x ∷ []) a b e = absurd (suc-ne-zero (suc (double n)) (sym (
 after-odd (suc n) (x ∷ y ∷ z) a b e = let (f, g) = after-odd n z a b (suc-inj (suc-inj e)) in (omega arith, omega arith)
 
 module _ (p : Parameters) (s : Sized p) (u : List ℕ) (h : T (codeword p u)) where
-  known : Lawful p u
-  known = lawful p (q-positive p s) u h
+  known : Conditions p u
+  known = conditions p (q-positive p s) u h
 
   abbrev w : List ℕ
   w = body p u

@@ -24,7 +24,7 @@ use Rattle.code_theory.proofs.Symbols.{symbol-below, symbols-set}
 use Rattle.code_theory.proofs.Distance.{distance-self, distance-sym, distance-set, triangle, OneApart, one-apart}
 use Rattle.code_theory.proofs.Merge.{word-length, word-of}
 use Rattle.code_theory.proofs.Found.{found-clean, found-differing, found-sent}
-use Rattle.code_theory.proofs.Lawful.{lawful}
+use Rattle.code_theory.proofs.Conditions.{conditions}
 use Rattle.code_theory.proofs.Apart.{apart}
 
 never : {f : Finding} {a b : List ℕ} → read f a b ≡ unreadable → ⊥
@@ -56,11 +56,11 @@ module _ (p : Parameters) (u : List ℕ) where
 -- two codewords near one word differ in at most two positions
 pub near-is-one : NearIsOne
 near-is-one p s prime v word u w a b =
-    let c = lawful p (q-positive p s) u (a .lawful) in
-    let d = lawful p (q-positive p s) w (b .lawful) in
+    let c = conditions p (q-positive p s) u (a .is-codeword) in
+    let d = conditions p (q-positive p s) w (b .is-codeword) in
     let n : length v ≡ codewordLength p = word-length (p .q) (codewordLength p) v word in
     let both = triangle u v w (c .long ∙ sym n) (n ∙ sym (d .long)) in
-    apart p s prime u w (a .lawful) (b .lawful) (omega (arith, both, a .close, b .close, distance-sym v w))
+    apart p s prime u w (a .is-codeword) (b .is-codeword) (omega (arith, both, a .close, b .close, distance-sym v w))
 
 -- What is read where at most one codeword is near.
 module _ (p : Parameters) (s : Sized p) (one : OneNear p) (v : List ℕ) (word : T (isWord (p .q) (codewordLength p) v)) where
@@ -68,16 +68,16 @@ module _ (p : Parameters) (s : Sized p) (one : OneNear p) (v : List ℕ) (word :
   long = word-length (p .q) (codewordLength p) v word
 
   pub near-self : T (codeword p v) → NearCodeword p v v
-  near-self h = record { lawful = h; close = omega (arith, distance-self v) }
+  near-self h = record { is-codeword = h; close = omega (arith, distance-self v) }
 
   -- a level mends v exactly where it makes a codeword near it
   pub near-mends : (i y : ℕ) → T (mends p v i y) → NearCodeword p v (set v i y)
   unfolding mends
-  near-mends i y h = record { lawful = h; close = omega (arith, distance-sym v (set v i y), distance-set v i y) }
+  near-mends i y h = record { is-codeword = h; close = omega (arith, distance-sym v (set v i y), distance-set v i y) }
 
   pub mends-near : (i y : ℕ) → NearCodeword p v (set v i y) → T (mends p v i y)
   unfolding mends
-  mends-near i y n = n .lawful
+  mends-near i y n = n .is-codeword
 
   -- u, the codeword near v, is v with the symbol at index i as it was sent
   module _ (u : List ℕ) (near : NearCodeword p v u) (i : ℕ) (l : i < length v) (ne : getD u i 0 ≢ getD v i 0)
@@ -92,7 +92,7 @@ module _ (p : Parameters) (s : Sized p) (one : OneNear p) (v : List ℕ) (word :
     not-codeword k = ne (ap (λ (x : List ℕ). getD x i 0) (one v word u v near (near-self k)))
 
     below : getD u i 0 < p .q
-    below = symbol-below (p .q) (q-positive p s) u (lawful p (q-positive p s) u (near .lawful) .below) i
+    below = symbol-below (p .q) (q-positive p s) u (conditions p (q-positive p s) u (near .is-codeword) .below) i
 
     -- no index before i will do, and no symbol before the one sent
     not-before : (j : ℕ) → j < i → T (anyBelow (mends p v j) (p .q)) → ⊥
@@ -123,13 +123,13 @@ module _ (p : Parameters) (s : Sized p) (one : OneNear p) (v : List ℕ) (word :
   sent u near =
       ⊎-elim
       (λ (e : u ≡ v).
-      let h : codeword p v ≡ true = passes (subst (λ (x : List ℕ). T (codeword p x)) e (near .lawful)) in
+      let h : codeword p v ≡ true = passes (subst (λ (x : List ℕ). T (codeword p x)) e (near .is-codeword)) in
       rw e (reads-clean p v h ∙ ap (λ (f : Finding). readAs p f v) (sym (found-clean v))))
       (λ (c : OneApart u v). changed u near (c .i) (subst (λ (x : ℕ). c .i < x) (same ∙ sym long) (c .within)) (c .unequal) (c .back))
       (one-apart u v (same ∙ sym long) (near .close))
     where
       same : length u ≡ codewordLength p
-      same = lawful p (q-positive p s) u (near .lawful) .long
+      same = conditions p (q-positive p s) u (near .is-codeword) .long
 
   none : ((u : List ℕ) → NearCodeword p v u → ⊥) → reading p v ≡ unreadable
   unfolding changedAt
@@ -147,11 +147,11 @@ reading-is p s one v word = record { sent = sent p s one v word; none = none p s
 -- a codeword, and a codeword with a symbol changed, are words of the right length and levels
 module _ (p : Parameters) (s : Sized p) (u : List ℕ) (h : T (codeword p u)) where
   pub codeword-word : T (isWord (p .q) (codewordLength p) u)
-  codeword-word = let l = lawful p (q-positive p s) u h in word-of (p .q) (codewordLength p) u (l .long) (l .below)
+  codeword-word = let l = conditions p (q-positive p s) u h in word-of (p .q) (codewordLength p) u (l .long) (l .below)
 
   pub changed-word : (i y : ℕ) → y < p .q → T (isWord (p .q) (codewordLength p) (set u i y))
   changed-word i y b =
-      let l = lawful p (q-positive p s) u h in
+      let l = conditions p (q-positive p s) u h in
       word-of (p .q) (codewordLength p) (set u i y) (length-set u i y ∙ l .long) (symbols-set (p .q) u i y b (l .below))
 
 -- Demand 3, where the near codeword is within one position.
@@ -160,12 +160,12 @@ module _ (p : Parameters) (s : Sized p) (one : OneNear p) where
   reads = reading-is p s one
 
   near-changed : (u : List ℕ) → T (codeword p u) → (i y : ℕ) → NearCodeword p (set u i y) u
-  near-changed u h i y = record { lawful = h; close = distance-set u i y }
+  near-changed u h i y = record { is-codeword = h; close = distance-set u i y }
 
   changed-sent : (u : List ℕ) → T (codeword p u) → (i y : ℕ) → i < codewordLength p → y < p .q → y ≢ getD u i 0
       → reading p (set u i y) ≡ readAs p (corrected (correctionAt i y (getD u i 0))) u
   changed-sent u h i y l b ne =
-      let within : i < length u = subst (λ (x : ℕ). i < x) (sym (lawful p (q-positive p s) u h .long)) l in
+      let within : i < length u = subst (λ (x : ℕ). i < x) (sym (conditions p (q-positive p s) u h .long)) l in
       let here : getD (set u i y) i 0 ≡ y = getD-set-same u i y 0 within in
       let found : findingOf (set u i y) u ≡ corrected (correctionAt i y (getD u i 0)) =
       found-differing (set u i y) u i (lt-length-set u i y within) (λ e. ne (sym here ∙ e)) (λ j d. getD-set-other u i j y 0 d)
@@ -176,14 +176,14 @@ module _ (p : Parameters) (s : Sized p) (one : OneNear p) where
   others u v hu hv ne i y b =
       le-of-not-lt
       (λ (d : distance v (set u i y) < 2).
-      ne (one (set u i y) (changed-word p s u hu i y b) v u (record { lawful = hv; close = le-of-suc-le-suc d }) (near-changed u hu i y)))
+      ne (one (set u i y) (changed-word p s u hu i y b) v u (record { is-codeword = hv; close = le-of-suc-le-suc d }) (near-changed u hu i y)))
 
   -- a word is refused exactly when no codeword is near it
   refused : (v : List ℕ) → T (isWord (p .q) (codewordLength p) v)
       → (reading p v ≡ unreadable) ↔ ((u : List ℕ) → T (codeword p u) → 2 ≤ distance u v)
   refused v word = (
-    λ e u h. le-of-not-lt (λ d. never (sym (reads v word .sent u (record { lawful = h; close = le-of-suc-le-suc d })) ∙ e)),
-    λ f. reads v word .none (λ u near. not-le-of-lt (f u (near .lawful)) (near .close)),
+    λ e u h. le-of-not-lt (λ d. never (sym (reads v word .sent u (record { is-codeword = h; close = le-of-suc-le-suc d })) ∙ e)),
+    λ f. reads v word .none (λ u near. not-le-of-lt (f u (near .is-codeword)) (near .close)),
   )
 
   corrects : Corrects p

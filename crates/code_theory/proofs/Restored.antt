@@ -19,7 +19,7 @@ use Rattle.code_theory.proofs.Weights.{length-differenced}
 use Rattle.code_theory.proofs.Syndrome.{Zero, ColumnOf, code-zero, zero-code, lowered-column, column-lowered}
 use Rattle.code_theory.proofs.Columns.{q-positive, last-row, last-below, one-not-zero, columns-differ}
 use Rattle.code_theory.proofs.Moves.{Column, Near, neither, first, second}
-use Rattle.code_theory.proofs.Lawful.{Lawful, lawful, body-length, balanced-length}
+use Rattle.code_theory.proofs.Conditions.{Conditions, conditions, body-length, balanced-length}
 
 -- the test decides which
 restored-in : (p : Parameters) (c : List ℕ) → inCode p c ≡ true → restored p c ≡ c
@@ -84,8 +84,8 @@ pub one-pair : OnePair
 unfolding carried received
 one-pair p s u h = (carries (l .near), only)
   where
-    l : Lawful p u
-    l = lawful p (q-positive p s) u h
+    l : Conditions p u
+    l = conditions p (q-positive p s) u h
 
     long : (b : Bool) → length (received p b u) ≡ p .n
     long b = length-differenced p b (body p u) (body-length p u (l .long) ∙ balanced-length p)

@@ -62,7 +62,7 @@ OneComponent =
 
 -- u is a codeword, it carries the pair a, b, and its check symbols are balanced
 pub record Encodes (p : Parameters) (u a b : List ℕ) : Type 0 where
-  pub lawful : T (codeword p u)
+  pub is-codeword : T (codeword p u)
   pub first : carried p true u ≡ a
   pub second : carried p false u ≡ b
   pub checks : alpha (p .q) (body p u) + beta (p .q) (body p u) ≡ p .q - 1
@@ -128,7 +128,7 @@ Apart =
 
 -- u is a codeword near v: it may have been sent where v arrived
 pub record NearCodeword (p : Parameters) (v u : List ℕ) : Type 0 where
-  pub lawful : T (codeword p u)
+  pub is-codeword : T (codeword p u)
   pub close : distance u v ≤ 1
 
 -- there is at most one

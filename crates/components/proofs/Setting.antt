@@ -23,11 +23,11 @@ use Rattle.components.proofs.Interleaving.{set-first, set-second, set-h
 pub position-one : (q : ℕ) → 1 ≡ checkPosition q 1
 position-one q = sym (pow-zero q)
 
-pub position-middle : (q : ℕ) → q ≡ checkPosition q 2
-position-middle q = omega (arith, pow-suc q 0, ap (λ (x : ℕ). x * q) (pow-zero q))
+pub position-mid : (q : ℕ) → q ≡ checkPosition q 2
+position-mid q = omega (arith, pow-suc q 0, ap (λ (x : ℕ). x * q) (pow-zero q))
 
 pub position-high : (q : ℕ) → q * q ≡ checkPosition q 3
-position-high q = ap (λ (x : ℕ). x * q) (position-middle q) ∙ sym (pow-suc q 1)
+position-high q = ap (λ (x : ℕ). x * q) (position-mid q) ∙ sym (pow-suc q 1)
 
 -- k check symbols of both components of x₀ are set
 record Setting (t : Row) (e f x₀ x : List ℕ) (k : ℕ) : Type 0 where
@@ -77,7 +77,7 @@ module _ (t : Row) (valid : Valid t) where
         setting-more 2
         (setting-more 1
         (setting-more 0 (record { head = refl; first = refl; second = refl; past = λ i l. refl }) (omega arith) refl) (omega arith)
-        (position-one (t .q))) h (position-middle (t .q))
+        (position-one (t .q))) h (position-mid (t .q))
 
     pub filled-three : t .r ≡ 3 → Filled t x₀ e f three
     filled-three r = setting-all r (setting-three (omega arith))

@@ -11,7 +11,7 @@ use Rattle.modular_theory.specs.Sum.{weight}
 use Rattle.code_theory.specs.Parameters.{balancedLength, balancingValue, delta}
 use Rattle.code_theory.specs.Codeword.{alpha, beta, body, received}
 use Rattle.code_theory.proofs.Columns.{q-positive}
-use Rattle.code_theory.proofs.Lawful.{body-length}
+use Rattle.code_theory.proofs.Conditions.{body-length}
 use Rattle.code_theory.proofs.Delta.{alternate-weight}
 use Rattle.decoding_theory.specs.Syndromes.{syndromes}
 use Rattle.decoding_theory.specs.Decoded.{sums, checkSymbol, checkIndex, target, lack}

@@ -70,9 +70,9 @@ module _ (p : Parameters) (s : Sized p) (one : OneNear p) (v : List ℕ) (w : T 
     where
       near : (u : List ℕ) → NearCodeword p v u → ⊥
       near u n =
-          let word : T (isWord (p .q) (codewordLength p) u) = codeword-tests p u (n .lawful) .word in
+          let word : T (isWord (p .q) (codewordLength p) u) = codeword-tests p u (n .is-codeword) .word in
           let size : length u ≡ codewordLength p = word-length (p .q) (codewordLength p) u word in
-          ⊎-elim (λ (e : u ≡ v). f (subst (λ (x : List ℕ). T (codeword p x)) e (n .lawful)))
+          ⊎-elim (λ (e : u ≡ v). f (subst (λ (x : List ℕ). T (codeword p x)) e (n .is-codeword)))
           (λ (c : OneApart u v).
           let y : ℕ = getD u (c .i) 0 in
           let below : y < p .q = word-below (p .q) (codewordLength p) u (q-positive p s) word (c .i) in

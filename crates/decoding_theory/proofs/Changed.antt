@@ -19,7 +19,7 @@ use Rattle.code_theory.specs.Parameters.{Parameters, Sized, balancedLength, cod
 use Rattle.code_theory.specs.Codeword.{body, received, hasComponents}
 use Rattle.code_theory.proofs.Weights.{double, double-is, parity, times-pred}
 use Rattle.code_theory.proofs.Columns.{q-positive}
-use Rattle.code_theory.proofs.Lawful.{body-length, balanced-length, body-at}
+use Rattle.code_theory.proofs.Conditions.{body-length, balanced-length, body-at}
 use Rattle.decoding_theory.specs.Syndromes.{index}
 use Rattle.decoding_theory.specs.Decoded.{checkSymbol, checkIndex, Sums, sums, update, movedSums, target, lack, nearAfter, positionCount}
 use Rattle.decoding_theory.proofs.Tests.{for-both}

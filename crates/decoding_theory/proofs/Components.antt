@@ -13,7 +13,7 @@ use Rattle.code_theory.specs.Component.{message}
 use Rattle.code_theory.specs.Codeword.{body, received, nearComponents, hasComponents, carried}
 use Rattle.code_theory.specs.Reading.{Finding, read, readAs}
 use Rattle.code_theory.proofs.Weights.{length-differenced}
-use Rattle.code_theory.proofs.Lawful.{body-length, balanced-length}
+use Rattle.code_theory.proofs.Conditions.{body-length, balanced-length}
 use Rattle.decoding_theory.specs.Syndromes.{zeroSyndrome, columnSyndrome, nearSyndrome, nearSyndromes, restoredBy}
 use Rattle.decoding_theory.specs.Decoded.{readBy}
 use Rattle.decoding_theory.proofs.Near.{Rows, zero-test, near-test, restored-by}

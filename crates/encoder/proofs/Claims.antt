@@ -37,7 +37,7 @@ word-of-pair i a b l known c =
     record {
       balance = balance-of-pair (profile i) s a b .1;
       word = refl;
-      lawful = e .lawful;
+      is-codeword = e .is-codeword;
       first = e .first;
       second = e .second;
     }

@@ -31,7 +31,7 @@ pub record WordOf (i : ℕ) (a b u : List ℕ) : Type 0 where
   pub balance : Balanced (profile i) (interleaved (profile i) a b)
   -- w of that choice, α, β
   pub word : u ≡ withChecks (profile i .q) (balanced (profile i) (interleaved (profile i) a b))
-  pub lawful : T (codeword (profile i) u)
+  pub is-codeword : T (codeword (profile i) u)
   -- the pair that it carries
   pub first : carried (profile i) true u ≡ a
   pub second : carried (profile i) false u ≡ b

@@ -12,7 +12,7 @@ pub round-trip : RoundTrip
 round-trip i a b made out word h p e s r before-first first before-second second d first-long second-long =
     let w = encode-writes i a b made out word h p e s .1 in
     let (clean, pair) =
-    decode-corrects-at i p .unchanged word (w .lawful) r first second
+    decode-corrects-at i p .unchanged word (w .is-codeword) r first second
     record {
       before-first = before-first;
       before-second = before-second;

@@ -53,6 +53,6 @@ pub record Added (s : Unreduced) (column : List ℕ) (x : ℕ) (r : Unreduced) :
   pub high : r .high ≡ s .high + getD column 2 0 * x
   pub ones : r .ones ≡ s .ones + x
   pub low-more : r .low ≤ s .low + 65025
-  pub middle-more : r .mid ≤ s .mid + 65025
+  pub mid-more : r .mid ≤ s .mid + 65025
   pub high-more : r .high ≤ s .high + 65025
   pub ones-more : r .ones ≤ s .ones + 65025

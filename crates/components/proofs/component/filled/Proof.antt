@@ -4,7 +4,7 @@ use mathlib.Core.Path.{_≡_}
 use borrow.Author.Needs.{needs}
 use native.Mathlib.Omega.{arith}
 use Rattle.components.specs.Checks.{checkSymbols}
-use Rattle.components.proofs.Setting.{position-inside, position-middle, position-high, filled-three, filled-four}
+use Rattle.components.proofs.Setting.{position-inside, position-mid, position-high, filled-three, filled-four}
 use Rattle.components.proofs.component.filled.Statement.{statement}
 use Rattle.components.proofs.component.filled.Tie as tie
 
@@ -20,7 +20,7 @@ set-pair-requires-2 c κs = search needs
 set-pair-requires-3 : tie.Need-set-pair-requires-3
 set-pair-requires-3 c κs =
     let a = c .before .before .before .before .before .before in
-    position-inside (a .args .row) (a .pre .0) 2 (a .pre .1) (position-middle (a .args .row .q))
+    position-inside (a .args .row) (a .pre .0) 2 (a .pre .1) (position-mid (a .args .row .q))
 
 mul-set-pair : tie.Need-mul-set-pair
 mul-set-pair c =

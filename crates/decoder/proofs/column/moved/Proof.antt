@@ -35,7 +35,7 @@ returns-3 c =
     let some = within .before .before in
     let asked = some .before .pre in
     let made = c .moved-rows .ensures in
-    let same = four-equal (made .low) (made .target) (made .high) (made .ones) in
+    let same = four-equal (made .low) (made .mid) (made .high) (made .ones) in
     moved-column _ (asked .0) _ (asked .2) _ (asked .1) _ (some .if1 .left) (within .if2 .left) same
 
 pub moved-spec : {M : Type 1} → statement M

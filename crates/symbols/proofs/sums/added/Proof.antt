@@ -68,7 +68,7 @@ returns c =
       high = rw (d .wide324 .ensures .0, y);
       ones = rw y;
       low-more = omega (arith, low-small (d .before .before .before .before));
-      middle-more = omega (arith, middle-small (d .before .before));
+      mid-more = omega (arith, middle-small (d .before .before));
       high-more = omega (arith, high-small d);
       ones-more = omega (arith, d .before .before .before .before .before .wide32 .ensures .1);
     }

@@ -19,7 +19,7 @@ use Rattle.code_theory.proofs.Weights.{double, double-is}
 use Rattle.code_theory.proofs.Syndrome.{code-zero, zero-code, near-cases, zero-near, column-near}
 use Rattle.code_theory.proofs.Moves.{Near, neither, first, second, NearIn}
 
-pub record Lawful (p : Parameters) (u : List ℕ) : Type 0 where
+pub record Conditions (p : Parameters) (u : List ℕ) : Type 0 where
   pub long : length u ≡ codewordLength p
   pub below : T (symbolsBelow (p .q) u)
   pub weighs : weight (body p u) ≡ balancingValue (p .q) (balancedLength p)
@@ -87,11 +87,11 @@ alphaRight p u = eqb (getD u (balancedLength p) 0) (alpha (p .q) (body p u))
 abbrev betaRight : Parameters → List ℕ → Bool
 betaRight p u = eqb (getD u (balancedLength p + 1) 0) (beta (p .q) (body p u))
 
-pub lawful : (p : Parameters) → 1 ≤ p .q → (u : List ℕ) → T (codeword p u) → Lawful p u
+pub conditions : (p : Parameters) → 1 ≤ p .q → (u : List ℕ) → T (codeword p u) → Conditions p u
 unfolding codeword isBalanced hasChecks hasComponents withChecks body
-lawful p h u k = from (and-parts (isWord (p .q) (codewordLength p) u) (isBalanced p u) (hasChecks p u) (hasComponents p u) k)
+conditions p h u k = from (and-parts (isWord (p .q) (codewordLength p) u) (isBalanced p u) (hasChecks p u) (hasComponents p u) k)
   where
-    from : T (isWord (p .q) (codewordLength p) u) × T (isBalanced p u) × T (hasChecks p u) × T (hasComponents p u) → Lawful p u
+    from : T (isWord (p .q) (codewordLength p) u) × T (isBalanced p u) × T (hasChecks p u) × T (hasComponents p u) → Conditions p u
     from t =
         record {
           long = long;
