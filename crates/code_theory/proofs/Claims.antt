@@ -6,7 +6,7 @@ use Rattle.code_theory.proofs.Pair.{balance-of-pair}
 use Rattle.code_theory.proofs.Component.{one-component}
 use Rattle.code_theory.proofs.Encoded.{choice-carries, encoded-carries}
 use Rattle.code_theory.proofs.Restored.{one-pair}
-use Rattle.code_theory.proofs.Parity.{parity-sums}
+use Rattle.code_theory.proofs.Parity.{parity-sums, checks-balanced}
 use Rattle.code_theory.proofs.Apart.{apart-by-units, differences-invertible, apart}
 use Rattle.code_theory.proofs.Reading.{near-is-one, reading-is, reading-corrects}
 use Rattle.code_theory.proofs.Profiles.{profiles-fit}
@@ -22,6 +22,7 @@ claims =
       encoded-carries = encoded-carries;
       one-pair = one-pair;
       parity-sums = parity-sums;
+      checks-balanced = checks-balanced;
       apart-by-units = apart-by-units;
       differences-invertible = differences-invertible;
       apart = apart;

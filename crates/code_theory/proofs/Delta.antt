@@ -68,10 +68,10 @@ sum-exact q a b ha hb e =
         let f : a + b - q ≡ q - 1 = small {q = q} (omega arith) (omega arith) (symm (multiple q (a + b - q) 1) then of-eq (sym d) then e) in
         omega arith
 
-pub checks-balanced : (q : ℕ) (w : List ℕ) → q % 2 ≡ 1 → 2 ≤ length w → weight w ≡ balancingValue q (length w)
+pub checks-exact : (q : ℕ) (w : List ℕ) → q % 2 ≡ 1 → 2 ≤ length w → weight w ≡ balancingValue q (length w)
     → alpha q w + beta q w ≡ q - 1
 unfolding alpha beta balancingValue
-checks-balanced q w odd two k =
+checks-exact q w odd two k =
     let h : ℕ = q / 2 in
     let l : 1 ≤ q = omega arith in
     let e : q - 1 ≡ 2 * h = omega arith in

@@ -29,7 +29,6 @@ use Rattle.code_theory.proofs.Choice.{length-chosen, tried-index}
 use Rattle.code_theory.proofs.Pair.{length-component, length-interleave, length-interleaved, balance-of-pair}
 use Rattle.code_theory.proofs.Component.{component-holding}
 use Rattle.code_theory.proofs.Restored.{restored-zero, restored-column}
-use Rattle.code_theory.proofs.Delta.{checks-balanced}
 use Rattle.code_theory.proofs.Alternate.{alternate-first, alternate-second, minus-sum, differences-integrate, integrate-below, first-set, first-kept, second-set, second-kept, first-at, second-at}
 
 -- what 1 added to the symbol at k makes of a component is undone there
@@ -203,9 +202,6 @@ module _ (p : Parameters) (s : Sized p) (a b : List ℕ) (ha : Holding p a (comp
             ap (λ (x : List ℕ). message p (restored p (differenced p false x))) here
             ∙ ap (message p) (restored-made .1)
             ∙ hb .holds;
-        checks =
-            ap (λ (x : List ℕ). alpha (p .q) x + beta (p .q) x) here
-            ∙ checks-balanced (p .q) w (s .odd) (omega (arith, long, s .second)) (weighs ∙ ap (balancingValue (p .q)) (sym long));
       }
 
 pub choice-carries : ChoiceCarries

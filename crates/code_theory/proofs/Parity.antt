@@ -1,23 +1,24 @@
 -- What the symbols of a codeword at odd and at even positions add up to: since w has an odd number of symbols, α stands at an even position
 -- and β at an odd one, so each stands among the symbols that it does not sum.
 -- Assumes nothing.
-use mathlib.Core.Path.{_≡_, sym, ap, _∙_}
+use mathlib.Core.Path.{_≡_, sym, ap, ap₂, _∙_}
 use mathlib.Core.Bool.{true, false}
 use mathlib.Core.List.{List, [], _∷_, _++_}
 use Prim.Native.Nat.{ℕ, zero, suc, _+_}
 use native.Mathlib.Nat.{suc-ne-zero, suc-inj}
 use native.Mathlib.Omega.{arith}
 use lib.Dec.{T}
-use lib.ListN.{length}
+use lib.ListN.{length, getD}
+use lib.Seq.{getD-append-seam, getD-append-add}
 use Rattle.modular_theory.specs.Sum.{weight}
 use Rattle.modular_theory.specs.Residue.{Congruent}
 use Rattle.modular_theory.proofs.Residue.{of-eq, same, _then_, add, reduce}
 use Rattle.code_theory.specs.Parameters.{Parameters, Sized, balancedLength, balancingValue, delta}
 use Rattle.code_theory.specs.Codeword.{alternate, alpha, beta, withChecks, body, codeword}
-use Rattle.code_theory.specs.Claims.{ParitySums}
+use Rattle.code_theory.specs.Claims.{ParitySums, ChecksBalanced}
 use Rattle.code_theory.proofs.Weights.{double}
 use Rattle.code_theory.proofs.Columns.{q-positive}
-use Rattle.code_theory.proofs.Delta.{alternate-weight}
+use Rattle.code_theory.proofs.Delta.{alternate-weight, checks-exact}
 use Rattle.code_theory.proofs.Conditions.{Conditions, conditions, body-length, balanced-length}
 
 -- two symbols after a word of odd length: the first stands at an even position
@@ -71,3 +72,18 @@ module _ (p : Parameters) (s : Sized p) (u : List ℕ) (h : T (codeword p u)) wh
 
 pub parity-sums : ParitySums
 parity-sums p s u h = (odd-sum p s u h .same, even-sum p s u h .same)
+
+-- the check symbols stand after the body
+pub checks-balanced : ChecksBalanced
+unfolding withChecks
+checks-balanced p s u h =
+    let w : List ℕ = body p u in
+    let c = known p s u h in
+    let m : length w ≡ balancedLength p = long p s u h in
+    let a : ℕ = alpha (p .q) w in
+    let b : ℕ = beta (p .q) w in
+    let first : getD u (length w) 0 ≡ a = ap (λ (x : List ℕ). getD x (length w) 0) (c .checks) ∙ getD-append-seam w a (b ∷ []) 0 in
+    let second : getD u (length w + 1) 0 ≡ b = ap (λ (x : List ℕ). getD x (length w + 1) 0) (c .checks) ∙ getD-append-add w (a ∷ b ∷ []) 1 0 in
+    ap₂ (λ (i j : ℕ). getD u i 0 + getD u j 0) (sym m) (ap (λ (i : ℕ). i + 1) (sym m))
+    ∙ ap₂ (λ (x y : ℕ). x + y) first second
+    ∙ checks-exact (p .q) w (s .odd) (omega (arith, m, s .second)) (c .weighs ∙ ap (balancingValue (p .q)) (sym m))

@@ -12,7 +12,7 @@ use Rattle.modular_theory.specs.Residue.{Invertible, Prime, minus}
 use Rattle.code_theory.specs.Parameters.{Parameters, Sized, messageLength, balancedLength, codewordLength, balancingValue, delta}
 use Rattle.code_theory.specs.Component.{isWord, inCode, message, component}
 use Rattle.code_theory.specs.Balance.{chosen, earliestS, earliestV, balanced}
-use Rattle.code_theory.specs.Codeword.{alternate, alpha, beta, withChecks, interleaved, encoded, body, received, lowered, codeword, carried}
+use Rattle.code_theory.specs.Codeword.{alternate, withChecks, interleaved, encoded, received, lowered, codeword, carried}
 use Rattle.code_theory.specs.Reading.{distance, clean, corrected, findingOf, unreadable, readAs, reading}
 use Rattle.code_theory.specs.Profiles.{isProfile, profile, table, derivedRow}
 use Rattle.code_theory.specs.Cases.{AllHold, starred}
@@ -60,12 +60,11 @@ OneComponent =
 
 -- Codewords and the pair that each carries.
 
--- u is a codeword, it carries the pair a, b, and its check symbols are balanced
+-- u is a codeword, and it carries the pair a, b
 pub record Encodes (p : Parameters) (u a b : List ℕ) : Type 0 where
   pub is-codeword : T (codeword p u)
   pub first : carried p true u ≡ a
   pub second : carried p false u ≡ b
-  pub checks : alpha (p .q) (body p u) + beta (p .q) (body p u) ≡ p .q - 1
 
 -- so it is with the word of every balancing choice
 abbrev pub ChoiceCarries : Type 0
@@ -110,6 +109,12 @@ ParitySums =
     (p : Parameters) → Sized p → (u : List ℕ) → T (codeword p u)
     → (weight (alternate true u) % p .q ≡ balancingValue (p .q) (balancedLength p) % p .q)
     × (weight (alternate false u) % p .q ≡ (balancingValue (p .q) (balancedLength p) + delta (p .q) (balancedLength p)) % p .q)
+
+-- and its check symbols, α and β, add up to q - 1
+abbrev pub ChecksBalanced : Type 0
+ChecksBalanced =
+    (p : Parameters) → Sized p → (u : List ℕ) → T (codeword p u)
+    → getD u (balancedLength p) 0 + getD u (balancedLength p + 1) 0 ≡ p .q - 1
 
 -- two codewords that differ in at most two positions are equal, where, if there are two, each difference has an inverse mod q
 abbrev pub ApartByUnits : Type 0
@@ -182,6 +187,7 @@ pub record Claims : Type 0 where
   pub encoded-carries : EncodedCarries
   pub one-pair : OnePair
   pub parity-sums : ParitySums
+  pub checks-balanced : ChecksBalanced
   pub apart-by-units : ApartByUnits
   pub differences-invertible : DifferencesInvertible
   pub apart : Apart

@@ -1,4 +1,4 @@
--- Syndromes as the code has them, four rows whatever r is, against the r rows of crate decoding.
+-- Syndromes as the code has them, four rows whatever r is, against the r rows of crate decoding_theory.
 -- Assumes nothing.
 use mathlib.Core.Path.{_≡_}
 use mathlib.Core.Bool.{true, false}

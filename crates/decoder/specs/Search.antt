@@ -19,7 +19,7 @@ use Rattle.decoder.specs.Rows.{FourRows, rowsOf}
 use Rattle.decoder.specs.Sides.{isFirst}
 use Rattle.decoder.specs.Totals.{sumsOf, Totalled}
 
--- the parameters, the sums and the parity, as the definitions of crate decoding have them
+-- the parameters, the sums and the parity, as the definitions of crate decoding_theory have them
 abbrev pub parametersOf : Search → Parameters
 parametersOf x = parameters (x .row)
 

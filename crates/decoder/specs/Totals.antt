@@ -1,4 +1,4 @@
--- What the decoder sums over a received word, as the definitions of crate decoding have it.
+-- What the decoder sums over a received word, as the definitions of crate decoding_theory have it.
 -- Assumes nothing.
 use mathlib.Core.Path.{_≡_}
 use mathlib.Core.Bool.{Bool, true, false}

@@ -1,4 +1,4 @@
--- Laws of tests that the searches of crate modular do not have, by cases.
+-- Laws of tests that the searches of crate modular_theory do not have, by cases.
 -- Assumes nothing.
 use mathlib.Core.Path.{_≡_, subst}
 use mathlib.Core.Bool.{Bool, true, false, not, _&&_}

@@ -1,5 +1,5 @@
 -- Every claim of specs/Claims.antt, proved. What the contracts allow is what the definitions say, so the list rule of the definitions
--- (crate `sheet`) is theirs.
+-- (crate `queue_theory`) is theirs.
 -- Assumes nothing.
 use mathlib.Core.Path.{_≡_, refl, sym, ap, ap₂, subst, _∙_}
 use mathlib.Core.List.{List, [], _∷_}

@@ -1,4 +1,4 @@
--- The tests of crate decoding on syndromes of four rows.
+-- The tests of crate decoding_theory on syndromes of four rows.
 -- Assumes nothing.
 use mathlib.Core.Bool.{Bool}
 use mathlib.Core.List.{List}

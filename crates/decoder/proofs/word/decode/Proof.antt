@@ -1,4 +1,4 @@
--- `decoder::word::decode` meets its contract: the refusals come first, and of a word that they let through the theorem of crate decoding
+-- `decoder::word::decode` meets its contract: the refusals come first, and of a word that they let through the theorem of crate decoding_theory
 -- says that what its sums lead to is the reading.
 -- Assumes nothing.
 use borrow.Author.Needs.{needs}

@@ -1,4 +1,4 @@
--- `modular::byteOf::add` meets its contract: the sum is below q, or has q taken off.
+-- `modular::byte::add` meets its contract: the sum is below q, or has q taken off.
 -- Assumes nothing.
 use borrow.Author.Needs.{needs}
 use Rattle.modular.proofs.Bytes.{sum-low, sum-high}

@@ -1,4 +1,4 @@
--- `modular::byteOf::sub` meets its contract: the difference is not below 0, or has q put on.
+-- `modular::byte::sub` meets its contract: the difference is not below 0, or has q put on.
 -- Assumes nothing.
 use native.Mathlib.Omega.{arith}
 use borrow.Author.Needs.{needs}
