@@ -12,7 +12,8 @@ use Rattle.modular_theory.specs.Residue.{Invertible, Prime, minus}
 use Rattle.code_theory.specs.Parameters.{Parameters, Sized, messageLength, balancedLength, codewordLength, balancingValue, delta}
 use Rattle.code_theory.specs.Component.{isWord, inCode, message, component}
 use Rattle.code_theory.specs.Balance.{chosen, earliestS, earliestV, balanced}
-use Rattle.code_theory.specs.Codeword.{alternate, alpha, beta, withChecks, interleaved, encoded, body, received, lowered, codeword, carried}
+use Rattle.code_theory.specs.Codeword.{alternate, alpha, beta, withChecks, interleaved}
+use Rattle.code_theory.specs.Codeword.{encoded, body, received, lowered, codeword, carried}
 use Rattle.code_theory.specs.Reading.{distance, clean, corrected, findingOf, unreadable, readAs, reading}
 use Rattle.code_theory.specs.Profiles.{isProfile, profile, table, derivedRow}
 use Rattle.code_theory.specs.Cases.{AllHold, starred}
