@@ -1,5 +1,5 @@
--- By which of 01's numbers 1 to 3 a call is refused: 1 where the number is no profile's, and by a profile's row 2 and 3, by a test of the lengths and
--- one of the symbols. And what is known of a call that no number refuses.
+-- By which of 01's numbers 1 to 3 a call is refused: 1 where the number is no profile's, and by a profile's row 2 and 3, by a test of the
+-- lengths and one of the symbols. And what is known of a call that no number refuses.
 -- Assumes nothing.
 use mathlib.Core.Path.{_≡_, refl, sym, ap, _∙_}
 use mathlib.Core.Logic.{_≢_}

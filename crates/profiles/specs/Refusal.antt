@@ -1,4 +1,4 @@
--- The numbers that refuse a call in a profile before a word is encoded or read (01: Write and Read, numbers 2 and 3), by the numbers of a row.
+-- The numbers that refuse a call in a profile before a word is encoded or read (01: Write and Read, numbers 2 and 3), by a row's numbers.
 -- Assumes nothing.
 use mathlib.Core.Bool.{Bool, _&&_}
 use mathlib.Core.List.{List, [], _∷_}

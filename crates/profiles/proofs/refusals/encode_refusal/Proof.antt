@@ -34,11 +34,4 @@ returns-4 c =
 
 pub encode-refusal-spec : {M : Type 1} → statement M
 encode-refusal-spec =
-    tie.close
-    (tie.spec
-    returns
-    symbols-below-requires
-    returns-2
-    symbols-below-requires-2
-    returns-3
-    returns-4)
+    tie.close (tie.spec returns symbols-below-requires returns-2 symbols-below-requires-2 returns-3 returns-4)

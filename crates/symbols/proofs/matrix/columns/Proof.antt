@@ -1,5 +1,5 @@
--- `symbols::matrix::columns` meets its contract. The invariant: the rows of the positions passed are built, and the last of them is counted. The
--- measure is what is left.
+-- `symbols::matrix::columns` meets its contract. The invariant: the rows of the positions passed are built, and the last of them is
+-- counted. The measure is what is left.
 -- Assumes nothing.
 use mathlib.Core.Path.{_≡_, refl, _∙_}
 use Prim.Native.Nat.{_-_, _≤_}
@@ -49,16 +49,5 @@ returns c =
 
 pub columns-spec : {M : Type 1} → statement M
 columns-spec =
-    tie.close
-    (tie.spec
-    Inv-loop
-    μ-loop
-    positions-requires
-    loop-holds
-    next-requires
-    mul-table
-    array-set-from-table
-    add-i
-    loop-less
-    loop-again
-    returns)
+    tie.close (tie.spec Inv-loop μ-loop positions-requires loop-holds next-requires mul-table array-set-from-table add-i loop-less
+    loop-again returns)

@@ -75,20 +75,5 @@ returns c =
 
 pub added-spec : {M : Type 1} → statement M
 added-spec =
-    tie.close
-    (tie.spec
-    wide32-requires
-    array-read-wide32
-    wide32-requires-2
-    mul-t10
-    add-t11
-    array-read-wide32-2
-    wide32-requires-3
-    mul-t16
-    add-t17
-    array-read-wide32-3
-    wide32-requires-4
-    mul-t22
-    add-t23
-    add-t24
-    returns)
+    tie.close (tie.spec wide32-requires array-read-wide32 wide32-requires-2 mul-t10 add-t11 array-read-wide32-2 wide32-requires-3 mul-t16
+    add-t17 array-read-wide32-3 wide32-requires-4 mul-t22 add-t23 add-t24 returns)

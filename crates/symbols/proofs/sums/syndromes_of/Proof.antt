@@ -91,24 +91,6 @@ returns c =
 
 pub syndromes-of-spec : {M : Type 1} → statement M
 syndromes-of-spec =
-    tie.close
-    (tie.spec
-    Inv-loop
-    μ-loop
-    loop-holds
-    mul-column
-    element-copy-out-column
-    mul-added
-    add-added
-    element-copy-out-added
-    added-requires
-    mul-added-2
-    add-added-2
-    element-copy-out-added-2
-    added-requires-2
-    add-i
-    loop-less
-    loop-again
-    reduced-requires
-    reduced-requires-2
-    returns)
+    tie.close (tie.spec Inv-loop μ-loop loop-holds mul-column element-copy-out-column mul-added add-added element-copy-out-added
+    added-requires mul-added-2 add-added-2 element-copy-out-added-2 added-requires-2 add-i loop-less loop-again reduced-requires
+    reduced-requires-2 returns)

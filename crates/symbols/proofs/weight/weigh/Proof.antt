@@ -1,5 +1,5 @@
--- `symbols::weight::weigh` meets its contract. The invariant: what is summed and what is left of the symbols that are weighed make the whole. The
--- measure is what is left.
+-- `symbols::weight::weigh` meets its contract. The invariant: what is summed and what is left of the symbols that are weighed make the
+-- whole. The measure is what is left.
 -- Assumes nothing.
 use mathlib.Core.Path.{_≡_, sym, ap, _∙_}
 use mathlib.Core.List.{List}
@@ -93,20 +93,5 @@ returns c =
 
 pub weigh-spec : {M : Type 1} → statement M
 weigh-spec =
-    tie.close
-    (tie.spec
-    Inv-loop
-    μ-loop
-    weighable-requires
-    loop-holds
-    shared-slice-read-wide16
-    wide16-requires
-    add-all
-    if-odd-requires
-    add-even
-    add-index
-    add-i
-    loop-less
-    loop-again
-    sub-odd
-    returns)
+    tie.close (tie.spec Inv-loop μ-loop weighable-requires loop-holds shared-slice-read-wide16 wide16-requires add-all if-odd-requires
+    add-even add-index add-i loop-less loop-again sub-odd returns)
