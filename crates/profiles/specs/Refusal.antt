@@ -16,7 +16,8 @@ numberBy lengths symbols = firstRefusal (asks lengths 2 ∷ asks symbols 3 ∷ [
 -- messages a and b, an output of l symbols
 unfoldable pub encodeNumber : Row → List ℕ → List ℕ → ℕ → ℕ
 encodeNumber t a b l =
-    numberBy (eqb (length a) (t .message) && eqb (length b) (t .message) && eqb l (t .codeword)) (symbolsBelow (t .q) a && symbolsBelow (t .q) b)
+    numberBy (eqb (length a) (t .message) && eqb (length b) (t .message) && eqb l (t .codeword))
+    (symbolsBelow (t .q) a && symbolsBelow (t .q) b)
 
 -- received word u, outputs of k and l symbols
 unfoldable pub decodeNumber : Row → List ℕ → ℕ → ℕ → ℕ

@@ -22,7 +22,8 @@ loop-holds : tie.Need-loop-holds Inv-loop μ-loop
 loop-holds c = (built-none _ refl, omega arith, rw (c .positions .ensures) (positions-room _ _))
 
 next-requires : tie.Need-next-requires Inv-loop μ-loop
-next-requires c κs = built-digits (c .before .loop .inv .0) (positions-levels _ _ (c .before .before .positions .ensures) (c .loop-test .taken))
+next-requires c κs =
+    built-digits (c .before .loop .inv .0) (positions-levels _ _ (c .before .before .positions .ensures) (c .loop-test .taken))
 
 mul-table : tie.Need-mul-table Inv-loop μ-loop
 mul-table c = search needs

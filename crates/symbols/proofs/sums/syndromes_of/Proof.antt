@@ -84,9 +84,11 @@ returns : tie.Need-returns Inv-loop μ-loop
 returns c =
     let l = c .before .before .before in
     let k = l .before .before .args in
-    let i : l .loop .i ≡ l .before .if1 .end = omega arith in (
-      rw (← cap (l .before)) (summing-all (l .loop .inv .0) (k .q) (rw i (part-length true (l .before .if1 .end) (now (k .x)))) (c .before .reduced .ensures)),
-      rw (← cap (l .before)) (summing-all (l .loop .inv .1) (k .q) (rw i (part-length false (l .before .if1 .end) (now (k .x)))) (c .reduced2 .ensures)),
+    let x = now (k .x) in
+    let end = l .before .if1 .end in
+    let i : l .loop .i ≡ end = omega arith in (
+      rw (← cap (l .before)) (summing-all (l .loop .inv .0) (k .q) (rw i (part-length true end x)) (c .before .reduced .ensures)),
+      rw (← cap (l .before)) (summing-all (l .loop .inv .1) (k .q) (rw i (part-length false end x)) (c .reduced2 .ensures)),
     )
 
 pub syndromes-of-spec : {M : Type 1} → statement M
