@@ -18,7 +18,9 @@ pub fn verdict(
     asked: Checks,
     arrived: Checks,
 ) -> Verdict
-    ensures { λ r. ⌜ r ≡ verdictOf (nearSyndromes (fourRows q n) (rows first) (rows second)) (eqb (asked .alpha) (arrived .alpha)) (eqb (asked .beta) (arrived .beta)) ⌝ }
+    ensures { λ r. ⌜
+        r ≡ verdictOf (nearSyndromes (fourRows q n) (rows first) (rows second)) (eqb (asked .alpha) (arrived .alpha))
+        (eqb (asked .beta) (arrived .beta)) ⌝ }
 {
     if !near(q, n, first, second) {
         return Verdict::Unreadable;
