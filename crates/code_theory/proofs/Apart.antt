@@ -22,7 +22,8 @@ use Rattle.code_theory.proofs.Weights.{double, ones, dot-ones}
 use Rattle.code_theory.proofs.Columns.{q-positive}
 use Rattle.code_theory.proofs.Moves.{Move, NearIn, move-weight, no-move}
 use Rattle.code_theory.proofs.Told.{told}
-use Rattle.code_theory.proofs.Distance.{equal-or-not, Differing, differing, TwoApart, two-apart, distance-zero, distance-sym, distance-append}
+use Rattle.code_theory.proofs.Distance.{equal-or-not, Differing, differing, TwoApart}
+use Rattle.code_theory.proofs.Distance.{two-apart, distance-zero, distance-sym, distance-append}
 use Rattle.code_theory.proofs.Symbols.{symbol-below}
 use Rattle.code_theory.proofs.Conditions.{Conditions, conditions, body-length, balanced-length, body-at}
 

@@ -5,7 +5,8 @@ use mathlib.Core.Path.{_≡_, refl, sym, ap, ap₂, _∙_}
 use mathlib.Core.Logic.{_≢_, ⊎-elim}
 use mathlib.Core.List.{List, [], _∷_}
 use Prim.Native.Nat.{ℕ, zero, suc, _+_, _-_, _*_, _%_, _≤_, _<_, zero-le, suc-le-suc}
-use native.Mathlib.Nat.{zero-add, suc-add, add-zero, add-suc, zero-mul, add-mod-right, suc-mod, mod-le, mod-eq-of-lt, le-of-suc-le-suc, not-suc-le-zero, le-refl, lt-of-not-le, not-le-of-lt}
+use native.Mathlib.Nat.{zero-add, suc-add, add-zero, add-suc, zero-mul, add-mod-right, suc-mod, mod-le}
+use native.Mathlib.Nat.{mod-eq-of-lt, le-of-suc-le-suc, not-suc-le-zero, le-refl, lt-of-not-le, not-le-of-lt}
 use native.Mathlib.Omega.{arith}
 use lib.ListN.{length, getD}
 use Rattle.modular_theory.specs.Sum.{weight}

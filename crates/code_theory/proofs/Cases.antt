@@ -5,13 +5,16 @@ use Rattle.modular_theory.specs.Residue.{minus}
 use Rattle.code_theory.specs.Parameters.{balancingValue, delta}
 use Rattle.code_theory.specs.Component.{syndrome, inCode, isCheck, message, candidate, component}
 use Rattle.code_theory.specs.Balance.{chosen, balances, earliestS, earliestV, balanced}
-use Rattle.code_theory.specs.Codeword.{alpha, beta, withChecks, interleaved, encoded, body, received, nearCode, restored, isBalanced, hasChecks, nearComponents, hasComponents, codeword, carried}
+use Rattle.code_theory.specs.Codeword.{alpha, beta, withChecks, interleaved, encoded, body, received, nearCode}
+use Rattle.code_theory.specs.Codeword.{restored, isBalanced, hasChecks, nearComponents, hasComponents, codeword, carried}
 use Rattle.code_theory.specs.Reading.{mends, changedAt, sentAt, nearReading, reading}
 use Rattle.code_theory.specs.Profiles.{profile}
 use Rattle.code_theory.specs.Operations.{decodeAnswer}
 use Rattle.code_theory.specs.Cases.{AllHold, starred}
 
 pub starred-hold : AllHold starred
-unfolding minus balancingValue delta syndrome inCode isCheck message candidate component chosen balances earliestS earliestV balanced alpha beta withChecks interleaved encoded body received nearCode restored isBalanced hasChecks nearComponents hasComponents codeword carried mends changedAt sentAt nearReading reading profile decodeAnswer
+unfolding minus balancingValue delta syndrome inCode isCheck message candidate component chosen balances earliestS earliestV balanced alpha
+    beta withChecks interleaved encoded body received nearCode restored isBalanced hasChecks nearComponents hasComponents codeword carried
+    mends changedAt sentAt nearReading reading profile decodeAnswer
 starred-hold =
     ((refl, refl, refl, refl), (refl, (refl, (refl, (refl, (refl, ((refl, refl, refl), (refl, (refl, (refl, (refl, tt)))))))))))

@@ -14,7 +14,8 @@ use Rattle.modular_theory.specs.Residue.{Congruent}
 use Rattle.modular_theory.proofs.Search.{least-hit, least-miss, any-of}
 use Rattle.modular_theory.proofs.Residue.{_then_, of-eq, same, symm, reduce, add}
 use Rattle.code_theory.specs.Parameters.{Parameters, balancingValue}
-use Rattle.code_theory.specs.Balance.{addAt, integrate, shifted, shiftedFrom, zeroIndex, addOne, integrated, choice, chosen, balances, earliestS, earliestV, balanced}
+use Rattle.code_theory.specs.Balance.{addAt, integrate, shifted, shiftedFrom, zeroIndex, addOne}
+use Rattle.code_theory.specs.Balance.{integrated, choice, chosen, balances, earliestS, earliestV, balanced}
 use Rattle.code_theory.specs.Claims.{Before, Tried, BalanceExists}
 use Rattle.code_theory.proofs.Balance.{choices-meet}
 

@@ -27,8 +27,10 @@ use Rattle.code_theory.specs.Claims.{Holding, OneComponent}
 use Rattle.code_theory.proofs.Symbols.{symbol-below, symbols-below, symbols-set}
 use Rattle.code_theory.proofs.Syndrome.{code-zero, zero-code}
 use Rattle.code_theory.proofs.Columns.{q-positive}
-use Rattle.code_theory.proofs.Merge.{opposite, word-length, word-below, word-of, below-keep, below-merge, passing, count-not, length-keep, length-merge, merge-keep, keep-merge, keep-at, keep-set}
-use Rattle.code_theory.proofs.Reduced.{pivot, reducedRow, Vanish, pivot-below, check-pivot, pivot-check, reduced-same, reduced-other, check-count, reduced-rows, rows-reduced}
+use Rattle.code_theory.proofs.Merge.{opposite, word-length, word-below, word-of, below-keep, below-merge, passing}
+use Rattle.code_theory.proofs.Merge.{count-not, length-keep, length-merge, merge-keep, keep-merge, keep-at, keep-set}
+use Rattle.code_theory.proofs.Reduced.{pivot, reducedRow, Vanish, pivot-below, check-pivot, pivot-check}
+use Rattle.code_theory.proofs.Reduced.{reduced-same, reduced-other, check-count, reduced-rows, rows-reduced}
 
 module _ (p : Parameters) (s : Sized p) where
   -- words whose reduced sums vanish and that agree off the check positions agree mod q there too

@@ -14,7 +14,8 @@ use Rattle.modular_theory.specs.Sum.{weight}
 use Rattle.modular_theory.proofs.Search.{eq-test, and-left, and-right, and-intro, and-four, and-parts, or-cases, or-left, or-right}
 use Rattle.code_theory.specs.Parameters.{Parameters, balancedLength, codewordLength, balancingValue}
 use Rattle.code_theory.specs.Component.{symbolsBelow, isWord, inCode}
-use Rattle.code_theory.specs.Codeword.{alpha, beta, withChecks, body, received, nearCode, isBalanced, hasChecks, nearComponents, hasComponents, codeword}
+use Rattle.code_theory.specs.Codeword.{alpha, beta, withChecks, body, received, nearCode, isBalanced}
+use Rattle.code_theory.specs.Codeword.{hasChecks, nearComponents, hasComponents, codeword}
 use Rattle.code_theory.proofs.Weights.{double, double-is}
 use Rattle.code_theory.proofs.Syndrome.{code-zero, zero-code, near-cases, zero-near, column-near}
 use Rattle.code_theory.proofs.Moves.{Near, neither, first, second, NearIn}

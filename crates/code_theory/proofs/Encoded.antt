@@ -16,8 +16,10 @@ use Rattle.modular_theory.specs.Residue.{minus}
 use Rattle.modular_theory.proofs.Search.{and-left, and-right, and-intro}
 use Rattle.code_theory.specs.Parameters.{Parameters, Sized, balancedLength, balancingValue}
 use Rattle.code_theory.specs.Component.{symbolsBelow, inCode, message, component}
-use Rattle.code_theory.specs.Balance.{interleave, addAt, withZero, zeroIndex, addOne, differences, choice, chosen, earliestS, earliestV, balanced}
-use Rattle.code_theory.specs.Codeword.{alternate, alpha, beta, withChecks, interleaved, encoded, body, differenced, received, lowered, restored, carried}
+use Rattle.code_theory.specs.Balance.{interleave, addAt, withZero, zeroIndex, addOne}
+use Rattle.code_theory.specs.Balance.{differences, choice, chosen, earliestS, earliestV, balanced}
+use Rattle.code_theory.specs.Codeword.{alternate, alpha, beta, withChecks, interleaved, encoded}
+use Rattle.code_theory.specs.Codeword.{body, differenced, received, lowered, restored, carried}
 use Rattle.code_theory.specs.Claims.{Tried, Holding, Encodes, ChoiceCarries, EncodedCarries}
 use Rattle.code_theory.proofs.Weights.{double, double-is, parity}
 use Rattle.code_theory.proofs.Syndrome.{Zero, ColumnOf, code-zero, lowered-column}
@@ -29,7 +31,8 @@ use Rattle.code_theory.proofs.Choice.{length-chosen, tried-index}
 use Rattle.code_theory.proofs.Pair.{length-component, length-interleave, length-interleaved, balance-of-pair}
 use Rattle.code_theory.proofs.Component.{component-holding}
 use Rattle.code_theory.proofs.Restored.{restored-zero, restored-column}
-use Rattle.code_theory.proofs.Alternate.{alternate-first, alternate-second, minus-sum, differences-integrate, integrate-below, first-set, first-kept, second-set, second-kept, first-at, second-at}
+use Rattle.code_theory.proofs.Alternate.{alternate-first, alternate-second, minus-sum, differences-integrate}
+use Rattle.code_theory.proofs.Alternate.{integrate-below, first-set, first-kept, second-set, second-kept, first-at, second-at}
 
 -- what 1 added to the symbol at k makes of a component is undone there
 lowered-raised : (q : ℕ) → 1 ≤ q → (c : List ℕ) (k : ℕ) → T (symbolsBelow q c) → k < length c → lowered q (addAt q c k 1) k ≡ c

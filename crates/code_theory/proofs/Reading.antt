@@ -17,7 +17,8 @@ use Rattle.modular_theory.proofs.Search.{passes, fails, le-of-not-lt, least-hit
 use Rattle.code_theory.specs.Parameters.{Parameters, Sized, codewordLength}
 use Rattle.code_theory.specs.Component.{isWord}
 use Rattle.code_theory.specs.Codeword.{codeword}
-use Rattle.code_theory.specs.Reading.{distance, Finding, correctionAt, read, unreadable, clean, corrected, findingOf, readAs, mends, changedAt, sentAt, nearReading, reading}
+use Rattle.code_theory.specs.Reading.{distance, Finding, correctionAt, read, unreadable, clean, corrected}
+use Rattle.code_theory.specs.Reading.{findingOf, readAs, mends, changedAt, sentAt, nearReading, reading}
 use Rattle.code_theory.specs.Claims.{NearCodeword, OneNear, NearIsOne, Reads, ReadingIs, Corrects, ReadingCorrects}
 use Rattle.code_theory.proofs.Columns.{q-positive}
 use Rattle.code_theory.proofs.Symbols.{symbol-below, symbols-set}
@@ -176,7 +177,8 @@ module _ (p : Parameters) (s : Sized p) (one : OneNear p) where
   others u v hu hv ne i y b =
       le-of-not-lt
       (λ (d : distance v (set u i y) < 2).
-      ne (one (set u i y) (changed-word p s u hu i y b) v u (record { is-codeword = hv; close = le-of-suc-le-suc d }) (near-changed u hu i y)))
+      ne
+      (one (set u i y) (changed-word p s u hu i y b) v u (record { is-codeword = hv; close = le-of-suc-le-suc d }) (near-changed u hu i y)))
 
   -- a word is refused exactly when no codeword is near it
   refused : (v : List ℕ) → T (isWord (p .q) (codewordLength p) v)

@@ -11,7 +11,8 @@ use Rattle.modular_theory.specs.Residue.{Congruent}
 use Rattle.modular_theory.proofs.Residue.{of-eq, same, symm, _then_, add, multiple, small, cancel}
 use Rattle.code_theory.specs.Parameters.{Parameters, Sized}
 use Rattle.code_theory.specs.Component.{checkRow}
-use Rattle.code_theory.proofs.Weights.{double, double-is, parity, ones, spread-take, spread-skip, later, times-pred, weight-first-odd, weight-second-odd, weight-first-even, weight-second-even}
+use Rattle.code_theory.proofs.Weights.{double, double-is, parity, ones, spread-take, spread-skip, later, times-pred}
+use Rattle.code_theory.proofs.Weights.{weight-first-odd, weight-second-odd, weight-first-even, weight-second-even}
 use Rattle.code_theory.proofs.Columns.{q-positive, one-not-zero, entry, entry-last, entry-out, entries-differ, laters-differ}
 use Rattle.code_theory.proofs.Moves.{rowWeight, lastWeight, bothLast, SameWeights, ToldApart}
 

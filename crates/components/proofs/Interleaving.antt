@@ -85,7 +85,8 @@ interleave-alternate (suc n) (x ∷ []) h = absurd (omega arith)
 interleave-alternate (suc n) (x ∷ y ∷ l) h = ap (λ (t : List ℕ). x ∷ y ∷ t) (interleave-alternate n l (omega arith))
 
 -- 01: x is a symbol and then those of the halves in turn
-pub parts-interleaved : (n : ℕ) (x : List ℕ) → 2 * n + 1 ≤ length x → take (2 * n + 1) x ≡ getD x 0 0 ∷ interleave (part true n x) (part false n x)
+pub parts-interleaved : (n : ℕ) (x : List ℕ) → 2 * n + 1 ≤ length x
+    → take (2 * n + 1) x ≡ getD x 0 0 ∷ interleave (part true n x) (part false n x)
 parts-interleaved n x h =
     let m : ℕ = 2 * n + 1 in
     let e : length (take m x) ≡ m = length-take-le m x h in

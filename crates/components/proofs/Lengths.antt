@@ -50,8 +50,9 @@ module _ (i : ℕ) (a b : List ℕ) where
   components-interleaved h ha hb =
       let p : Parameters = profile i in
       let m : ℕ = messageLength p in
+      let long = and-intro (eqb (length a) m) (eqb (length b) m) (eq-test ha) (eq-test hb) in
       let e : isProfile i && bothLong m (length a) (length b) ≡ true =
-      passes (and-intro (isProfile i) (bothLong m (length a) (length b)) h (and-intro (eqb (length a) m) (eqb (length b) m) (eq-test ha) (eq-test hb))) in
+      passes (and-intro (isProfile i) (bothLong m (length a) (length b)) h long) in
       ap (λ (u : Bool). take (balancedLength p) (array u)) e
       ∙ ap (λ (k : ℕ). take k (zeroFirst p a b ++ replicate (97 - balancedLength p) 0)) (sym (length-first p))
       ∙ take-append-seam (zeroFirst p a b) (replicate (97 - balancedLength p) 0)
@@ -64,7 +65,9 @@ module _ (i : ℕ) (a b : List ℕ) where
   module _ {t : Row} (of : RowOf i t) where
     by-row : array (bothLong (t .message) (length a) (length b)) ≡ componentsOf i a b
     unfolding componentsOf
-    by-row = ap (λ (p : Bool). tested p (t .message)) (sym (passes {b = isProfile i} (of .known))) ∙ ap (tested (isProfile i)) (message-is of)
+    by-row =
+        ap (λ (p : Bool). tested p (t .message)) (sym (passes {b = isProfile i} (of .known)))
+        ∙ ap (tested (isProfile i)) (message-is of)
 
     pub no-fit : bothLong (t .message) (length a) (length b) ≡ false → replicate 97 0 ≡ componentsOf i a b
     no-fit e = ap array (sym e) ∙ by-row

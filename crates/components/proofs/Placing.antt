@@ -32,10 +32,12 @@ merge-check t zero e a i l h = absurd (not-suc-le-zero l)
 merge-check t (suc n) e a zero l h = rw (h, merge)
 merge-check t (suc n) e a (suc i) l h =
     cases (t 0)
-    (λ b. rw (b, merge, passing) (merge-check (shift t) n (drop 1 e) a i (le-of-suc-le-suc l) h ∙ getD-drop 1 e (passing (shift t) i) 0 ∙ rw one-add))
+    (λ b. rw (b, merge, passing)
+    (merge-check (shift t) n (drop 1 e) a i (le-of-suc-le-suc l) h ∙ getD-drop 1 e (passing (shift t) i) 0 ∙ rw one-add))
     (λ b. rw (b, merge, passing) (merge-check (shift t) n e (drop 1 a) i (le-of-suc-le-suc l) h))
 
-pub merge-message : (t : ℕ → Bool) (n : ℕ) (e a : List ℕ) (i : ℕ) → i < n → t i ≡ false → getD (merge t n e a) i 0 ≡ getD a (passing (opposite t) i) 0
+pub merge-message : (t : ℕ → Bool) (n : ℕ) (e a : List ℕ) (i : ℕ) → i < n → t i ≡ false
+    → getD (merge t n e a) i 0 ≡ getD a (passing (opposite t) i) 0
 merge-message t zero e a i l h = absurd (not-suc-le-zero l)
 merge-message t (suc n) e a zero l h = rw (h, merge)
 merge-message t (suc n) e a (suc i) l h =
@@ -94,7 +96,8 @@ module _ {p : Parameters} {a word : List ℕ} {next i : ℕ} (s : Placing p a wo
 
 all-placed : {p : Parameters} {a word : List ℕ} {next : ℕ} → Placing p a word next (p .n) → word ≡ merge (checkAt p) (p .n) [] a
 all-placed {p} {a} {word} s =
-    ext-getD 0 word (merge (checkAt p) (p .n) [] a) (s .size ∙ sym (length-merge (checkAt p) (p .n) [] a)) (λ i l. s .done i (rw (s .size) at l))
+    let long = s .size ∙ sym (length-merge (checkAt p) (p .n) [] a) in
+    ext-getD 0 word (merge (checkAt p) (p .n) [] a) long (λ i l. s .done i (rw (s .size) at l))
 
 -- a message has a symbol for each position without a check symbol
 pub message-count : (p : Parameters) → Sized p → messageLength p ≡ passing (opposite (checkAt p)) (p .n)
@@ -118,11 +121,14 @@ zeros-placed : (p : Parameters) (a : List ℕ) (b : Bool) → p .n ≤ 48 → Pl
 zeros-placed p a b h =
     record {
       size = part-size b (p .n) (replicate 97 0) (omega arith);
-      rest = λ k l. ⊎-elim (λ (o : p .n ≤ k). List·getD-eq-default (part b (p .n) (replicate 97 0)) 0 (le-trans (part-length b (p .n) (replicate 97 0)) o)) (inside b k) (le-or-lt (p .n) k);
+      rest = λ k l. ⊎-elim (outside k) (inside b k) (le-or-lt (p .n) k);
       counted = refl;
       done = λ k l. absurd (not-suc-le-zero l);
     }
   where
+    outside : (k : ℕ) → p .n ≤ k → getD (part b (p .n) (replicate 97 0)) k 0 ≡ 0
+    outside k o = List·getD-eq-default (part b (p .n) (replicate 97 0)) 0 (le-trans (part-length b (p .n) (replicate 97 0)) o)
+
     inside : (b : Bool) (k : ℕ) → k < p .n → getD (part b (p .n) (replicate 97 0)) k 0 ≡ 0
     inside true k l = part-first (p .n) (replicate 97 0) k l ∙ zeros-at 97 (2 * k + 1)
     inside false k l = part-second (p .n) (replicate 97 0) k l ∙ zeros-at 97 (2 * k + 2)
@@ -141,8 +147,8 @@ pair-none p a b h =
       second = zeros-placed p b false h;
     }
 
-module _ {p : Parameters} {a b x : List ℕ} {power next position : ℕ} (two : 2 ≤ p .q) (levels : p .q ≤ 15) (room : p .n ≤ 48) (columns : p .n < p .q ^ (p .r - 1))
-    (s : Pair p a b x power next position) (l : position ≤ p .n) where
+module _ {p : Parameters} {a b x : List ℕ} {power next position : ℕ} (two : 2 ≤ p .q) (levels : p .q ≤ 15) (room : p .n ≤ 48)
+    (columns : p .n < p .q ^ (p .r - 1)) (s : Pair p a b x power next position) (l : position ≤ p .n) where
   upto : s .i < p .n
   upto = omega (arith, s .is)
 
@@ -200,8 +206,10 @@ module _ {p : Parameters} {a b x : List ℕ} {power next position : ℕ} (two : 
         }
 
 -- past the last position
-pub pair-all : (t : Row) {a b x : List ℕ} {power next position : ℕ} → Pair (parameters t) a b x power next position → t .n < position → Placed t a b x
+pub pair-all : (t : Row) {a b x : List ℕ} {power next position : ℕ} → Pair (parameters t) a b x power next position → t .n < position
+    → Placed t a b x
 pair-all t {a} {b} {x} {power} {next} {position} p l = go (p .i) (omega (arith, p .is, p .within)) (p .first) (p .second)
   where
-    go : (i : ℕ) → i ≡ t .n → Placing (parameters t) a (part true (t .n) x) next i → Placing (parameters t) b (part false (t .n) x) next i → Placed t a b x
+    go : (i : ℕ) → i ≡ t .n → Placing (parameters t) a (part true (t .n) x) next i → Placing (parameters t) b (part false (t .n) x) next i
+        → Placed t a b x
     go i e f s = record { head = p .head; first-part = all-placed (rw e at f); second-part = all-placed (rw e at s); past = p .past }

@@ -1,5 +1,5 @@
--- The check symbols that make up for the row sums of a placed message give its component, whatever its symbols are: the candidates of a message are
--- in code where those of its residues mod q are, so both have the same check symbols.
+-- The check symbols that make up for the row sums of a placed message give its component, whatever its symbols are: the candidates of a
+-- message are in code where those of its residues mod q are, so both have the same check symbols.
 -- Assumes nothing.
 use mathlib.Core.Path.{_≡_, refl, sym, ap, _∙_, fun-ext}
 use mathlib.Core.Bool.{Bool, true, false}
@@ -127,7 +127,8 @@ module _ (p : Parameters) (s : Sized p) where
     unfolding component candidate checks
     reduced-is = refl
 
-    module _ (sums e : List ℕ) (four : p .r ≤ 4) (are : (j : ℕ) → j < 4 → getD sums j 0 ≡ syndrome (fourRows (p .q) (p .n)) (bare p a) j) (solves : Solves (p .q) sums e) where
+    module _ (sums e : List ℕ) (four : p .r ≤ 4)
+        (are : (j : ℕ) → j < 4 → getD sums j 0 ≡ syndrome (fourRows (p .q) (p .n)) (bare p a) j) (solves : Solves (p .q) sums e) where
       reduced-solved : checked (p .q) e (bare p reduced) (p .r) ≡ component p reduced
       reduced-solved =
           solved p s reduced word sums e four (λ j h. are j h ∙ syndrome-agrees (fourRows (p .q) (p .n)) (checkAt p) (p .n) [] a j) solves

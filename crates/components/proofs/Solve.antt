@@ -23,7 +23,8 @@ use Rattle.code_theory.proofs.Syndrome.{zero-code}
 use Rattle.code_theory.proofs.Columns.{last-row, digit-row, q-positive}
 use Rattle.code_theory.proofs.Weights.{times-pred}
 use Rattle.code_theory.proofs.Merge.{word-of, length-merge}
-use Rattle.code_theory.proofs.Reduced.{pivot, reducedTwo, reducedRow, pivot-below, pivot-check, pivot-injective, row-two-first, row-two-other, reduced-other, rows-reduced}
+use Rattle.code_theory.proofs.Reduced.{pivot, reducedTwo, reducedRow, pivot-below, pivot-check, pivot-injective}
+use Rattle.code_theory.proofs.Reduced.{row-two-first, row-two-other, reduced-other, rows-reduced}
 use Rattle.code_theory.proofs.Component.{unique, Solution, pivot-inside, step, merged, component-holding}
 use Rattle.symbols.specs.Syndromes.{fourRows}
 use Rattle.components.specs.Checks.{checkPosition, checked, Solves}
@@ -78,7 +79,8 @@ module _ (p : Parameters) (s : Sized p) (four : p .r ≤ 4) where
         dot-same (reducedTwo p) (λ i. f 0 i + f 1 i + f 2 i + (p .q - 1) * f 3 i) c
         (λ i l. ap₂ (λ (x y : ℕ). x + (p .q - 1) * y) (digit-sum i (rw size at l)) (last-row p i))
         ∙ dot-add (λ i. f 0 i + f 1 i + f 2 i) (λ i. (p .q - 1) * f 3 i) c
-        ∙ ap₂ (λ (x y : ℕ). x + y) (dot-add (λ i. f 0 i + f 1 i) (f 2) c ∙ ap (λ (x : ℕ). x + total 2) (dot-add (f 0) (f 1) c)) (dot-scale (p .q - 1) (f 3) c)
+        ∙ ap₂ (λ (x y : ℕ). x + y)
+        (dot-add (λ i. f 0 i + f 1 i) (f 2) c ∙ ap (λ (x : ℕ). x + total 2) (dot-add (f 0) (f 1) c)) (dot-scale (p .q - 1) (f 3) c)
 
     power-total : (j : ℕ) → j < p .r - 1 → dot (reducedRow p (suc j)) c ≡ total j + (p .q - checkRow p j 1) * dot (reducedTwo p) c
     power-total j h =
@@ -87,7 +89,8 @@ module _ (p : Parameters) (s : Sized p) (four : p .r ≤ 4) where
 
     -- The check symbols e make up for them.
 
-    module _ (sums e : List ℕ) (are : (j : ℕ) → j < 4 → getD sums j 0 ≡ syndrome (fourRows (p .q) (p .n)) c j) (solves : Solves (p .q) sums e) where
+    module _ (sums e : List ℕ) (are : (j : ℕ) → j < 4 → getD sums j 0 ≡ syndrome (fourRows (p .q) (p .n)) c j)
+        (solves : Solves (p .q) sums e) where
       sum-is : (j : ℕ) → j < 4 → Congruent (p .q) (getD sums j 0) (total j)
       unfolding syndrome
       sum-is j h = of-eq (are j h) then reduce (p .q) (total j)
@@ -125,7 +128,8 @@ module _ (p : Parameters) (s : Sized p) (four : p .r ≤ 4) where
       makes zero h = makes-two
       makes (suc zero) h = makes-power 0 2 h (row-two-first p s) (omega (arith, s .levels)) (solves .one)
       makes (suc (suc j)) h =
-          let g : getD e (suc (suc j)) 0 + (getD sums (suc j) 0 + 0 * getD e 0 0) ≡ getD e (suc (suc j)) 0 + getD sums (suc j) 0 = omega arith in
+          let x : ℕ = getD e (suc (suc j)) 0 in
+          let g : x + (getD sums (suc j) 0 + 0 * getD e 0 0) ≡ x + getD sums (suc j) 0 = omega arith in
           makes-power (suc j) 0 h (row-two-other p s j h) zero-le (of-eq g then solves .powers (suc j) (omega arith) (omega arith))
 
 -- Setting them one after the other.

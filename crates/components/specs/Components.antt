@@ -25,4 +25,5 @@ bothLong m k l = eqb k m && eqb l m
 -- the array by a profile's number, for messages of its length whatever their symbols are; otherwise zeros
 unfoldable pub componentsOf : ℕ → List ℕ → List ℕ → List ℕ
 componentsOf i a b =
-    elim (isProfile i && bothLong (messageLength (profile i)) (length a) (length b)) [ true ↦ padded (profile i) a b | false ↦ replicate 97 0 ]
+    elim (isProfile i && bothLong (messageLength (profile i)) (length a) (length b))
+    [ true ↦ padded (profile i) a b | false ↦ replicate 97 0 ]

@@ -33,7 +33,9 @@ fn set_pair(x: &mut Body, position: usize, a: u8, b: u8)
 
 // Both messages at their positions, and 0 at the check positions: 2, and the powers of q, of which `power` is the next.
 fn placed(row: Row, first: &[u8], second: &[u8]) -> Body
-    requires { ⌜ Valid row × (length (now first) ≡ messageLength (parameters row)) × (length (now second) ≡ messageLength (parameters row)) ⌝ }
+    requires { ⌜
+        Valid row × (length (now first) ≡ messageLength (parameters row))
+        × (length (now second) ≡ messageLength (parameters row)) ⌝ }
     ensures { λ x. ⌜ Placed row (now (first .entry)) (now (second .entry)) x ⌝ }
 {
     let q = row.q as usize;
@@ -85,7 +87,9 @@ fn filled(row: Row, x: Body, first: CheckSymbols, second: CheckSymbols) -> Body
 
 // The components of two messages of the right length, by a profile's row. The columns are built once.
 pub(crate) fn interleaved(row: Row, first: &[u8], second: &[u8]) -> Body
-    requires { ⌜ Valid row × (3 ≤ row .r) × (length (now first) ≡ messageLength (parameters row)) × (length (now second) ≡ messageLength (parameters row)) ⌝ }
+    requires { ⌜
+        Valid row × (3 ≤ row .r) × (length (now first) ≡ messageLength (parameters row))
+        × (length (now second) ≡ messageLength (parameters row)) ⌝ }
     ensures { λ x. ⌜ x ≡ padded (parameters row) (now (first .entry)) (now (second .entry)) ⌝ }
 {
     let x = placed(row, first, second);

@@ -113,7 +113,9 @@ module _ (p : Parameters) (s : Sums) where
     module _ (b : Bool) where
       pub body-none : firstFit p s b v ≡ positionCount p b → decodedBody p s b v ≡ unreadable
       unfolding decodedBody
-      body-none e = let l : positionCount p b ≤ firstFit p s b v = omega arith in rw (le-ltb (firstFit p s b v) (positionCount p b) l, decodedBody)
+      body-none e =
+          let l : positionCount p b ≤ firstFit p s b v = omega arith in
+          rw (le-ltb (firstFit p s b v) (positionCount p b) l, decodedBody)
 
       module _ {k : ℕ} (e : firstFit p s b v ≡ k) (l : k < positionCount p b) where
         -- the symbol received there
@@ -122,7 +124,9 @@ module _ (p : Parameters) (s : Sums) where
 
         pub body-found : decodedBody p s b v ≡ readFit p s b k v
         unfolding decodedBody
-        body-found = let m : firstFit p s b v < positionCount p b = omega arith in rw (lt-ltb (firstFit p s b v) (positionCount p b) m, decodedBody, e)
+        body-found =
+            let m : firstFit p s b v < positionCount p b = omega arith in
+            rw (lt-ltb (firstFit p s b v) (positionCount p b) m, decodedBody, e)
 
         hit : T (fits p s b k arrived)
         unfolding firstFit

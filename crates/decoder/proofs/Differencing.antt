@@ -74,7 +74,8 @@ module _ {t : Row} {u : List ℕ} (w : ReceivedWord t u) where
           let some : 1 ≤ length (take (t .balanced) u) = omega (arith, long, w .valid .balanced) in
           let rest : suc (length (differences (parameters t) (take (t .balanced) u))) ≡ t .balanced =
           length-differences (parameters t) (take (t .balanced) u) some ∙ long in
-          let whole : length (take (t .balanced) x) ≡ t .balanced = length-take-le (t .balanced) x (omega (arith, b .size, short (w .valid))) in
+          let whole : length (take (t .balanced) x) ≡ t .balanced =
+          length-take-le (t .balanced) x (omega (arith, b .size, short (w .valid))) in
           let size : length (drop 1 (take (t .balanced) x)) ≡ length (differences (parameters t) (take (t .balanced) u)) =
           length-drop 1 (take (t .balanced) x) ∙ omega (arith, whole, rest) in
           ext-getD 0 (drop 1 (take (t .balanced) x)) (differences (parameters t) (take (t .balanced) u)) size
@@ -96,7 +97,8 @@ module _ {t : Row} {u : List ℕ} (w : ReceivedWord t u) where
   differenced-more {i = zero} f n l e = absurd (not-suc-le-zero n)
   differenced-more {i = suc j} f n l e =
       let before : suc j - 1 ≡ j = omega arith in
-      filled-more f (omega (arith, short (w .valid))) (e ∙ ap (λ (k : ℕ). neighbourDifference (parameters t) (getD u k 0) (getD u (suc j) 0)) before)
+      filled-more f (omega (arith, short (w .valid)))
+      (e ∙ ap (λ (k : ℕ). neighbourDifference (parameters t) (getD u k 0) (getD u (suc j) 0)) before)
 
   -- all of it filled
   pub differenced : {x : List ℕ} {i : ℕ} → FilledTo (heldAt t u) 97 x i → t .balanced ≤ i → Components t u x
@@ -168,7 +170,8 @@ module _ {t : Row} {u : List ℕ} (w : ReceivedWord t u) {i y : ℕ} (h : i < t 
           let next : suc j ≡ i + 1 = omega (arith, f) in
           let size : i + 1 < length x = omega (arith, c .levels .size, short (w .valid)) in
           ap (λ (k : ℕ). getD (set x (i + 1) d) k 0) next ∙ getD-set-same x (i + 1) d 0 size ∙ e .0
-          ∙ ap₂ (neighbourDifference (parameters t)) (sym (rw f here)) (ap (λ (k : ℕ). getD u k 0) (sym next) ∙ sym (elsewhere (suc j) (λ z. n j z f)))
+          ∙ ap₂ (neighbourDifference (parameters t)) (sym (rw f here))
+          (ap (λ (k : ℕ). getD u k 0) (sym next) ∙ sym (elsewhere (suc j) (λ z. n j z f)))
         where
           n : (j : ℕ) → suc j ≡ i → j ≡ i → ⊥
           n j z f = omega (arith, z, f)

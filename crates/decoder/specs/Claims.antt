@@ -75,7 +75,8 @@ decodeLengthsFit i v k l =
 pub record RefusesDecoding (i : ℕ) (v : List ℕ) (r : Decoded) (first first′ second second′ : List ℕ) : Type 0 where
   pub by-1 : isProfile i ≡ false → decodedNumber r ≡ 1
   pub by-2 : T (isProfile i) → decodeLengthsFit i v (length first) (length second) ≡ false → decodedNumber r ≡ 2
-  pub by-3 : T (isProfile i) → T (decodeLengthsFit i v (length first) (length second)) → symbolsBelow (profile i .q) v ≡ false → decodedNumber r ≡ 3
+  pub by-3 : T (isProfile i) → T (decodeLengthsFit i v (length first) (length second)) → symbolsBelow (profile i .q) v ≡ false
+      → decodedNumber r ≡ 3
   pub keeps : decodedNumber r ≢ 0 → (first′ ≡ first) × (second′ ≡ second)
 
 abbrev pub DecodeRefuses : Type 0

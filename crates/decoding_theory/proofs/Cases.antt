@@ -10,8 +10,10 @@ use Rattle.code_theory.specs.Reading.{read, unreadable, clean}
 use Rattle.code_theory.specs.Profiles.{profile}
 use Rattle.code_theory.specs.Operations.{answered, report, reportNumber}
 use Rattle.code_theory.specs.Cases.{Case, balancing, encoding, choosing, checking, decoding, refusing, starred}
-use Rattle.decoding_theory.specs.Syndromes.{zeroSyndrome, columnPosition, columnSyndrome, nearSyndrome, nearSyndromes, restoredBy, moved, movedOf}
-use Rattle.decoding_theory.specs.Decoded.{lack, balancingSymbol, inRange, offByLack, nearAfter, fits, firstFit, readBy, readFit, decodedBody, decodedCheck, decodedBalanced, decodedUnbalanced, decodedBy, decoded}
+use Rattle.decoding_theory.specs.Syndromes.{zeroSyndrome, columnPosition, columnSyndrome}
+use Rattle.decoding_theory.specs.Syndromes.{nearSyndrome, nearSyndromes, restoredBy, moved, movedOf}
+use Rattle.decoding_theory.specs.Decoded.{lack, balancingSymbol, inRange, offByLack, nearAfter, fits, firstFit, readBy, readFit}
+use Rattle.decoding_theory.specs.Decoded.{decodedBody, decodedCheck, decodedBalanced, decodedUnbalanced, decodedBy, decoded}
 
 abbrev pub Decodes : Case → Type 0
 Decodes (balancing q x s v w sum) = Unit {0}
@@ -26,10 +28,13 @@ AllDecode [] = Unit {0}
 AllDecode (c ∷ cs) = Decodes c × AllDecode cs
 
 pub starred-decode : AllDecode starred
-unfolding minus balancingValue delta syndrome isCheck message alpha beta body received profile zeroSyndrome columnPosition columnSyndrome nearSyndrome nearSyndromes restoredBy moved movedOf lack balancingSymbol inRange offByLack nearAfter fits firstFit readBy readFit decodedBody decodedCheck decodedBalanced decodedUnbalanced decodedBy decoded
+unfolding minus balancingValue delta syndrome isCheck message alpha beta body received profile zeroSyndrome columnPosition columnSyndrome
+    nearSyndrome nearSyndromes restoredBy moved movedOf lack balancingSymbol inRange offByLack nearAfter fits firstFit readBy readFit
+    decodedBody decodedCheck decodedBalanced decodedUnbalanced decodedBy decoded
 starred-decode = (tt, (refl, (refl, (refl, (tt, (tt, (refl, (refl, (refl, (refl, (refl, tt)))))))))))
 
 -- balanced, with right check symbols and a syndrome 0 0 1, which names position 0 and is no column
 pub position-zero : decoded (profile 1) (0 ∷ 0 ∷ 2 ∷ 0 ∷ 0 ∷ 1 ∷ 1 ∷ 1 ∷ 2 ∷ 2 ∷ 2 ∷ 1 ∷ 1 ∷ 1 ∷ 0 ∷ 2 ∷ 1 ∷ 0 ∷ 2 ∷ []) ≡ unreadable
-unfolding minus balancingValue delta syndrome isCheck message alpha beta body received profile zeroSyndrome columnPosition columnSyndrome nearSyndrome nearSyndromes decodedBalanced decodedUnbalanced decodedBy decoded
+unfolding minus balancingValue delta syndrome isCheck message alpha beta body received profile zeroSyndrome columnPosition columnSyndrome
+    nearSyndrome nearSyndromes decodedBalanced decodedUnbalanced decodedBy decoded
 position-zero = refl

@@ -21,7 +21,8 @@ use Rattle.code_theory.proofs.Weights.{double, double-is, parity, times-pred}
 use Rattle.code_theory.proofs.Columns.{q-positive}
 use Rattle.code_theory.proofs.Conditions.{body-length, balanced-length, body-at}
 use Rattle.decoding_theory.specs.Syndromes.{index}
-use Rattle.decoding_theory.specs.Decoded.{checkSymbol, checkIndex, Sums, sums, update, movedSums, target, lack, nearAfter, positionCount}
+use Rattle.decoding_theory.specs.Decoded.{checkSymbol, checkIndex, Sums, sums, update}
+use Rattle.decoding_theory.specs.Decoded.{movedSums, target, lack, nearAfter, positionCount}
 use Rattle.decoding_theory.proofs.Tests.{for-both}
 use Rattle.decoding_theory.proofs.Near.{Rows, syndromes-rows}
 use Rattle.decoding_theory.proofs.Components.{components-test}

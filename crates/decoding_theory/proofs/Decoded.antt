@@ -15,10 +15,12 @@ use Rattle.code_theory.specs.Component.{isWord}
 use Rattle.code_theory.specs.Reading.{reading}
 use Rattle.code_theory.specs.Claims.{OneNear}
 use Rattle.decoding_theory.specs.Syndromes.{nearSyndromes, index}
-use Rattle.decoding_theory.specs.Decoded.{Sums, target, fits, positionCount, firstFit, decodedBody, agrees, decodedBalanced, decodedUnbalanced, decodedBy, decoded}
+use Rattle.decoding_theory.specs.Decoded.{Sums, target, fits, positionCount, firstFit, decodedBody}
+use Rattle.decoding_theory.specs.Decoded.{agrees, decodedBalanced, decodedUnbalanced, decodedBy, decoded}
 use Rattle.decoding_theory.proofs.Tests.{false-test, for-both}
 use Rattle.decoding_theory.proofs.Changed.{Summed, summed}
-use Rattle.decoding_theory.proofs.Outcomes.{clean-reading, check-reading, fit-reading, far-refused, checks-refused, right-refused, wrong-refused, unfit-refused}
+use Rattle.decoding_theory.proofs.Outcomes.{clean-reading, check-reading, fit-reading, far-refused}
+use Rattle.decoding_theory.proofs.Outcomes.{checks-refused, right-refused, wrong-refused, unfit-refused}
 
 module _ (p : Parameters) (s : Sized p) (one : OneNear p) {v : List ℕ} (w : T (isWord (p .q) (codewordLength p) v)) {t : Sums}
     (m : Summed p v t) where
@@ -39,7 +41,8 @@ module _ (p : Parameters) (s : Sized p) (one : OneNear p) {v : List ℕ} (w : T 
       go : (c : Bool) → ltb (firstFit p t b v) (positionCount p b) ≡ c → decodedBody p t b v ≡ reading p v
       go true e =
           let l : firstFit p t b v < positionCount p b = ltb-true _ _ e in
-          rw (e, decodedBody) (sym (fit-reading p s one w m b (firstFit p t b v) l a (eqb-true _ _ r) (least-hit test (positionCount p b) l)))
+          let hit = least-hit test (positionCount p b) l in
+          rw (e, decodedBody) (sym (fit-reading p s one w m b (firstFit p t b v) l a (eqb-true _ _ r) hit))
       go false e =
           let l : positionCount p b ≤ firstFit p t b v = ltb-false _ _ e in
           rw (e, decodedBody)

@@ -19,10 +19,12 @@ use Rattle.code_theory.proofs.Columns.{q-positive}
 use Rattle.code_theory.proofs.Merge.{word-length, word-below, word-of}
 use Rattle.code_theory.proofs.Symbols.{symbols-set}
 use Rattle.decoding_theory.specs.Syndromes.{index}
-use Rattle.decoding_theory.specs.Decoded.{checkSymbol, checkIndex, Sums, target, lack, balancingSymbol, inRange, offByLack, nearAfter, fits, positionCount}
+use Rattle.decoding_theory.specs.Decoded.{checkSymbol, checkIndex, Sums, target, lack, balancingSymbol}
+use Rattle.decoding_theory.specs.Decoded.{inRange, offByLack, nearAfter, fits, positionCount}
 use Rattle.decoding_theory.proofs.Tests.{and-three, three-parts, for-both}
 use Rattle.decoding_theory.proofs.Answers.{Tests, codeword-tests, tests-codeword}
-use Rattle.decoding_theory.proofs.Changed.{index-within, weight-body-set, checks-kept, Summed, lack-gained, changed, changed-check, kept-check, changed-near}
+use Rattle.decoding_theory.proofs.Changed.{index-within, weight-body-set, checks-kept, Summed}
+use Rattle.decoding_theory.proofs.Changed.{lack-gained, changed, changed-check, kept-check, changed-near}
 
 -- what the test says: y is the symbol that balances in place of x
 pub record Fit (p : Parameters) (s : Sums) (b : Bool) (k x y : ℕ) : Type 0 where

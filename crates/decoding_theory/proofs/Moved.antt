@@ -14,7 +14,8 @@ use Rattle.modular_theory.proofs.Sum.{dot-gain}
 use Rattle.code_theory.specs.Parameters.{Parameters}
 use Rattle.code_theory.specs.Component.{checkRow, syndrome}
 use Rattle.code_theory.specs.Codeword.{differenced}
-use Rattle.code_theory.proofs.Weights.{double, double-is, later, dot-differenced, times-pred, weight-first-odd, weight-second-odd, weight-first-even, weight-second-even}
+use Rattle.code_theory.proofs.Weights.{double, double-is, later, dot-differenced, times-pred, weight-first-odd}
+use Rattle.code_theory.proofs.Weights.{weight-second-odd, weight-first-even, weight-second-even}
 use Rattle.code_theory.proofs.Columns.{entry}
 use Rattle.code_theory.proofs.Moves.{rowWeight}
 use Rattle.decoding_theory.specs.Syndromes.{columnEntry, moved, index, columnOf, times, movedOf}

@@ -20,13 +20,15 @@ use Rattle.code_theory.specs.Claims.{OneNear}
 use Rattle.code_theory.proofs.Columns.{q-positive}
 use Rattle.code_theory.proofs.Merge.{word-length}
 use Rattle.decoding_theory.specs.Syndromes.{nearSyndromes, index}
-use Rattle.decoding_theory.specs.Decoded.{checkSymbol, checkIndex, Sums, target, balancingSymbol, nearAfter, fits, positionCount, readBy, readFit, decodedCheck, movedSums, lack}
+use Rattle.decoding_theory.specs.Decoded.{checkSymbol, checkIndex, Sums, target, balancingSymbol, nearAfter}
+use Rattle.decoding_theory.specs.Decoded.{fits, positionCount, readBy, readFit, decodedCheck, movedSums, lack}
 use Rattle.decoding_theory.proofs.Tests.{for-both}
 use Rattle.decoding_theory.proofs.Components.{read-by}
 use Rattle.decoding_theory.proofs.Answers.{Tests, tests-codeword, reads-sent, reads-changed}
 use Rattle.decoding_theory.proofs.Changed.{index-within, check-within, body-kept, other-kept, Summed, changed}
 use Rattle.decoding_theory.proofs.Fits.{Fit, fit, word-set, fit-codeword}
-use Rattle.decoding_theory.proofs.Nearby.{Nearby, as-sent, check-changed, body-changed, received-kept, components-kept, near-is, none-nearby}
+use Rattle.decoding_theory.proofs.Nearby.{Nearby, as-sent, check-changed, body-changed}
+use Rattle.decoding_theory.proofs.Nearby.{received-kept, components-kept, near-is, none-nearby}
 
 pub check-below : (q : ℕ) → 1 ≤ q → (b : Bool) (w : List ℕ) → checkSymbol q b w < q
 unfolding alpha beta

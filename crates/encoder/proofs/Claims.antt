@@ -1,4 +1,5 @@
--- Demand 2 of encode: the contract gives the encoded word of a call that no number refuses, and the encoded word is a codeword that carries its pair.
+-- Demand 2 of encode: the contract gives the encoded word of a call that no number refuses, and the encoded word is a codeword that carries
+-- its pair.
 -- Assumes nothing.
 use mathlib.Core.Path.{_≡_, refl, sym, ap, _∙_}
 use mathlib.Core.Bool.{true, false, _&&_}

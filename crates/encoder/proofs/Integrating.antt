@@ -45,7 +45,8 @@ integrate-at q a (x ∷ xs) (suc i) l =
     let e : a + x + w ≡ a + (x + w) = omega arith in
     integrate-at q ((a + x) % q) xs i (le-of-suc-le-suc l) ∙ (add (reduce q (a + x)) (same w) then of-eq e) .same
 
-module _ {q m : ℕ} {x sums d : List ℕ} (s : SymbolArray q m x) (w : PrefixSums m x sums) (r : d ≡ residuesOf q (λ i. getD sums i 0) 97) where
+module _ {q m : ℕ} {x sums d : List ℕ} (s : SymbolArray q m x) (w : PrefixSums m x sums)
+    (r : d ≡ residuesOf q (λ i. getD sums i 0) 97) where
   at : (i : ℕ) → i < 97 → getD d i 0 ≡ getD sums i 0 % q
   at i h = rw (r, residue-at q (λ i. getD sums i 0) 97 i h) (residue-is (getD sums i 0) (s .some))
 

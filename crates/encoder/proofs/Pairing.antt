@@ -29,20 +29,25 @@ interleave-below q h (a ∷ c) (b ∷ d) hc hd zero = hc 0
 interleave-below q h (a ∷ c) (b ∷ d) hc hd (suc zero) = hd 0
 interleave-below q h (a ∷ c) (b ∷ d) hc hd (suc (suc i)) = interleave-below q h c d (λ j. hc (suc j)) (λ j. hd (suc j)) i
 
-module _ (p : Parameters) (s : Sized p) (a b : List ℕ) (ha : T (isWord (p .q) (messageLength p) a)) (hb : T (isWord (p .q) (messageLength p) b)) where
+abbrev pub IsMessage : Parameters → List ℕ → Type 0
+IsMessage p a = T (isWord (p .q) (messageLength p) a)
+
+module _ (p : Parameters) (s : Sized p) (a b : List ℕ) (ha : IsMessage p a) (hb : IsMessage p b) where
   interleaved-below : Below (p .q) (interleaved p a b)
   unfolding interleaved
   interleaved-below zero = q-positive p s
-  interleaved-below (suc i) = interleave-below (p .q) (q-positive p s) (component p a) (component p b) (component-below p s a ha) (component-below p s b hb) i
+  interleaved-below (suc i) =
+      interleave-below (p .q) (q-positive p s) (component p a) (component p b) (component-below p s a ha) (component-below p s b hb) i
 
 -- x of the messages a and b in profile i, and its row t
-module _ {i : ℕ} {t : Row} (of : RowOf i t) (a b : List ℕ) (pre : T (isWord (profile i .q) (messageLength (profile i)) a) × T (isWord (profile i .q) (messageLength (profile i)) b))
+module _ {i : ℕ} {t : Row} (of : RowOf i t) (a b : List ℕ) (pre : IsMessage (profile i) a × IsMessage (profile i) b)
     {x : List ℕ} (made : x ≡ componentsOf i a b) where
   is : take (t .balanced) x ≡ interleaved (profile i) a b
   unfolding interleaved zeroFirst
   is =
       ap₂ take (of .valid .balanced ∙ ap balancedLength (of .same)) made
-      ∙ components-interleaved i a b (of .known) (word-length (profile i .q) (messageLength (profile i)) a (pre .0)) (word-length (profile i .q) (messageLength (profile i)) b (pre .1))
+      ∙ components-interleaved i a b (of .known) (word-length (profile i .q) (messageLength (profile i)) a (pre .0))
+      (word-length (profile i .q) (messageLength (profile i)) b (pre .1))
 
   pub pair-symbols : length x ≡ 97 → SymbolArray (t .q) (t .balanced) x
   pair-symbols size =
@@ -56,7 +61,8 @@ module _ {i : ℕ} {t : Row} (of : RowOf i t) (a b : List ℕ) (pre : T (isWord 
             (interleaved-below (profile i) (subst Sized (of .same) (of .valid .sized)) a b (pre .0) (pre .1) j);
       }
 
-  pub pair-encoded : {w u : List ℕ} → w ≡ balanced (parameters t) (take (t .balanced) x) → u ≡ withChecks (t .q) w → u ≡ encoded (profile i) a b
+  pub pair-encoded : {w u : List ℕ} → w ≡ balanced (parameters t) (take (t .balanced) x) → u ≡ withChecks (t .q) w
+      → u ≡ encoded (profile i) a b
   unfolding encoded
   pair-encoded e f = f ∙ ap₂ withChecks (levels-are of) (e ∙ ap₂ balanced (of .same) is)
 

@@ -1,5 +1,5 @@
--- The search for the earliest balancing choice over the integrated word: s from 0 up and, for each s, v from 1 up, with the weight carried from v
--- to v + 1.
+-- The search for the earliest balancing choice over the integrated word: s from 0 up and, for each s, v from 1 up, with the weight carried
+-- from v to v + 1.
 -- Assumes nothing.
 use mathlib.Core.Path.{_≡_, sym, ap, ap₂, _∙_}
 use mathlib.Core.Logic.{_≢_, inl, inr, ⊎-elim}
@@ -38,7 +38,8 @@ rises {q} {a} {s} h k d =
     let v : suc b < q = omega arith in
     let e : a + s ≡ q + b = omega arith in
     let f : a + suc s ≡ q + suc b = omega arith in
-    ap (λ (n : ℕ). n % q) f ∙ add-mod-left q (suc b) ∙ mod-eq-of-lt v ∙ ap suc (sym (ap (λ (n : ℕ). n % q) e ∙ add-mod-left q b ∙ mod-eq-of-lt u)))
+    ap (λ (n : ℕ). n % q) f ∙ add-mod-left q (suc b) ∙ mod-eq-of-lt v
+    ∙ ap suc (sym (ap (λ (n : ℕ). n % q) e ∙ add-mod-left q b ∙ mod-eq-of-lt u)))
     (λ (g : a + s < q).
     let v : a + suc s < q = omega (arith, d) in
     let f : a + suc s ≡ suc (a + s) = omega arith in
@@ -63,8 +64,8 @@ gain-top q s h = getD-set-same (replicate 16 0) (q - 1 - s) q 0 (omega arith)
 gain-other : (q s y : ℕ) → y ≢ q - 1 - s → getD (gains q s) y 0 ≡ 0
 gain-other q s y n = getD-set-other (replicate 16 0) (q - 1 - s) y q 0 n ∙ zeros-at 16 y
 
-pub weight-next : (q s : ℕ) (d : List ℕ) (i : ℕ) → q ≤ 15 → s < q → i < length d → getD d i 0 < q → {g : ℕ} → g ≡ getD (gains q s) (getD d i 0) 0
-    → weightAt q d s i + g ≡ suc (weightAt q d s (suc i))
+pub weight-next : (q s : ℕ) (d : List ℕ) (i : ℕ) → q ≤ 15 → s < q → i < length d → getD d i 0 < q
+    → {g : ℕ} → g ≡ getD (gains q s) (getD d i 0) 0 → weightAt q d s i + g ≡ suc (weightAt q d s (suc i))
 weight-next q s d i levels below l symbol {g} e = go (ℕ-discrete (getD d i 0) (q - 1 - s))
   where
     go : Dec (getD d i 0 ≡ q - 1 - s) → weightAt q d s i + g ≡ suc (weightAt q d s (suc i))
@@ -134,7 +135,8 @@ module _ {q : ℕ} {d : List ℕ} {s : ℕ} where
       at i g m = n (t .is ∙ ap (weightAt q d s) (sym g) ∙ m)
 
   pub trying-all : {v sum : ℕ} → Trying q d s v sum → length d < v → Missed q d s → Missed q d (s + 1)
-  trying-all t l m = record { all = λ r i a b. ⊎-elim (λ (k : s ≤ r). at r i (omega arith) b) (λ (k : r < s). m .all r i k b) (le-or-lt s r) }
+  trying-all t l m =
+      record { all = λ r i a b. ⊎-elim (λ (k : s ≤ r). at r i (omega arith) b) (λ (k : r < s). m .all r i k b) (le-or-lt s r) }
     where
       at : (r i : ℕ) → r ≡ s → i < length d → Misses q d r i
       at r i e b = rw e (t .missed i (omega arith))
@@ -192,8 +194,8 @@ module _ {p : Parameters} {d : List ℕ} (x : List ℕ) (is : d ≡ integrated p
       is-v : v ≡ earliestV p x
       is-v =
           let low : v ≤ earliestV p x = le-of-not-lt earlier in
-          ⊎-elim (λ (k : earliestV p x ≤ v). omega arith) (λ (k : v < earliestV p x). absurd (b .first s v (t .from, inside) (inr (is-s, k)) here))
-          (le-or-lt (earliestV p x) v)
+          ⊎-elim (λ (k : earliestV p x ≤ v). omega arith)
+          (λ (k : v < earliestV p x). absurd (b .first s v (t .from, inside) (inr (is-s, k)) here)) (le-or-lt (earliestV p x) v)
 
   -- the integral raised by that choice is w
   choice-balanced : {s v : ℕ} → s ≡ earliestS p x → v ≡ earliestV p x → shiftedFrom (p .q) s (v - 1) d ≡ balanced p x
@@ -223,8 +225,8 @@ module _ (t : Row) (valid : Valid t) where
       let b : Balanced (parameters t) (i .of) = row-balances (i .of) n in
       omega (arith, missed-below (i .of) (i .is) b m, b .s-below)
 
-  pub all-found : {d : List ℕ} {s v sum : ℕ} → length d ≡ t .balanced → Integral (parameters t) d → Missed (t .q) d s → Trying (t .q) d s v sum
-      → v ≤ length d → sum ≡ balancingValue (t .q) (length d) → Chosen (parameters t) d s v
+  pub all-found : {d : List ℕ} {s v sum : ℕ} → length d ≡ t .balanced → Integral (parameters t) d → Missed (t .q) d s
+      → Trying (t .q) d s v sum → v ≤ length d → sum ≡ balancingValue (t .q) (length d) → Chosen (parameters t) d s v
   all-found {d} {s} {v} e i m y l f =
       record {
         below = s-left e i m;

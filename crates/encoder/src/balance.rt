@@ -1,5 +1,5 @@
-// Balancing (01: How a word is made, 4 and 5): w of the first choice that balances x. A choice s, v adds s to every symbol of the integrated x,
-// and 1 more from position v on, so x is integrated once.
+// Balancing (01: How a word is made, 4 and 5): w of the first choice that balances x. A choice s, v adds s to every symbol of the
+// integrated x, and 1 more from position v on, so x is integrated once.
 use modular::SumArray;
 use modular::add;
 use modular::remainders;
@@ -92,7 +92,7 @@ fn step(i: u8, from: u8, s: u8) -> u8
     if i < from { s } else { s + 1 }
 }
 
-// s added mod q to every symbol of the array, and 1 more from an index on. The index is counted in bytes too: so compared, many at a time are.
+// s added mod q to every symbol of the array, and 1 more from an index on. The index is counted in bytes too: many are compared at once.
 fn raised(q: u8, d: &[u8; 97], s: u8, from: u8) -> [u8; 97]
     requires { ⌜ SymbolArray q 97 (now d) × (s < q) ⌝ }
     ensures { λ w. ⌜ Raised q (now (d .entry)) s from w ⌝ }

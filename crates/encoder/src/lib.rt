@@ -1,4 +1,4 @@
-// Encoding (01: Write) of a pair of messages into the word that goes on the line. The components of the pair are those of crate `components`.
+// Encoding (01: Write) of a pair of messages into the word that goes on the line. The pair's components are those of crate `components`.
 mod balance;
 mod pair;
 mod word;

@@ -15,8 +15,12 @@ ghost use Rattle.profiles.specs.Row.{RowOf};
 
 // 01: the line word of a pair of user words, by their profile's row and number.
 pub(crate) fn word_of(row: Row, number: usize, first: &[u8], second: &[u8]) -> Word
-    requires { ⌜ RowOf number row × T (isWord (profile number .q) (messageLength (profile number)) (now first)) × T (isWord (profile number .q) (messageLength (profile number)) (now second)) ⌝ }
-    ensures { λ u. ⌜ (take (u .len) (u .symbols) ≡ encoded (profile number) (now (first .entry)) (now (second .entry))) × (u .len ≡ codewordLength (profile number)) ⌝ }
+    requires { ⌜
+        RowOf number row × T (isWord (profile number .q) (messageLength (profile number)) (now first))
+        × T (isWord (profile number .q) (messageLength (profile number)) (now second)) ⌝ }
+    ensures { λ u. ⌜
+        (take (u .len) (u .symbols) ≡ encoded (profile number) (now (first .entry)) (now (second .entry)))
+        × (u .len ≡ codewordLength (profile number)) ⌝ }
 {
     let x = components(number, first, second);
     let w = balanced(row, &x);

@@ -17,7 +17,8 @@ pub(crate) struct Word {
 // w with its check symbols. All of the array is copied: what lies past m is not looked at, and a copy of one size is quick.
 pub(crate) fn with_checks(row: Row, w: &[u8; 97]) -> Word
     requires { ⌜ Valid row × (length (now w) ≡ 97) ⌝ }
-    ensures { λ u. ⌜ (take (u .len) (u .symbols) ≡ withChecks (row .q) (take (row .balanced) (now (w .entry)))) × (u .len ≡ row .codeword) ⌝ }
+    ensures { λ u. ⌜
+        (take (u .len) (u .symbols) ≡ withChecks (row .q) (take (row .balanced) (now (w .entry)))) × (u .len ≡ row .codeword) ⌝ }
 {
     let m = row.balanced;
     let checks = checks_of(row.q, row.delta, weigh(w, m));

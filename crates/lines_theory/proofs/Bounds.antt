@@ -17,7 +17,8 @@ use Rattle.code_theory.specs.Refusal.{Test, firstRefusal}
 use Rattle.code_theory.specs.Component.{Below, message, inCode}
 use Rattle.code_theory.specs.Balance.{differences}
 use Rattle.code_theory.specs.Codeword.{alternate, received, restored, carried, codeword, body}
-use Rattle.code_theory.specs.Reading.{Finding, correctionAt, clean, corrected, correction, Reading, read, unreadable, readAs, reading, nearReading}
+use Rattle.code_theory.specs.Reading.{Finding, correctionAt, clean, corrected, correction}
+use Rattle.code_theory.specs.Reading.{Reading, read, unreadable, readAs, reading, nearReading}
 use Rattle.code_theory.specs.Reading.{mends, changedAt, sentAt}
 use Rattle.code_theory.specs.Profiles.{profiles, isProfile, profile}
 use Rattle.code_theory.specs.Operations.{Answer, refused, answered, decodeTests, readUnless, decodeAnswer}

@@ -13,7 +13,8 @@ use lib.Seq.{take-add}
 use borrow.Author.Tests.{le-leb, lt-leb, eq-eqb, ne-eqb}
 use Rattle.modular_theory.proofs.Search.{le-or-lt}
 use Rattle.code_theory.proofs.Merge.{cases}
-use Rattle.lines_theory.specs.Feed.{Partial, held, tooLong, Model, lineAfter, answerAfter, feedFrom, feed, finishing, isDone, lineAfterAll}
+use Rattle.lines_theory.specs.Feed.{Partial, held, tooLong, Model, lineAfter, answerAfter}
+use Rattle.lines_theory.specs.Feed.{feedFrom, feed, finishing, isDone, lineAfterAll}
 use Rattle.lines_theory.specs.Feed.{lineEnds, lastLines, linesFinished}
 use Rattle.lines_theory.proofs.Feed.{feed-on, feed-stop}
 use Rattle.lines_theory.proofs.Cutting.{finish-on, finish-stop, done-reaches}

@@ -12,7 +12,8 @@ use Rattle.code_theory.specs.Profiles.{profile}
 use Rattle.code_theory.specs.Refusal.{firstRefusal}
 use Rattle.code_theory.specs.Operations.{Answer, refused, answered, readUnless}
 use Rattle.code_theory.proofs.Merge.{cases}
-use Rattle.lines_theory.specs.Line.{digitByte, decimalBefore, decimal, letter, refusalLine, readingLine, answerLine, profileOf, symbolsOf}
+use Rattle.lines_theory.specs.Line.{digitByte, decimalBefore, decimal, letter, refusalLine}
+use Rattle.lines_theory.specs.Line.{readingLine, answerLine, profileOf, symbolsOf}
 use Rattle.lines_theory.specs.Line.{lineTests, lineAnswer}
 use Rattle.lines_theory.specs.Feed.{Partial, held, tooLong, answerTo, answerAtEnd, lineAfterAll, lineEnds, lastLines}
 use Rattle.lines_theory.specs.Claims.{OneAnswerEach}

@@ -8,7 +8,8 @@ use Rattle.modular_theory.proofs.Search.{holds}
 use Rattle.code_theory.specs.Refusal.{Test, asks}
 use Rattle.code_theory.specs.Operations.{decodeAnswer}
 use Rattle.code_theory.proofs.Refusal.{past, stops}
-use Rattle.lines_theory.specs.Line.{isShort, hasForm, profileOf, symbolsOf, refusalLine, answerLine, readTests, readAnswer, lineUnless}
+use Rattle.lines_theory.specs.Line.{isShort, hasForm, profileOf, symbolsOf, refusalLine}
+use Rattle.lines_theory.specs.Line.{answerLine, readTests, readAnswer, lineUnless}
 use Rattle.lines_theory.specs.Line.{lineAnswer}
 
 module _ (l : List ℕ) where

@@ -45,8 +45,8 @@ module _ {q a x : ℕ} (h : a < q) (k : x ≤ q) where
       let f : a + x ≡ byteOf (a + x) = sym (mod-eq-of-lt (omega arith)) in
       let m : a + x < q + q = omega arith in
       rw e
-      (⊎-elim (λ (g : q ≤ a + x). rw (sym (sum-high q a x f g)) (wrapped g m)) (λ (g : a + x < q). rw (sym (sum-low q a x f g)) (already-reduced g))
-      (le-or-lt q (a + x)))
+      (⊎-elim (λ (g : q ≤ a + x). rw (sym (sum-high q a x f g)) (wrapped g m))
+      (λ (g : a + x < q). rw (sym (sum-low q a x f g)) (already-reduced g)) (le-or-lt q (a + x)))
 
   pub byte-difference : q ≤ 255 → {r : ℕ} → r ≡ byteDifference q a x → (r ≡ minus q a x) × (r < q)
   unfolding byteDifference

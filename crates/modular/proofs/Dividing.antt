@@ -11,7 +11,8 @@ use lib.ListN.{length, getD, replicate}
 use lib.Seq.{ext-getD}
 use borrow.Author.Tests.{ne-eqb}
 use Rattle.modular_theory.specs.Residue.{Congruent, minus}
-use Rattle.modular_theory.proofs.Residue.{of-eq, same, symm, _then_, add, reduce, multiple, cancel, small, already-reduced, wrapped, minus-below, minus-add}
+use Rattle.modular_theory.proofs.Residue.{of-eq, same, symm, _then_, add, reduce, multiple, cancel}
+use Rattle.modular_theory.proofs.Residue.{small, already-reduced, wrapped, minus-below, minus-add}
 use Rattle.modular.specs.Byte.{byteDifference}
 use Rattle.modular.specs.Remainder.{residue, residuesOf, residueOfDifference}
 use Rattle.modular.proofs.Filling.{FilledTo}

@@ -3,7 +3,8 @@
 use mathlib.Core.Path.{_≡_, refl, sym, ap, ap₂, _∙_}
 use mathlib.Core.List.{List, [], _∷_}
 use Prim.Native.Nat.{ℕ, zero, suc, _+_, _*_, _/_, _%_, _^_, _<_, _≤_, zero-le, suc-le-suc}
-use native.Mathlib.Nat.{pow-zero, pow-suc, suc-mul, div-lt-iff-lt-mul, mod-lt, mod-add-div', mod-eq-of-lt, div-eq-of-lt, zero-mod, zero-div, mul-mod-left, mul-div-cancel}
+use native.Mathlib.Nat.{pow-zero, pow-suc, suc-mul, div-lt-iff-lt-mul, mod-lt, mod-add-div'}
+use native.Mathlib.Nat.{mod-eq-of-lt, div-eq-of-lt, zero-mod, zero-div, mul-mod-left, mul-div-cancel}
 use native.Mathlib.Omega.{arith}
 use lib.Arith.{lt-one, digits-lt, digits-div, digits-mod}
 use lib.ListN.{length, getD, set, replicate, length-replicate, getD-replicate}

@@ -3,7 +3,8 @@
 use mathlib.Core.Path.{_≡_, refl, sym, ap, ap₂, _∙_}
 use mathlib.Core.Bool.{Bool, true, false, cond}
 use Prim.Native.Nat.{ℕ, zero, suc, _+_, _-_, _*_, _/_, _%_, _≤_, _<_, zero-le, suc-le-suc}
-use native.Mathlib.Nat.{add-mod, mod-mod, mod-eq-of-lt, add-mul-mod-self-right, mod-add-div', mod-lt, mod-zero, mul-comm, mul-one, pos-of-ne-zero, not-suc-le-zero, le-trans, le-refl}
+use native.Mathlib.Nat.{add-mod, mod-mod, mod-eq-of-lt, add-mul-mod-self-right, mod-add-div', mod-lt}
+use native.Mathlib.Nat.{mod-zero, mul-comm, mul-one, pos-of-ne-zero, not-suc-le-zero, le-trans, le-refl}
 use borrow.Author.Tests.{ltb-true, ltb-false}
 use native.Mathlib.Omega.{arith}
 use lib.Dec.{ltb}

@@ -29,12 +29,15 @@ module _ {word : List ℕ} {highest i : ℕ} (h : Highest word highest i) where
   pub highest-risen : highest < getD word i 0 → Highest word (getD word i 0) (i + 1)
   highest-risen l =
       record {
-        above = λ j k. ⊎-elim (λ (e : i ≤ j). at j (omega arith)) (λ (m : j < i). let g : getD word j 0 ≤ highest = h .above j m in omega arith) (le-or-lt i j);
+        above = λ j k. ⊎-elim (λ (e : i ≤ j). at j (omega arith)) (below j) (le-or-lt i j);
         lowest = λ b k f. f i (omega arith);
       }
     where
       at : (j : ℕ) → j ≡ i → getD word j 0 ≤ getD word i 0
       at j e = rw e (omega arith)
+
+      below : (j : ℕ) → j < i → getD word j 0 ≤ getD word i 0
+      below j m = let g : getD word j 0 ≤ highest = h .above j m in omega arith
 
   pub highest-kept : getD word i 0 ≤ highest → Highest word highest (i + 1)
   highest-kept l =

@@ -1,5 +1,5 @@
--- By which of 01's numbers 1 to 3 a call is refused: 1 where the number is no profile's, and by a profile's row 2 and 3, by a test of the lengths and
--- one of the symbols. And what is known of a call that no number refuses.
+-- By which of 01's numbers 1 to 3 a call is refused: 1 where the number is no profile's, and by a profile's row 2 and 3, by a test of the
+-- lengths and one of the symbols. And what is known of a call that no number refuses.
 -- Assumes nothing.
 use mathlib.Core.Path.{_≡_, refl, sym, ap, _∙_}
 use mathlib.Core.Logic.{_≢_}
@@ -38,7 +38,8 @@ module _ {n : ℕ} {e s : Bool} (h : Tested n e s) where
   refuses-nothing f g = rw (h .is, f, g)
 
 pub encode-tests : (t : Row) (a b : List ℕ) (l : ℕ)
-    → Tested (encodeNumber t a b l) (eqb (length a) (t .message) && eqb (length b) (t .message) && eqb l (t .codeword)) (symbolsBelow (t .q) a && symbolsBelow (t .q) b)
+    → Tested (encodeNumber t a b l) (eqb (length a) (t .message) && eqb (length b) (t .message) && eqb l (t .codeword))
+    (symbolsBelow (t .q) a && symbolsBelow (t .q) b)
 unfolding encodeNumber
 encode-tests t a b l = record { is = refl }
 
@@ -55,8 +56,11 @@ both-pass false s h = absurd (omega arith)
 -- the lengths of three words, by one test
 pub three-lengths : (x y z a b c : ℕ) → T (eqb x a && eqb y b && eqb z c) → (x ≡ a) × (y ≡ b) × (z ≡ c)
 three-lengths x y z a b c h =
-    let two : T (eqb x a && eqb y b) = and-left (eqb x a && eqb y b) (eqb z c) h in
-    (eqb→eq x a (and-left (eqb x a) (eqb y b) two), eqb→eq y b (and-right (eqb x a) (eqb y b) two), eqb→eq z c (and-right (eqb x a && eqb y b) (eqb z c) h))
+    let two : T (eqb x a && eqb y b) = and-left (eqb x a && eqb y b) (eqb z c) h in (
+      eqb→eq x a (and-left (eqb x a) (eqb y b) two),
+      eqb→eq y b (and-right (eqb x a) (eqb y b) two),
+      eqb→eq z c (and-right (eqb x a && eqb y b) (eqb z c) h),
+    )
 
 -- Encoding: the messages a and b, and an output of l symbols.
 

@@ -23,7 +23,9 @@ use Rattle.profiles.specs.Row.{parameters, numbers, entries, lookedUp, t
 
 pub in-range : (i : ℕ) → T (isProfile i) → (1 ≤ i) × (i ≤ length profiles)
 in-range i h =
-    (leb→le 1 i (and-left (leb 1 i) (leb i (length profiles)) h), leb→le i (length profiles) (and-right (leb 1 i) (leb i (length profiles)) h))
+    let low = and-left (leb 1 i) (leb i (length profiles)) h in
+    let high = and-right (leb 1 i) (leb i (length profiles)) h in
+    (leb→le 1 i low, leb→le i (length profiles) high)
 
 -- a row of these numbers, as the table has it
 abbrev fromCells : List ℕ → Entry
@@ -45,7 +47,9 @@ entryAt j = getD (map fromCells table) j (fromCells [])
 
 -- the code's row is that of 01's table, and its numbers follow from the parameters of number i
 right : ℕ → Bool
-right i = eqb (distance (i ∷ entries (entryAt (i - 1))) (getD table (i - 1) [])) 0 && eqb (distance (getD table (i - 1) []) (derivedRow i)) 0
+right i =
+    eqb (distance (i ∷ entries (entryAt (i - 1))) (getD table (i - 1) [])) 0
+    && eqb (distance (getD table (i - 1) []) (derivedRow i)) 0
 
 rows-right : T (allBelow (λ j. right (suc j)) (length profiles))
 unfolding right profile derivedRow balancingValue delta
@@ -56,7 +60,8 @@ module _ (i : ℕ) (h : T (isProfile i)) where
   unfolding right
   entry-is =
       let code : List ℕ = i ∷ entries (entryAt (i - 1)) in
-      distance-zero code (getD table (i - 1) []) (eqb→eq _ 0 (and-left (eqb (distance code (getD table (i - 1) [])) 0) _ (every-profile right rows-right i h)))
+      distance-zero code (getD table (i - 1) [])
+      (eqb→eq _ 0 (and-left (eqb (distance code (getD table (i - 1) [])) 0) _ (every-profile right rows-right i h)))
 
   derived-is : getD table (i - 1) [] ≡ derivedRow i
   unfolding right
@@ -71,7 +76,8 @@ found i b = elim b [ true ↦ inr (getD table (i - 1) []) | false ↦ inl 1 ]
 
 pub lookup-found : (i : ℕ) → T (isProfile i) → (t : Row) → numbers t ≡ entries (entryAt (i - 1)) → lookedUp i (Found t) ≡ tableAt i
 unfolding tableAt
-lookup-found i h t e = ap (λ (l : List ℕ). inr l) (ap (λ (l : List ℕ). i ∷ l) e ∙ entry-is i h) ∙ ap (found i) (sym (passes {b = isProfile i} h))
+lookup-found i h t e =
+    ap (λ (l : List ℕ). inr l) (ap (λ (l : List ℕ). i ∷ l) e ∙ entry-is i h) ∙ ap (found i) (sym (passes {b = isProfile i} h))
 
 pub lookup-none : (i : ℕ) → isProfile i ≡ false → lookedUp i NoProfile ≡ tableAt i
 unfolding tableAt
@@ -92,8 +98,11 @@ profile-fits i h =
     let rs : Bool = leb (profile i .r) 4 in
     let ns : Bool = leb (profile i .n) 48 in
     let fits : T (qs && rs && ns) = every-profile room all-room i h in
-    let low : T (qs && rs) = and-left (qs && rs) ns fits in
-    (leb→le (profile i .q) 15 (and-left qs rs low), leb→le (profile i .r) 4 (and-right qs rs low), leb→le (profile i .n) 48 (and-right (qs && rs) ns fits))
+    let low : T (qs && rs) = and-left (qs && rs) ns fits in (
+      leb→le (profile i .q) 15 (and-left qs rs low),
+      leb→le (profile i .r) 4 (and-right qs rs low),
+      leb→le (profile i .n) 48 (and-right (qs && rs) ns fits),
+    )
 
 row-of-profile : (i : ℕ) (t : Row) → T (isProfile i) → i ∷ numbers t ≡ derivedRow i → RowOf i t
 unfolding derivedRow
@@ -146,7 +155,10 @@ module _ (i : ℕ) {r : Lookup} (e : lookedUp i r ≡ tableAt i) where
   pub none-found : r ≡ NoProfile → isProfile i ≡ false
   unfolding tableAt
   none-found f =
-      fails (λ h. let z : _≡_ {A = ℕ} 1 0 = ap refusing (sym (ap (lookedUp i) f) ∙ e ∙ ap (found i) (passes {b = isProfile i} h)) in omega arith)
+      fails
+      (λ h.
+      let z : _≡_ {A = ℕ} 1 0 = ap refusing (sym (ap (lookedUp i) f) ∙ e ∙ ap (found i) (passes {b = isProfile i} h)) in
+      omega arith)
 
 -- the numbers of a profile's row that are asked for alone
 module _ {i : ℕ} {t : Row} (of : RowOf i t) where

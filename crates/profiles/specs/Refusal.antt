@@ -1,4 +1,4 @@
--- The numbers that refuse a call in a profile before a word is encoded or read (01: Write and Read, numbers 2 and 3), by the numbers of a row.
+-- The numbers that refuse a call in a profile before a word is encoded or read (01: Write and Read, numbers 2 and 3), by a row's numbers.
 -- Assumes nothing.
 use mathlib.Core.Bool.{Bool, _&&_}
 use mathlib.Core.List.{List, [], _∷_}
@@ -16,7 +16,8 @@ numberBy lengths symbols = firstRefusal (asks lengths 2 ∷ asks symbols 3 ∷ [
 -- messages a and b, an output of l symbols
 unfoldable pub encodeNumber : Row → List ℕ → List ℕ → ℕ → ℕ
 encodeNumber t a b l =
-    numberBy (eqb (length a) (t .message) && eqb (length b) (t .message) && eqb l (t .codeword)) (symbolsBelow (t .q) a && symbolsBelow (t .q) b)
+    numberBy (eqb (length a) (t .message) && eqb (length b) (t .message) && eqb l (t .codeword))
+    (symbolsBelow (t .q) a && symbolsBelow (t .q) b)
 
 -- received word u, outputs of k and l symbols
 unfoldable pub decodeNumber : Row → List ℕ → ℕ → ℕ → ℕ

@@ -1,5 +1,5 @@
-// By which of 01's numbers 2 and 3 a call in a profile is refused, or 0: the lengths, then the symbols. The lengths are one test, as in the definitions.
-// Number 1 is the lookup's.
+// By which of 01's numbers 2 and 3 a call in a profile is refused, or 0: the lengths, then the symbols. The lengths are one test, as in the
+// definitions. Number 1 is the lookup's.
 use crate::levels::symbols_below;
 use crate::row::Row;
 ghost use mathlib.Core.Path.{_≡_};

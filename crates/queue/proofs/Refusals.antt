@@ -17,7 +17,8 @@ use Rattle.code_theory.specs.Profiles.{isProfile, profile}
 use Rattle.code_theory.proofs.Refusal.{AllPass, stops, kept}
 use Rattle.queue_theory.specs.Layout.{cellSize, isQueueLength, firstFree}
 use Rattle.queue_theory.specs.Sound.{isBox, sound, Queue}
-use Rattle.queue_theory.specs.Operations.{formatAnswer, formatQueue, enqueueAnswer, enqueueQueue, cellOf, peekAnswer, peekOutput, dequeueAnswer}
+use Rattle.queue_theory.specs.Operations.{formatAnswer, formatQueue, enqueueAnswer, enqueueQueue}
+use Rattle.queue_theory.specs.Operations.{cellOf, peekAnswer, peekOutput, dequeueAnswer}
 use Rattle.queue_theory.specs.Operations.{dequeueQueue, dequeueOutput}
 use Rattle.queue_theory.specs.Allowed.{EnqueueAllows, PeekAllows}
 use Rattle.queue.specs.Claims.{EnqueueRefuses, ShowRefuses, Refusals}

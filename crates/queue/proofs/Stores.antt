@@ -10,7 +10,8 @@ use lib.ListN.{length, getD, take, drop, set, take-append-drop}
 use lib.Seq.{length-take-le}
 use borrow.Rule.Slice.PartMut.{putMid}
 use Rattle.queue_theory.specs.Lists.{zeros, count}
-use Rattle.queue_theory.specs.Layout.{cellSize, bodySize, paddedSize, capacity, nextCell, firstFree, cellBody, setNext, setFirstFree, setBody}
+use Rattle.queue_theory.specs.Layout.{cellSize, bodySize, paddedSize, capacity, nextCell}
+use Rattle.queue_theory.specs.Layout.{firstFree, cellBody, setNext, setFirstFree, setBody}
 use Rattle.queue_theory.specs.Chains.{used, lastUsed}
 use Rattle.queue_theory.specs.Sound.{recordOf, Queue}
 use Rattle.queue_theory.specs.Operations.{cellOf}

@@ -15,7 +15,8 @@ use Rattle.code_theory.specs.Profiles.{isProfile, profile}
 use Rattle.code_theory.proofs.Refusal.{AllPass, absent, passed, passed-every, past, failed}
 use Rattle.queue_theory.specs.Layout.{cellSize, firstFree}
 use Rattle.queue_theory.specs.Sound.{isBox, Queue}
-use Rattle.queue_theory.specs.Operations.{soundTests, recordTests, roomTests, enqueueTests, showTests, enqueueAnswer, cellOf, peekAnswer}
+use Rattle.queue_theory.specs.Operations.{soundTests, recordTests, roomTests, enqueueTests}
+use Rattle.queue_theory.specs.Operations.{showTests, enqueueAnswer, cellOf, peekAnswer}
 
 pub nonzero : (x : ℕ) → T (not (eqb x 0)) → x ≢ 0
 nonzero x h e = T-not (eqb x 0) h (subst (λ (k : ℕ). T (eqb k 0)) (sym e) tt)

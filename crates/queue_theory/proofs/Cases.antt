@@ -9,7 +9,8 @@ use Rattle.queue_theory.specs.Lists.{zeros}
 use Rattle.queue_theory.specs.Layout.{cellSize, bodySize, isQueueLength, capacity}
 use Rattle.queue_theory.specs.Chains.{used, free, records, lastUsed}
 use Rattle.queue_theory.specs.Sound.{recordOf, isPadded, isRecord, isHeader, isCell, isList, eachOnce, sound}
-use Rattle.queue_theory.specs.Operations.{formatted, formatAnswer, formatQueue, enqueued, enqueueAnswer, enqueueQueue, cellOf, shownCell}
+use Rattle.queue_theory.specs.Operations.{formatted, formatAnswer, formatQueue, enqueued}
+use Rattle.queue_theory.specs.Operations.{enqueueAnswer, enqueueQueue, cellOf, shownCell}
 use Rattle.queue_theory.specs.Operations.{peekAnswer, peekOutput, dequeued, dequeueAnswer, dequeueQueue, dequeueOutput}
 use Rattle.queue_theory.specs.Model.{Call, Reply, enqueue, peek, dequeue, queueReply, queueAfter, listReply, listAfter, replies}
 

@@ -14,7 +14,8 @@ use Rattle.queue_theory.specs.Layout.{cellSize, bodySize, nextCell, firs
 use Rattle.queue_theory.specs.Chains.{From}
 use Rattle.queue_theory.specs.Sound.{isBody, isHeader}
 use Rattle.queue_theory.proofs.Counts.{bit-same, bit-other, count-append}
-use Rattle.queue_theory.proofs.Writes.{next-set, next-set-other, body-set-next, firstFree-set, next-set-free, body-set-free, header-same}
+use Rattle.queue_theory.proofs.Writes.{next-set, next-set-other, body-set-next, firstFree-set}
+use Rattle.queue_theory.proofs.Writes.{next-set-free, body-set-free, header-same}
 use Rattle.queue_theory.proofs.Writes.{header-set-free, length-set-body, body-set, body-set-other, next-set-body, firstFree-set-body}
 use Rattle.queue_theory.proofs.Follow.{from-same, from-nonzero}
 use Rattle.queue_theory.proofs.Record.{zeros-zero}

@@ -19,7 +19,8 @@ use Rattle.queue_theory.specs.Sound.{isHeader}
 use Rattle.queue_theory.specs.Operations.{linked, formatted}
 use Rattle.queue_theory.specs.Claims.{FormatLaw}
 use Rattle.queue_theory.proofs.Counts.{bit-same, bit-other}
-use Rattle.queue_theory.proofs.Writes.{next-set, next-set-other, body-set-next, firstFree-set, next-set-free, body-set-free, header-same}
+use Rattle.queue_theory.proofs.Writes.{next-set, next-set-other, body-set-next, firstFree-set}
+use Rattle.queue_theory.proofs.Writes.{next-set-free, body-set-free, header-same}
 use Rattle.queue_theory.proofs.Writes.{header-set-free}
 use Rattle.queue_theory.proofs.Record.{zeros-zero}
 use Rattle.queue_theory.proofs.Lists.{size-of, Cell, Lists, used-is, free-is, queue-is}

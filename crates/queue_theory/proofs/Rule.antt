@@ -16,7 +16,8 @@ use Rattle.queue_theory.specs.Layout.{isQueueLength, capacity, nextCell,
 use Rattle.queue_theory.specs.Chains.{From, used, free, records}
 use Rattle.queue_theory.specs.Sound.{recordOf, Queue}
 use Rattle.queue_theory.specs.Operations.{lengthTests, enqueueTests, showTests, formatted, formatAnswer, formatQueue, enqueued}
-use Rattle.queue_theory.specs.Operations.{enqueueAnswer, enqueueQueue, cellOf, shownCell, peekAnswer, peekOutput, dequeued, dequeueAnswer}
+use Rattle.queue_theory.specs.Operations.{enqueueAnswer, enqueueQueue, cellOf, shownCell}
+use Rattle.queue_theory.specs.Operations.{peekAnswer, peekOutput, dequeued, dequeueAnswer}
 use Rattle.queue_theory.specs.Operations.{dequeueQueue, dequeueOutput}
 use Rattle.queue_theory.specs.Model.{Call, enqueue, peek, dequeue, reply, queueReply, queueAfter, shownRecord, hasRecord, showRecord}
 use Rattle.queue_theory.specs.Model.{listReply, listAfter}

@@ -9,7 +9,8 @@ use lib.ListN.{length, getD, take, drop, set, length-append, length-drop, List·
 use lib.Seq.{getD-set-same, getD-set-other, drop-set-lt, drop-set-add, take-set-le, drop-at, take-at, getD-take, getD-drop, getD-append-add}
 use lib.Seq.{length-take-le, ext-getD}
 use Rattle.modular_theory.proofs.Search.{le-or-lt}
-use Rattle.queue_theory.specs.Layout.{cellSize, bodySize, headerSize, nextCell, firstFree, cellBody, header, setNext, setFirstFree, setBody}
+use Rattle.queue_theory.specs.Layout.{cellSize, bodySize, headerSize, nextCell, firstFree}
+use Rattle.queue_theory.specs.Layout.{cellBody, header, setNext, setFirstFree, setBody}
 
 pub length-cell-body : (s : List ℕ) (i : ℕ) → (i + 1) * cellSize ≤ length s → length (cellBody s i) ≡ bodySize
 length-cell-body s i h = length-take-le bodySize (drop (i * cellSize + 1) s) (omega (arith, length-drop (i * cellSize + 1) s))

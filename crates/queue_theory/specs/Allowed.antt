@@ -4,7 +4,8 @@
 use mathlib.Core.Path.{_≡_}
 use mathlib.Core.List.{List}
 use Prim.Native.Nat.{ℕ}
-use Rattle.queue_theory.specs.Operations.{formatAnswer, formatQueue, enqueueAnswer, enqueueQueue, peekAnswer, peekOutput, dequeueAnswer}
+use Rattle.queue_theory.specs.Operations.{formatAnswer, formatQueue, enqueueAnswer}
+use Rattle.queue_theory.specs.Operations.{enqueueQueue, peekAnswer, peekOutput, dequeueAnswer}
 use Rattle.queue_theory.specs.Operations.{dequeueQueue, dequeueOutput}
 
 pub record FormatAllows (s : List ℕ) (n : ℕ) (s′ : List ℕ) : Type 0 where

@@ -11,7 +11,8 @@ use Rattle.code_theory.specs.Parameters.{codewordLength}
 use Rattle.code_theory.specs.Component.{isReceived}
 use Rattle.code_theory.specs.Profiles.{isProfile, profile}
 use Rattle.queue_theory.specs.Lists.{zeros}
-use Rattle.queue_theory.specs.Layout.{cellSize, bodySize, isQueueLength, capacity, nextCell, firstFree, cellBody, setNext, setFirstFree}
+use Rattle.queue_theory.specs.Layout.{cellSize, bodySize, isQueueLength, capacity}
+use Rattle.queue_theory.specs.Layout.{nextCell, firstFree, cellBody, setNext, setFirstFree}
 use Rattle.queue_theory.specs.Layout.{setBody}
 use Rattle.queue_theory.specs.Chains.{used, lastUsed}
 use Rattle.queue_theory.specs.Sound.{isBox, recordOf, sound}

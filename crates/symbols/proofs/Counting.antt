@@ -38,11 +38,15 @@ module _ {q : ℕ} (some : 1 ≤ q) (d : Count) (i : ℕ) (is : counted d ≡ di
     module _ (b : q ≤ d .second + 1) where
       pub next-third : d .third + 1 < q → 0 ∷ 0 ∷ (d .third + 1) ∷ [] ≡ digits q 3 (suc i)
       next-third h =
-          rw (digits-carry q 2 i some (rw first at a), digits-carry q 1 (i / q) some (rw second at b), digits-next q 0 (i / q / q) (rw third at h), third)
+          let low = digits-carry q 2 i some (rw first at a) in
+          let mid = digits-carry q 1 (i / q) some (rw second at b) in
+          rw (low, mid, digits-next q 0 (i / q / q) (rw third at h), third)
 
       pub next-none : q ≤ d .third + 1 → 0 ∷ 0 ∷ 0 ∷ [] ≡ digits q 3 (suc i)
       next-none h =
-          rw (digits-carry q 2 i some (rw first at a), digits-carry q 1 (i / q) some (rw second at b), digits-carry q 0 (i / q / q) some (rw third at h))
+          let low = digits-carry q 2 i some (rw first at a) in
+          let mid = digits-carry q 1 (i / q) some (rw second at b) in
+          rw (low, mid, digits-carry q 0 (i / q / q) some (rw third at h))
 
 -- How many positions have a column.
 
@@ -94,7 +98,8 @@ module _ {q : ℕ} {table : List (List ℕ)} {d : Count} {i : ℕ} (b : Built q 
       at : (j : ℕ) → getD (counted d) j 0 < q
       at j = subst (λ (l : List ℕ). getD l j 0 < q) (sym (b .count)) (digits-below q 3 i j some)
 
-  pub built-more : {e : Count} → i < 48 → ((k : ℕ) → counted d ≡ digits q 3 k → counted e ≡ digits q 3 (suc k)) → Built q (set table i (counted e)) e (i + 1)
+  pub built-more : {e : Count} → i < 48 → ((k : ℕ) → counted d ≡ digits q 3 k → counted e ≡ digits q 3 (suc k))
+      → Built q (set table i (counted e)) e (i + 1)
   built-more {e} l f =
       let next : counted e ≡ digits q 3 (suc i) = f i (b .count) in
       let left : 48 - i ≡ suc (48 - suc i) = omega arith in

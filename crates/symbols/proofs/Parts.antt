@@ -17,13 +17,15 @@ pub part-first : (n : ℕ) (x : List ℕ) (i : ℕ) → i < n → getD (part tru
 part-first n x i h =
     let e : 1 + double i ≡ 2 * i + 1 = omega (arith, double-is i) in
     let l : 2 * i + 1 < 2 * n + 1 = omega arith in
-    sym (first-at (drop 1 (take (2 * n + 1) x)) i) ∙ getD-drop 1 (take (2 * n + 1) x) (double i) 0 ∙ rw e (getD-take (2 * n + 1) x (2 * i + 1) 0 l)
+    let t : List ℕ = take (2 * n + 1) x in
+    sym (first-at (drop 1 t) i) ∙ getD-drop 1 t (double i) 0 ∙ rw e (getD-take (2 * n + 1) x (2 * i + 1) 0 l)
 
 pub part-second : (n : ℕ) (x : List ℕ) (i : ℕ) → i < n → getD (part false n x) i 0 ≡ getD x (2 * i + 2) 0
 part-second n x i h =
     let e : 1 + suc (double i) ≡ 2 * i + 2 = omega (arith, double-is i) in
     let l : 2 * i + 2 < 2 * n + 1 = omega arith in
-    sym (second-at (drop 1 (take (2 * n + 1) x)) i) ∙ getD-drop 1 (take (2 * n + 1) x) (suc (double i)) 0 ∙ rw e (getD-take (2 * n + 1) x (2 * i + 2) 0 l)
+    let t : List ℕ = take (2 * n + 1) x in
+    sym (second-at (drop 1 t) i) ∙ getD-drop 1 t (suc (double i)) 0 ∙ rw e (getD-take (2 * n + 1) x (2 * i + 2) 0 l)
 
 -- a part has at most n symbols
 pub part-length : (b : Bool) (n : ℕ) (x : List ℕ) → length (part b n x) ≤ n

@@ -9,7 +9,7 @@ use native.Mathlib.Omega.{arith}
 use lib.Dec.{T, eqb, eqb→eq, eqb-refl}
 use borrow.Author.Tests.{eq-eqb, ne-eqb}
 use Rattle.modular_theory.specs.Search.{anyBelow}
-use Rattle.modular_theory.proofs.Search.{le-or-lt, same-test, any-at, any-of}
+use Rattle.modular_theory.proofs.Search.{le-or-lt, le-of-not-lt, same-test, any-at, any-of}
 use Rattle.code_theory.specs.Parameters.{Parameters}
 use Rattle.code_theory.specs.Component.{isCheck}
 
@@ -48,7 +48,7 @@ module _ {q position power : ℕ} (two : 2 ≤ q) (a : Ahead q position power) w
       record {
         exponent = suc (a .exponent);
         is = ap (λ (x : ℕ). x * q) (a .is) ∙ sym (pow-suc q (a .exponent));
-        smaller = λ i l. ⊎-elim (λ (m : a .exponent ≤ i). at i (omega arith)) (λ (m : i < a .exponent). let s : q ^ i < position = a .smaller i m in omega arith) (le-or-lt (a .exponent) i);
+        smaller = λ i l. ⊎-elim (λ (m : a .exponent ≤ i). at i (omega arith)) (below i) (le-or-lt (a .exponent) i);
         from = omega (arith, a .some);
         some = omega (arith, a .some);
         small = mul-le-mul b h;
@@ -56,6 +56,9 @@ module _ {q position power : ℕ} (two : 2 ≤ q) (a : Ahead q position power) w
     where
       at : (i : ℕ) → i ≡ a .exponent → q ^ i < position + 1
       at i f = rw (f, ← a .is) (omega arith)
+
+      below : (i : ℕ) → i < a .exponent → q ^ i < position + 1
+      below i m = let s : q ^ i < position = a .smaller i m in omega arith
 
   -- after any other it stays
   pub ahead-other : position ≢ power → Ahead q (position + 1) power
@@ -87,7 +90,7 @@ module _ {q position power : ℕ} (two : 2 ≤ q) (a : Ahead q position power) w
       back h =
           let (j, k, t) = any-at test (r - 1) h in
           let e : position ≡ q ^ j = eqb→eq position (q ^ j) t in
-          let low : a .exponent ≤ j = ⊎-elim (λ (g : a .exponent ≤ j). g) (λ (g : j < a .exponent). absurd (not-le-of-lt (a .smaller j g) (omega arith))) (le-or-lt (a .exponent) j) in
+          let low : a .exponent ≤ j = le-of-not-lt (λ (g : j < a .exponent). not-le-of-lt (a .smaller j g) (omega arith)) in
           let high : power ≤ q ^ j = rw (a .is) (pow-le-pow-right {n = q} (omega arith) low) in
           let f : position ≡ power = omega (arith, a .from) in
           rw f (eqb-refl power)
@@ -102,7 +105,8 @@ module _ {q position power : ℕ} (two : 2 ≤ q) (a : Ahead q position power) w
   check-two e p within = sym (ahead-check p within) ∙ ap (λ (b : Bool). b || eqb position power) (eq-eqb position 2 e)
 
   pub check-power : position ≡ power → (p : Parameters) → Spans p q position → isCheck p position ≡ true
-  check-power e p within = sym (ahead-check p within) ∙ ap (λ (b : Bool). eqb position 2 || b) (eq-eqb position power e) ∙ or-true (eqb position 2)
+  check-power e p within =
+      sym (ahead-check p within) ∙ ap (λ (b : Bool). eqb position 2 || b) (eq-eqb position power e) ∙ or-true (eqb position 2)
     where
       or-true : (b : Bool) → (b || true) ≡ true
       or-true true = refl

@@ -91,7 +91,8 @@ module _ {q n : ℕ} {columns : List (List ℕ)} (some : 1 ≤ q) (right : Colum
   digit-row : (j : ℕ) → j < 3 → residue q (dot (columnDigit columns j) c) ≡ dot (checkRow (fourRows q n) j) c % q
   digit-row j h =
       residue-is (dot (columnDigit columns j) c) some
-      ∙ ap (λ (s : ℕ). s % q) (dot-same (columnDigit columns j) (checkRow (fourRows q n) j) c (λ i l. column-digit right i j (omega arith) h))
+      ∙ ap (λ (s : ℕ). s % q)
+      (dot-same (columnDigit columns j) (checkRow (fourRows q n) j) c (λ i l. column-digit right i j (omega arith) h))
 
   -- they are the syndrome of four rows
   pub sums-are : (j : ℕ) → j < 4 → getD (rowSums q columns c) j 0 ≡ syndrome (fourRows q n) c j

@@ -56,9 +56,11 @@ module _ {t : List ℕ} {all even i : ℕ} (w : Weighing t all even i) where
       even-at (i % 2) t i ∙ ap (λ (a : ℕ). a * (i % 2) + evenFrom (1 - i % 2) (drop (suc i) t)) e in
       let s : suc i ≡ i + 1 = omega arith in
       let n : 1 - i % 2 ≡ (i + 1) % 2 = omega arith in
+      let past = ap (λ (j : ℕ). evenFrom (1 - i % 2) (drop j t)) s in
+      let turned = ap (λ (j : ℕ). evenFrom j (drop (i + 1) t)) n in
       record {
         all-left = omega (arith, w .all-left, weight-at t i, ap (λ (j : ℕ). weight (drop j t)) s);
-        even-left = omega (arith, w .even-left, p, ap (λ (j : ℕ). evenFrom (1 - i % 2) (drop j t)) s, ap (λ (j : ℕ). evenFrom j (drop (i + 1) t)) n);
+        even-left = omega (arith, w .even-left, p, past, turned);
         even-less = omega (arith, w .even-less);
         small = omega (arith, w .small);
       }

@@ -1,5 +1,5 @@
--- The syndromes of the two components of an interleaved word, as the code has them: four rows, the three digit rows and the row of ones, whatever
--- r is.
+-- The syndromes of the two components of an interleaved word, as the code has them: four rows, the three digit rows and the row of ones,
+-- whatever r is.
 -- Assumes nothing.
 use mathlib.Core.Path.{_≡_}
 use mathlib.Core.Bool.{Bool}

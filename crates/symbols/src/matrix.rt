@@ -60,8 +60,8 @@ fn positions(q: u8, n: usize) -> usize
     n
 }
 
-// Three digits in base q of each position from 1 to n, the lowest first: an array of digit arrays. The rows after them are zeros. There is one way out,
-// so that the compiler builds the table where it is used.
+// Three digits in base q of each position from 1 to n, the lowest first: an array of digit arrays. The rows after them are zeros. There is
+// one way out, so that the compiler builds the table where it is used.
 pub fn columns(q: u8, n: usize) -> Matrix
     ensures { λ r. ⌜ r ≡ columnsOf q n ⌝ }
 {

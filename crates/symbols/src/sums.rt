@@ -60,7 +60,9 @@ fn reduced(q: u8, s: Unreduced) -> Syndrome
 // The syndromes of the components in x: x[0] is neither's, and then their symbols follow in turn, n of
 // each, or all 48.
 pub fn syndromes_of(q: u8, n: usize, columns: &Matrix, x: &Body) -> Syndromes
-    ensures { λ s. ⌜ (rows (s .first) ≡ rowSums q (now (columns .entry)) (part true (min n 48) (now (x .entry)))) × (rows (s .second) ≡ rowSums q (now (columns .entry)) (part false (min n 48) (now (x .entry)))) ⌝ }
+    ensures { λ s. ⌜
+        (rows (s .first) ≡ rowSums q (now (columns .entry)) (part true (min n 48) (now (x .entry))))
+        × (rows (s .second) ≡ rowSums q (now (columns .entry)) (part false (min n 48) (now (x .entry)))) ⌝ }
 {
     let mut end = n;
     if 48 < end {

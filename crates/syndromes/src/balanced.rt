@@ -3,11 +3,10 @@ use crate::checks::Verdict;
 use crate::syndrome::near;
 use symbols::Checks;
 use symbols::Syndrome;
-ghost use mathlib.Core.Path.{_≡_};
 ghost use lib.Dec.{eqb};
 ghost use Rattle.decoding_theory.specs.Syndromes.{nearSyndromes};
 ghost use Rattle.symbols.specs.Syndromes.{fourRows, rows};
-ghost use Rattle.syndromes.specs.Verdict.{verdictOf};
+ghost use Rattle.syndromes.specs.Verdict.{Verdicts};
 
 // Clean, or one check symbol is wrong: `asked` are those that the body asks for, `arrived` those received.
 pub fn verdict(
@@ -18,7 +17,9 @@ pub fn verdict(
     asked: Checks,
     arrived: Checks,
 ) -> Verdict
-    ensures { λ r. ⌜ r ≡ verdictOf (nearSyndromes (fourRows q n) (rows first) (rows second)) (eqb (asked .alpha) (arrived .alpha)) (eqb (asked .beta) (arrived .beta)) ⌝ }
+    ensures { λ r. ⌜
+        Verdicts asked arrived (nearSyndromes (fourRows q n) (rows first) (rows second)) (eqb (asked .alpha) (arrived .alpha))
+        (eqb (asked .beta) (arrived .beta)) r ⌝ }
 {
     if !near(q, n, first, second) {
         return Verdict::Unreadable;

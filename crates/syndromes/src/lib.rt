@@ -1,5 +1,5 @@
-// What the two syndromes of a received word say: whether they are those of near components, and with the check symbols what a balanced word is. Each
-// function is total.
+// What the two syndromes of a received word say: whether they are those of near components, and with the check symbols what a balanced word
+// is. Each function is total.
 mod balanced;
 mod checks;
 mod syndrome;

@@ -43,12 +43,4 @@ returns-3 c =
 
 pub components-spec : {M : Type 1} → statement M
 components-spec =
-    tie.close
-    (tie.spec
-    row-of-requires
-    enum-known-row
-    enum-told
-    returns
-    returns-2
-    interleaved-requires
-    returns-3)
+    tie.close (tie.spec row-of-requires enum-known-row enum-told returns returns-2 interleaved-requires returns-3)

@@ -1,5 +1,5 @@
--- `encoder::encode` meets its contract: what the steps refuse is what the definition refuses, before any byte is written; what they let through is
--- encoded, and the word fills the output.
+-- `encoder::encode` meets its contract: what the steps refuse is what the definition refuses, before any byte is written; what they let
+-- through is encoded, and the word fills the output.
 -- Assumes nothing.
 use mathlib.Core.Path.{_≡_, sym, ap, _∙_}
 use mathlib.Core.List.{List}
@@ -98,15 +98,5 @@ returns-3 c =
 
 pub encode-spec : {M : Type 1} → statement M
 encode-spec =
-    tie.close
-    (tie.spec
-    row-of-requires
-    enum-known-row
-    enum-told
-    returns
-    encode-refusal-requires
-    returns-2
-    word-of-requires
-    put-requires
-    same-length
-    returns-3)
+    tie.close (tie.spec row-of-requires enum-known-row enum-told returns encode-refusal-requires returns-2 word-of-requires put-requires
+    same-length returns-3)

@@ -51,14 +51,5 @@ returns c =
 
 pub check-symbols-spec : {M : Type 1} → statement M
 check-symbols-spec =
-    tie.close
-    (tie.spec
-    sub-requires
-    sub-requires-2
-    sub-requires-3
-    sub-requires-4
-    sub-requires-5
-    sub-requires-6
-    sub-requires-7
-    sub-requires-8
-    returns)
+    tie.close (tie.spec sub-requires sub-requires-2 sub-requires-3 sub-requires-4 sub-requires-5 sub-requires-6 sub-requires-7
+    sub-requires-8 returns)

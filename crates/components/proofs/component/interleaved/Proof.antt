@@ -1,8 +1,10 @@
--- `components::component::interleaved` meets its contract: the check symbols make up for the row sums of each message, and only the component does so.
+-- `components::component::interleaved` meets its contract: the check symbols make up for the row sums of each message, and only the
+-- component does so.
 -- Assumes nothing.
 use mathlib.Core.Path.{_≡_}
-use mathlib.Core.Bool.{true, false}
-use Prim.Native.Nat.{_<_}
+use mathlib.Core.Bool.{Bool, true, false}
+use mathlib.Core.List.{List}
+use Prim.Native.Nat.{ℕ, _<_}
 use native.Mathlib.Nat.{min-eq-left}
 use denote.Ref.{now}
 use Rattle.code_theory.proofs.Columns.{q-positive}
@@ -24,18 +26,25 @@ module _ (c : tie.After-syndromes-of) where
   abbrev start : tie.Start
   start = built .before .before .before .before
 
-  right : Columns (start .args .row .q) (start .args .row .n) (built .columns .result)
+  abbrev q : ℕ
+  q = start .args .row .q
+
+  -- the row sums of a message at its positions
+  abbrev sums : Bool → List ℕ
+  sums b = rowSums q (built .columns .result) (part b (start .args .row .n) (built .before .placed .result))
+
+  right : Columns q (start .args .row .n) (built .columns .result)
   right = columns-right (built .columns .ensures) (q-positive _ (start .pre .0 .sized)) (start .pre .0 .length)
 
-  first : rows (c .syndromes-of .result .first) ≡ rowSums (start .args .row .q) (built .columns .result) (part true (start .args .row .n) (built .before .placed .result))
+  first : rows (c .syndromes-of .result .first) ≡ sums true
   first = rw (min-eq-left (start .pre .0 .length)) at (c .syndromes-of .ensures .0)
 
-  second : rows (c .syndromes-of .result .second) ≡ rowSums (start .args .row .q) (built .columns .result) (part false (start .args .row .n) (built .before .placed .result))
+  second : rows (c .syndromes-of .result .second) ≡ sums false
   second = rw (min-eq-left (start .pre .0 .length)) at (c .syndromes-of .ensures .1)
 
   -- and symbols
   abbrev Symbols : Syndrome → Type 0
-  Symbols s = (s .low < start .args .row .q) × (s .mid < start .args .row .q) × (s .high < start .args .row .q) × (s .ones < start .args .row .q)
+  Symbols s = (s .low < q) × (s .mid < q) × (s .high < q) × (s .ones < q)
 
   both : Symbols (c .syndromes-of .result .first) × Symbols (c .syndromes-of .result .second)
   both = (
@@ -69,17 +78,11 @@ returns : tie.Need-returns
 returns c =
     let s = c .before .before .before in
     let a = start s in
-    components-made (a .args .row) (a .pre .0) (right s) (now (a .args .first)) (now (a .args .second)) (a .pre .2) (a .pre .3) (built s .before .placed .ensures)
-    (c .filled .ensures) (search needs) (first s) (second s) (c .before .before .check-symbols .ensures) (c .before .check-symbols2 .ensures)
+    components-made (a .args .row) (a .pre .0) (right s) (now (a .args .first)) (now (a .args .second)) (a .pre .2) (a .pre .3)
+    (built s .before .placed .ensures) (c .filled .ensures) (search needs) (first s) (second s)
+    (c .before .before .check-symbols .ensures) (c .before .check-symbols2 .ensures)
 
 pub interleaved-spec : {M : Type 1} → statement M
 interleaved-spec =
-    tie.close
-    (tie.spec
-    placed-requires
-    columns-requires
-    syndromes-of-requires
-    check-symbols-requires
-    check-symbols-requires-2
-    filled-requires
-    returns)
+    tie.close (tie.spec placed-requires columns-requires syndromes-of-requires check-symbols-requires check-symbols-requires-2
+    filled-requires returns)

@@ -66,6 +66,5 @@ returns c = running-all (c .before .loop .inv) (c .loop-test .left)
 
 pub copy-run-spec : {M : Type 1} → statement M
 copy-run-spec =
-    tie.close (tie.spec Inv-loop μ-loop sub-count loop-holds add-from mul-from add-to add-first element-copy-out-first
-    slice-write-first add-second element-copy-out-second slice-write-second add-k loop-less loop-again same-length same-length-2
-    returns)
+    tie.close (tie.spec Inv-loop μ-loop sub-count loop-holds add-from mul-from add-to add-first element-copy-out-first slice-write-first
+    add-second element-copy-out-second slice-write-second add-k loop-less loop-again same-length same-length-2 returns)

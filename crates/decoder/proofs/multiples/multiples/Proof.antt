@@ -53,17 +53,5 @@ returns c =
 
 pub multiples-spec : {M : Type 1} → statement M
 multiples-spec =
-    tie.close
-    (tie.spec
-    Inv-loop
-    μ-loop
-    wide-requires
-    loop-holds
-    sub-add
-    array-read-add
-    add-requires
-    array-write-table
-    add-i
-    loop-less
-    loop-again
-    returns)
+    tie.close (tie.spec Inv-loop μ-loop wide-requires loop-holds sub-add array-read-add add-requires array-write-table add-i loop-less
+    loop-again returns)

@@ -68,16 +68,5 @@ returns c =
 
 pub total-spec : {M : Type 1} → statement M
 total-spec =
-    tie.close
-    (tie.spec
-    weigh-requires
-    cast-weight
-    cast-weight-2
-    add-weight
-    checks-of-requires
-    shared-slice-read-alpha
-    add-beta
-    shared-slice-read-beta
-    syndromes-of-requires
-    difference-requires
-    returns)
+    tie.close (tie.spec weigh-requires cast-weight cast-weight-2 add-weight checks-of-requires shared-slice-read-alpha add-beta
+    shared-slice-read-beta syndromes-of-requires difference-requires returns)

@@ -26,7 +26,7 @@ module _ (c : tie.After-verdict) where
   told-as v e =
       let (valid, totalled) = start .pre in
       let near = near-same _ valid _ _ (totalled .first-rows) (totalled .second-rows) in
-      judged-as _ sums (valid .balanced) near v (sym e ∙ c .verdict .ensures)
+      judged-as _ sums (valid .balanced) near v (sym e ∙ c .verdict .ensures .is)
 
 verdict-requires : tie.Need-verdict-requires
 verdict-requires c κs = search needs

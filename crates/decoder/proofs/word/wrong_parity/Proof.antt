@@ -18,9 +18,4 @@ returns-4 c = rw (ne-eqb _ _ (c .before .before .if1 .left), ne-eqb _ _ (c .if3 
 
 pub wrong-parity-spec : {M : Type 1} → statement M
 wrong-parity-spec =
-    tie.close
-    (tie.spec
-    returns
-    returns-2
-    returns-3
-    returns-4)
+    tie.close (tie.spec returns returns-2 returns-3 returns-4)

@@ -53,5 +53,4 @@ returns c =
 
 pub balanced-spec : {M : Type 1} → statement M
 balanced-spec =
-    tie.close
-    (tie.spec integrated-requires earliest-requires sub-raised cast-raised raised-requires returns)
+    tie.close (tie.spec integrated-requires earliest-requires sub-raised cast-raised raised-requires returns)

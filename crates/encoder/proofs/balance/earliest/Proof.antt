@@ -1,5 +1,5 @@
--- `encoder::balance::earliest` meets its contract. The invariants: no choice with a smaller s balances, and none with this s and a smaller v; the
--- weight is that of the choice tried. A balancing choice exists, so s stays below q. The measures are what is left of s and of v.
+-- `encoder::balance::earliest` meets its contract. The invariants: no choice with a smaller s balances, and none with this s and a smaller
+-- v; the weight is that of the choice tried. A balancing choice exists, so s stays below q. The measures are what is left of s and of v.
 -- Assumes nothing.
 use mathlib.Core.Path.{_≡_, refl, sym, ap, ap₂, _∙_}
 use mathlib.Core.List.{List}
@@ -9,7 +9,8 @@ use lib.ListN.{length, getD, take}
 use lib.Seq.{getD-take}
 use denote.Ref.{now}
 use Rattle.code_theory.specs.Parameters.{balancingValue}
-use Rattle.encoder.proofs.Searching.{Trying, Missed, gains, weightAt, missed-none, trying-first, trying-next, trying-all, weight-next, weight-small, row-size, s-left, all-found}
+use Rattle.encoder.proofs.Searching.{Trying, Missed, gains, weightAt, missed-none, trying-first, trying-next}
+use Rattle.encoder.proofs.Searching.{trying-all, weight-next, weight-small, row-size, s-left, all-found}
 use Rattle.encoder.proofs.balance.earliest.Statement.{statement}
 use Rattle.encoder.proofs.balance.earliest.Tie as tie
 
@@ -38,35 +39,44 @@ target a = a .pre .0 .target ∙ ap (balancingValue (a .args .row .q)) (sym (siz
 s-below : (c : tie.At-search Inv-loop μ-loop Inv-search μ-search) → c .search .s < c .before .args .row .q
 s-below c = s-left (c .before .args .row) (c .before .pre .0) (size (c .before)) (c .before .pre .2) (c .search .inv)
 
+-- the turn of the search that a turn of the loop is in
+abbrev outer : tie.At-loop Inv-loop μ-loop Inv-search μ-search → tie.At-search Inv-loop μ-loop Inv-search μ-search
+outer l = l .before .before .before
+
 -- the symbol at v
 module _ (c : tie.In-loop Inv-loop μ-loop Inv-search μ-search) where
   abbrev start : tie.Start Inv-loop μ-loop Inv-search μ-search
-  start = c .before .before .before .before .before
+  start = outer (c .before) .before
 
-  inside : c .before .loop .v - 1 < start .args .row .balanced
+  abbrev q : ℕ
+  q = start .args .row .q
+
+  abbrev s : ℕ
+  s = outer (c .before) .search .s
+
+  abbrev i : ℕ
+  i = c .before .loop .v - 1
+
+  inside : i < start .args .row .balanced
   inside = omega (arith, c .before .loop .inv .from, c .loop-test .taken)
 
-  is-symbol : getD (word start) (c .before .loop .v - 1) 0 ≡ getD (now (start .args .d)) (c .before .loop .v - 1) 0
-  is-symbol = getD-take (start .args .row .balanced) (now (start .args .d)) (c .before .loop .v - 1) 0 inside
+  is-symbol : getD (word start) i 0 ≡ getD (now (start .args .d)) i 0
+  is-symbol = getD-take (start .args .row .balanced) (now (start .args .d)) i 0 inside
 
-  symbol : getD (word start) (c .before .loop .v - 1) 0 < start .args .row .q
-  symbol = rw is-symbol (start .pre .1 .below (c .before .loop .v - 1) inside)
+  symbol : getD (word start) i 0 < q
+  symbol = rw is-symbol (start .pre .1 .below i inside)
 
   -- the weight with what it gains there
-  gained : c .before .loop .weight + getD (gains (start .args .row .q) (c .before .before .before .before .search .s)) (getD (now (start .args .d)) (c .before .loop .v - 1) 0) 0
-      ≡ suc (weightAt (start .args .row .q) (word start) (c .before .before .before .before .search .s) (suc (c .before .loop .v - 1)))
+  gained : c .before .loop .weight + getD (gains q s) (getD (now (start .args .d)) i 0) 0 ≡ suc (weightAt q (word start) s (suc i))
   gained =
       let l = c .before in
-      let q = start .args .row .q in
-      let s = l .before .before .before .search .s in
       ap₂ (λ (n y : ℕ). n + getD (gains q s) y 0) (l .loop .inv .is) (sym is-symbol)
-      ∙ weight-next q s (word start) (l .loop .v - 1) (start .pre .1 .levels) (s-below (l .before .before .before)) (rw (size start) inside) symbol refl
+      ∙ weight-next q s (word start) i (start .pre .1 .levels) (s-below (outer l)) (rw (size start) inside) symbol refl
 
   -- which fits
-  small : weightAt (start .args .row .q) (word start) (c .before .before .before .before .search .s) (suc (c .before .loop .v - 1)) ≤ 1455
+  small : weightAt q (word start) s (suc i) ≤ 1455
   small =
-      weight-small (start .args .row .q) (start .pre .1 .some) (word start) (c .before .before .before .before .search .s) (suc (c .before .loop .v - 1)) (start .pre .1 .levels)
-      (rw (size start) (start .pre .1 .room))
+      weight-small q (start .pre .1 .some) (word start) s (suc i) (start .pre .1 .levels) (rw (size start) (start .pre .1 .room))
 
 search-holds : tie.Need-search-holds Inv-loop μ-loop Inv-search μ-search
 search-holds c = missed-none _ _
@@ -102,80 +112,56 @@ element-copy-out-weight c = omega (arith, inside (c .before .before), start (c .
 
 cast-weight : tie.Need-cast-weight Inv-loop μ-loop Inv-search μ-search
 cast-weight c =
-    let i = c .before .before .before in
-    omega (arith, is-symbol i, symbol i, start i .pre .1 .levels)
+    let turn = c .before .before .before in
+    omega (arith, is-symbol turn, symbol turn, start turn .pre .1 .levels)
 
 array-read-weight : tie.Need-array-read-weight Inv-loop μ-loop Inv-search μ-search
 array-read-weight c =
-    let i = c .before .before .before in
-    omega (arith, is-symbol i, symbol i, start i .pre .1 .levels)
+    let turn = c .before .before .before in
+    omega (arith, is-symbol turn, symbol turn, start turn .pre .1 .levels)
 
 cast-weight-2 : tie.Need-cast-weight-2 Inv-loop μ-loop Inv-search μ-search
-cast-weight-2 c = omega (arith, gained (c .before .before .before), small (c .before .before .before))
+cast-weight-2 c = let turn = c .before .before .before in omega (arith, gained turn, small turn)
 
 add-weight : tie.Need-add-weight Inv-loop μ-loop Inv-search μ-search
-add-weight c = omega (arith, gained (c .before .before .before), small (c .before .before .before))
+add-weight c = let turn = c .before .before .before in omega (arith, gained turn, small turn)
 
 sub-weight-2 : tie.Need-sub-weight-2 Inv-loop μ-loop Inv-search μ-search
 sub-weight-2 c = omega (arith, gained (c .before .before .before))
 
 add-v : tie.Need-add-v Inv-loop μ-loop Inv-search μ-search
-add-v c = omega (arith, c .before .before .before .loop-test .taken, start (c .before .before .before) .pre .1 .room)
+add-v c = let turn = c .before .before .before in omega (arith, turn .loop-test .taken, start turn .pre .1 .room)
 
 loop-less : tie.Need-loop-less Inv-loop μ-loop Inv-search μ-search
 loop-less c = omega (arith, c .before .before .before .loop-test .taken)
 
 loop-again : tie.Need-loop-again Inv-loop μ-loop Inv-search μ-search
 loop-again c =
-    let i = c .before .before .before in
-    let a = start i in
-    trying-next (i .before .loop .inv) (omega (arith, size a, i .loop-test .taken)) (λ e. c .before .if1 .left (e ∙ sym (target a))) (omega (arith, gained i))
+    let turn = c .before .before .before in
+    let a = start turn in
+    trying-next (turn .before .loop .inv) (omega (arith, size a, turn .loop-test .taken)) (λ e. c .before .if1 .left (e ∙ sym (target a)))
+    (omega (arith, gained turn))
 
 add-s : tie.Need-add-s Inv-loop μ-loop Inv-search μ-search
-add-s c = omega (arith, s-below (c .before .before .before .before), c .before .before .before .before .before .pre .1 .levels)
+add-s c = omega (arith, s-below (outer (c .before)), outer (c .before) .before .pre .1 .levels)
 
 search-less : tie.Need-search-less Inv-loop μ-loop Inv-search μ-search
-search-less c = omega (arith, s-below (c .before .before .before .before))
+search-less c = omega (arith, s-below (outer (c .before)))
 
 search-again : tie.Need-search-again Inv-loop μ-loop Inv-search μ-search
 search-again c =
-    let a = c .before .before .before .before .before in
-    trying-all (c .before .loop .inv) (omega (arith, size a, c .loop-test .left)) (c .before .before .before .before .search .inv)
+    let a = outer (c .before) .before in
+    trying-all (c .before .loop .inv) (omega (arith, size a, c .loop-test .left)) (outer (c .before) .search .inv)
 
 returns : tie.Need-returns Inv-loop μ-loop Inv-search μ-search
 returns c =
-    let i = c .before .before in
-    let a = start i in
-    all-found (a .args .row) (a .pre .0) (size a) (a .pre .2) (i .before .before .before .before .search .inv) (i .before .loop .inv) (omega (arith, size a, i .loop-test .taken))
-    (c .if1 .taken ∙ target a)
+    let turn = c .before .before in
+    let a = start turn in
+    all-found (a .args .row) (a .pre .0) (size a) (a .pre .2) (outer (turn .before) .search .inv) (turn .before .loop .inv)
+    (omega (arith, size a, turn .loop-test .taken)) (c .if1 .taken ∙ target a)
 
 pub earliest-spec : {M : Type 1} → statement M
 earliest-spec =
-    tie.close
-    (tie.spec
-    Inv-loop
-    μ-loop
-    Inv-search
-    μ-search
-    search-holds
-    sub-gain
-    sub-gain-2
-    cast-gain
-    array-write-gain
-    add-weight-raised
-    weight-raised-requires
-    loop-holds
-    sub-weight
-    element-copy-out-weight
-    cast-weight
-    array-read-weight
-    cast-weight-2
-    add-weight
-    sub-weight-2
-    add-v
-    loop-less
-    loop-again
-    add-s
-    search-less
-    search-again
-    returns)
+    tie.close (tie.spec Inv-loop μ-loop Inv-search μ-search search-holds sub-gain sub-gain-2 cast-gain array-write-gain add-weight-raised
+    weight-raised-requires loop-holds sub-weight element-copy-out-weight cast-weight array-read-weight cast-weight-2 add-weight sub-weight-2
+    add-v loop-less loop-again add-s search-less search-again returns)

@@ -74,17 +74,5 @@ returns c = record { at = λ k h. c .before .loop .inv .0 .at k (omega (arith, c
 
 pub raised-spec : {M : Type 1} → statement M
 raised-spec =
-    tie.close
-    (tie.spec
-    Inv-loop
-    μ-loop
-    loop-holds
-    element-copy-out-add
-    step-requires
-    add-requires
-    array-write-w
-    add-at
-    add-i
-    loop-less
-    loop-again
-    returns)
+    tie.close (tie.spec Inv-loop μ-loop loop-holds element-copy-out-add step-requires add-requires array-write-w add-at add-i loop-less
+    loop-again returns)

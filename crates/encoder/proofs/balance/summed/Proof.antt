@@ -48,17 +48,5 @@ returns c = record { at = λ k h. c .before .loop .inv .0 .written .at k (omega 
 
 pub summed-spec : {M : Type 1} → statement M
 summed-spec =
-    tie.close
-    (tie.spec
-    Inv-loop
-    μ-loop
-    loop-holds
-    element-copy-out-wide16
-    wide16-requires
-    add-sum
-    mul-sums
-    array-write-sums
-    add-i
-    loop-less
-    loop-again
-    returns)
+    tie.close (tie.spec Inv-loop μ-loop loop-holds element-copy-out-wide16 wide16-requires add-sum mul-sums array-write-sums add-i loop-less
+    loop-again returns)

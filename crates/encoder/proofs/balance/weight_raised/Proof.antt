@@ -72,17 +72,5 @@ returns c =
 
 pub weight-raised-spec : {M : Type 1} → statement M
 weight-raised-spec =
-    tie.close
-    (tie.spec
-    Inv-loop
-    μ-loop
-    loop-holds
-    element-copy-out-add
-    add-requires
-    wide16-requires
-    add-sum
-    add-i
-    loop-less
-    loop-again
-    cast-result
-    returns)
+    tie.close (tie.spec Inv-loop μ-loop loop-holds element-copy-out-add add-requires wide16-requires add-sum add-i loop-less loop-again
+    cast-result returns)

@@ -3,13 +3,10 @@
 use mathlib.Core.List.{List}
 use Prim.Native.Nat.{ℕ}
 use borrow.Author.Needs.{needs}
-use lib.Dec.{T}
-use Rattle.code_theory.specs.Parameters.{messageLength}
-use Rattle.code_theory.specs.Component.{isWord}
 use Rattle.code_theory.specs.Profiles.{profile}
 use denote.Ref.{now}
 use Rattle.encoder.specs.Symbols.{SymbolArray}
-use Rattle.encoder.proofs.Pairing.{pair-symbols, pair-encoded, pair-length}
+use Rattle.encoder.proofs.Pairing.{IsMessage, pair-symbols, pair-encoded, pair-length}
 use Rattle.encoder.proofs.pair.word_of.Statement.{statement}
 use Rattle.encoder.proofs.pair.word_of.Tie as tie
 
@@ -19,7 +16,7 @@ module _ (c : tie.After-components) where
   start = c .before .before .before
 
   abbrev isMessage : List ℕ → Type 0
-  isMessage a = let p = profile (start .args .number) in T (isWord (p .q) (messageLength p) a)
+  isMessage = IsMessage (profile (start .args .number))
 
   abbrev pair : isMessage (now (start .args .first)) × isMessage (now (start .args .second))
   pair = (start .pre .1, start .pre .2)

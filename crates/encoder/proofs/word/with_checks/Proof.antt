@@ -69,19 +69,5 @@ returns c =
 
 pub with-checks-spec : {M : Type 1} → statement M
 with-checks-spec =
-    tie.close
-    (tie.spec
-    Inv-loop
-    μ-loop
-    weigh-requires
-    checks-of-requires
-    loop-holds
-    element-copy-out-symbols
-    array-write-symbols
-    add-i
-    loop-less
-    loop-again
-    array-write-symbols-2
-    add-symbols
-    array-write-symbols-3
-    returns)
+    tie.close (tie.spec Inv-loop μ-loop weigh-requires checks-of-requires loop-holds element-copy-out-symbols array-write-symbols add-i
+    loop-less loop-again array-write-symbols-2 add-symbols array-write-symbols-3 returns)

@@ -51,15 +51,5 @@ returns-3 c =
 
 pub remainder-spec : {M : Type 1} → statement M
 remainder-spec =
-    tie.close
-    (tie.spec
-    returns
-    wide-requires
-    rem-result
-    cast-result
-    returns-2
-    wide16-requires
-    inverse-requires
-    cast-remainder-by
-    remainder-by-requires
-    returns-3)
+    tie.close (tie.spec returns wide-requires rem-result cast-result returns-2 wide16-requires inverse-requires cast-remainder-by
+    remainder-by-requires returns-3)

@@ -37,13 +37,4 @@ returns-2 c = let a = c .before in left-wrapped (a .pre .0) (a .pre .2) (narrow 
 
 pub remainder-by-spec : {M : Type 1} → statement M
 remainder-by-spec =
-    tie.close
-    (tie.spec
-    mul-quotient
-    cast-quotient
-    mul-left
-    sub-left
-    cast-result
-    cast-result-2
-    returns
-    returns-2)
+    tie.close (tie.spec mul-quotient cast-quotient mul-left sub-left cast-result cast-result-2 returns returns-2)

@@ -61,19 +61,5 @@ returns-2 c = residues-all _ _ (c .before .loop .inv .0) (c .loop-test .left)
 
 pub remainders-spec : {M : Type 1} → statement M
 remainders-spec =
-    tie.close
-    (tie.spec
-    Inv-loop
-    μ-loop
-    returns
-    wide16-requires
-    inverse-requires
-    loop-holds
-    mul-remainder-by
-    element-copy-out-remainder-by
-    remainder-by-requires
-    array-write-d
-    add-i
-    loop-less
-    loop-again
-    returns-2)
+    tie.close (tie.spec Inv-loop μ-loop returns wide16-requires inverse-requires loop-holds mul-remainder-by element-copy-out-remainder-by
+    remainder-by-requires array-write-d add-i loop-less loop-again returns-2)

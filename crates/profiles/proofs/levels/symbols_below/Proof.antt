@@ -1,5 +1,5 @@
--- `profiles::levels::symbols_below` meets its contract. The invariant: `highest` is the highest of the symbols passed. The measure is what is
--- left.
+-- `profiles::levels::symbols_below` meets its contract. The invariant: `highest` is the highest of the symbols passed. The measure is what
+-- is left.
 -- Assumes nothing.
 use mathlib.Core.Path.{_≡_}
 use mathlib.Core.Logic.{⊎-elim}
@@ -50,15 +50,5 @@ returns-2 c =
 
 pub symbols-below-spec : {M : Type 1} → statement M
 symbols-below-spec =
-    tie.close
-    (tie.spec
-    Inv-loop
-    μ-loop
-    loop-holds
-    shared-slice-read-if1
-    shared-slice-read-highest
-    add-i
-    loop-less
-    loop-again
-    returns
+    tie.close (tie.spec Inv-loop μ-loop loop-holds shared-slice-read-if1 shared-slice-read-highest add-i loop-less loop-again returns
     returns-2)

@@ -14,10 +14,14 @@ symbols-below-requires : tie.Need-symbols-below-requires
 symbols-below-requires c κs = search needs
 
 returns-2 : tie.Need-returns-2
-returns-2 c = refuses-nothing (decode-tests _ _ _ _) (not-false _ (c .before .before .if1 .left)) (sym (c .before .symbols-below .ensures) ∙ c .if2 .taken)
+returns-2 c =
+    refuses-nothing (decode-tests _ _ _ _) (not-false _ (c .before .before .if1 .left))
+    (sym (c .before .symbols-below .ensures) ∙ c .if2 .taken)
 
 returns-3 : tie.Need-returns-3
-returns-3 c = refuses-symbol (decode-tests _ _ _ _) (not-false _ (c .before .before .if1 .left)) (sym (c .before .symbols-below .ensures) ∙ c .if2 .left)
+returns-3 c =
+    refuses-symbol (decode-tests _ _ _ _) (not-false _ (c .before .before .if1 .left))
+    (sym (c .before .symbols-below .ensures) ∙ c .if2 .left)
 
 pub decode-refusal-spec : {M : Type 1} → statement M
 decode-refusal-spec = tie.close (tie.spec returns symbols-below-requires returns-2 returns-3)

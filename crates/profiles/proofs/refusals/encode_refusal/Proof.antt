@@ -15,7 +15,8 @@ symbols-below-requires c κs = search needs
 
 returns-2 : tie.Need-returns-2
 returns-2 c =
-    refuses-symbol (encode-tests _ _ _ _) (not-false _ (c .before .before .if1 .left)) (rw (sym (c .before .symbols-below .ensures) ∙ not-true _ (c .if2 .taken)))
+    refuses-symbol (encode-tests _ _ _ _) (not-false _ (c .before .before .if1 .left))
+    (rw (sym (c .before .symbols-below .ensures) ∙ not-true _ (c .if2 .taken)))
 
 symbols-below-requires-2 : tie.Need-symbols-below-requires-2
 symbols-below-requires-2 c κs = search needs
@@ -24,21 +25,16 @@ returns-3 : tie.Need-returns-3
 returns-3 c =
     let first = c .before .before in
     refuses-nothing (encode-tests _ _ _ _) (not-false _ (first .before .before .if1 .left))
-    (rw (sym (first .before .symbols-below .ensures) ∙ not-false _ (first .if2 .left)) (sym (c .before .symbols-below2 .ensures) ∙ c .if3 .taken))
+    (rw (sym (first .before .symbols-below .ensures) ∙ not-false _ (first .if2 .left))
+    (sym (c .before .symbols-below2 .ensures) ∙ c .if3 .taken))
 
 returns-4 : tie.Need-returns-4
 returns-4 c =
     let first = c .before .before in
     refuses-symbol (encode-tests _ _ _ _) (not-false _ (first .before .before .if1 .left))
-    (rw (sym (first .before .symbols-below .ensures) ∙ not-false _ (first .if2 .left)) (sym (c .before .symbols-below2 .ensures) ∙ c .if3 .left))
+    (rw (sym (first .before .symbols-below .ensures) ∙ not-false _ (first .if2 .left))
+    (sym (c .before .symbols-below2 .ensures) ∙ c .if3 .left))
 
 pub encode-refusal-spec : {M : Type 1} → statement M
 encode-refusal-spec =
-    tie.close
-    (tie.spec
-    returns
-    symbols-below-requires
-    returns-2
-    symbols-below-requires-2
-    returns-3
-    returns-4)
+    tie.close (tie.spec returns symbols-below-requires returns-2 symbols-below-requires-2 returns-3 returns-4)

@@ -38,5 +38,4 @@ returns-2 c = lookup-found _ (known (c .before .before)) _ (c .widened .ensures)
 
 pub row-of-spec : {M : Type 1} → statement M
 row-of-spec =
-    tie.close
-    (tie.spec returns sub-i mul-widened array-copy-out-widened widened-requires returns-2)
+    tie.close (tie.spec returns sub-i mul-widened array-copy-out-widened widened-requires returns-2)

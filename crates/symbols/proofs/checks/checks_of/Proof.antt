@@ -36,12 +36,4 @@ returns c =
 
 pub checks-of-spec : {M : Type 1} → statement M
 checks-of-spec =
-    tie.close
-    (tie.spec
-    cast-remainder
-    wide-requires
-    add-remainder
-    remainder-requires
-    cast-remainder-2
-    remainder-requires-2
-    returns)
+    tie.close (tie.spec cast-remainder wide-requires add-remainder remainder-requires cast-remainder-2 remainder-requires-2 returns)

@@ -1,5 +1,5 @@
--- `symbols::matrix::columns` meets its contract. The invariant: the rows of the positions passed are built, and the last of them is counted. The
--- measure is what is left.
+-- `symbols::matrix::columns` meets its contract. The invariant: the rows of the positions passed are built, and the last of them is
+-- counted. The measure is what is left.
 -- Assumes nothing.
 use mathlib.Core.Path.{_≡_, refl, _∙_}
 use Prim.Native.Nat.{_-_, _≤_}
@@ -22,7 +22,8 @@ loop-holds : tie.Need-loop-holds Inv-loop μ-loop
 loop-holds c = (built-none _ refl, omega arith, rw (c .positions .ensures) (positions-room _ _))
 
 next-requires : tie.Need-next-requires Inv-loop μ-loop
-next-requires c κs = built-digits (c .before .loop .inv .0) (positions-levels _ _ (c .before .before .positions .ensures) (c .loop-test .taken))
+next-requires c κs =
+    built-digits (c .before .loop .inv .0) (positions-levels _ _ (c .before .before .positions .ensures) (c .loop-test .taken))
 
 mul-table : tie.Need-mul-table Inv-loop μ-loop
 mul-table c = search needs
@@ -49,16 +50,5 @@ returns c =
 
 pub columns-spec : {M : Type 1} → statement M
 columns-spec =
-    tie.close
-    (tie.spec
-    Inv-loop
-    μ-loop
-    positions-requires
-    loop-holds
-    next-requires
-    mul-table
-    array-set-from-table
-    add-i
-    loop-less
-    loop-again
-    returns)
+    tie.close (tie.spec Inv-loop μ-loop positions-requires loop-holds next-requires mul-table array-set-from-table add-i loop-less
+    loop-again returns)

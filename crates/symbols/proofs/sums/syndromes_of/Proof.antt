@@ -84,31 +84,15 @@ returns : tie.Need-returns Inv-loop μ-loop
 returns c =
     let l = c .before .before .before in
     let k = l .before .before .args in
-    let i : l .loop .i ≡ l .before .if1 .end = omega arith in (
-      rw (← cap (l .before)) (summing-all (l .loop .inv .0) (k .q) (rw i (part-length true (l .before .if1 .end) (now (k .x)))) (c .before .reduced .ensures)),
-      rw (← cap (l .before)) (summing-all (l .loop .inv .1) (k .q) (rw i (part-length false (l .before .if1 .end) (now (k .x)))) (c .reduced2 .ensures)),
+    let x = now (k .x) in
+    let end = l .before .if1 .end in
+    let i : l .loop .i ≡ end = omega arith in (
+      rw (← cap (l .before)) (summing-all (l .loop .inv .0) (k .q) (rw i (part-length true end x)) (c .before .reduced .ensures)),
+      rw (← cap (l .before)) (summing-all (l .loop .inv .1) (k .q) (rw i (part-length false end x)) (c .reduced2 .ensures)),
     )
 
 pub syndromes-of-spec : {M : Type 1} → statement M
 syndromes-of-spec =
-    tie.close
-    (tie.spec
-    Inv-loop
-    μ-loop
-    loop-holds
-    mul-column
-    element-copy-out-column
-    mul-added
-    add-added
-    element-copy-out-added
-    added-requires
-    mul-added-2
-    add-added-2
-    element-copy-out-added-2
-    added-requires-2
-    add-i
-    loop-less
-    loop-again
-    reduced-requires
-    reduced-requires-2
-    returns)
+    tie.close (tie.spec Inv-loop μ-loop loop-holds mul-column element-copy-out-column mul-added add-added element-copy-out-added
+    added-requires mul-added-2 add-added-2 element-copy-out-added-2 added-requires-2 add-i loop-less loop-again reduced-requires
+    reduced-requires-2 returns)

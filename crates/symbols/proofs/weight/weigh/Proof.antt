@@ -1,5 +1,5 @@
--- `symbols::weight::weigh` meets its contract. The invariant: what is summed and what is left of the symbols that are weighed make the whole. The
--- measure is what is left.
+-- `symbols::weight::weigh` meets its contract. The invariant: what is summed and what is left of the symbols that are weighed make the
+-- whole. The measure is what is left.
 -- Assumes nothing.
 use mathlib.Core.Path.{_≡_, sym, ap, _∙_}
 use mathlib.Core.List.{List}
@@ -16,7 +16,8 @@ use Rattle.symbols.proofs.weight.weigh.Tie as tie
 
 abbrev Inv-loop : tie.InvT-loop
 Inv-loop word m end all₀ even₀ index₀ i₀ all even index i =
-    Weighing (take (min m 97) word) all even i × (index ≡ i) × (i ≤ end) × (end ≡ min (min m 97) (length word)) × (end ≤ 97) × (end ≤ length word)
+    Weighing (take (min m 97) word) all even i × (index ≡ i) × (i ≤ end)
+    × (end ≡ min (min m 97) (length word)) × (end ≤ 97) × (end ≤ length word)
 
 abbrev μ-loop : tie.MeasureT-loop
 μ-loop word m end all₀ even₀ index₀ i₀ all even index i = end - i
@@ -88,25 +89,11 @@ returns c =
     let turn = c .before in
     let start = turn .before .before .before in
     let most = min (start .args .m) 97 in
-    let passed : length (take most (now (start .args .word))) ≤ turn .loop .i = rw length-take (rw (← turn .loop .inv .3) (c .loop-test .left)) in
+    let passed : length (take most (now (start .args .word))) ≤ turn .loop .i =
+    rw length-take (rw (← turn .loop .inv .3) (c .loop-test .left)) in
     weighing-all (turn .loop .inv .0) passed
 
 pub weigh-spec : {M : Type 1} → statement M
 weigh-spec =
-    tie.close
-    (tie.spec
-    Inv-loop
-    μ-loop
-    weighable-requires
-    loop-holds
-    shared-slice-read-wide16
-    wide16-requires
-    add-all
-    if-odd-requires
-    add-even
-    add-index
-    add-i
-    loop-less
-    loop-again
-    sub-odd
-    returns)
+    tie.close (tie.spec Inv-loop μ-loop weighable-requires loop-holds shared-slice-read-wide16 wide16-requires add-all if-odd-requires
+    add-even add-index add-i loop-less loop-again sub-odd returns)

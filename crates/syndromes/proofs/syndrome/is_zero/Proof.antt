@@ -15,7 +15,10 @@ returns-3 : tie.Need-returns-3
 returns-3 c = zero-not _ 2 (omega arith) (c .if3 .taken)
 
 returns-4 : tie.Need-returns-4
-returns-4 c = zero-last _ (c .before .before .before .before .before .if1 .left) (c .before .before .before .if2 .left) (c .before .if3 .left)
+returns-4 c =
+    let third = c .before in
+    let second = third .before .before in
+    zero-last _ (second .before .before .if1 .left) (second .if2 .left) (third .if3 .left)
 
 pub is-zero-spec : {M : Type 1} → statement M
 is-zero-spec = tie.close (tie.spec returns returns-2 returns-3 returns-4)

@@ -30,21 +30,17 @@ wide-requires-4 : tie.Need-wide-requires-4
 wide-requires-4 c κs = search needs
 
 add-result-2 : tie.Need-add-result-2
-add-result-2 c = omega (arith, digits-small (c .before .before .wide2 .ensures .1) (c .before .wide3 .ensures .1) (c .before .before .before .wide .ensures .1))
+add-result-2 c =
+    let high = c .before .before in
+    omega (arith, digits-small (high .wide2 .ensures .1) (c .before .wide3 .ensures .1) (high .before .wide .ensures .1))
 
 returns : tie.Need-returns
-returns c = rw (c .before .before .before .wide .ensures .0, c .before .before .wide2 .ensures .0, c .before .wide3 .ensures .0, c .wide4 .ensures .0) (position-is _ _ _ _ (c .before .before .before .before .args .s .ones))
+returns c =
+    let high = c .before .before in
+    rw (high .before .wide .ensures .0, high .wide2 .ensures .0, c .before .wide3 .ensures .0, c .wide4 .ensures .0)
+    (position-is _ _ _ _ (high .before .before .args .s .ones))
 
 pub position-spec : {M : Type 1} → statement M
 position-spec =
-    tie.close
-    (tie.spec
-    wide-requires
-    wide-requires-2
-    mul-result
-    wide-requires-3
-    add-result
-    mul-result-2
-    wide-requires-4
-    add-result-2
+    tie.close (tie.spec wide-requires wide-requires-2 mul-result wide-requires-3 add-result mul-result-2 wide-requires-4 add-result-2
     returns)
