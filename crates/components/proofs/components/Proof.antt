@@ -39,7 +39,8 @@ interleaved-requires c κs =
 
 returns-3 : tie.Need-returns-3
 returns-3 c =
-    right-components _ _ _ (of (c .before .before .before .before)) (not-false _ (c .before .if1 .left)) (c .interleaved .ensures)
+    let found = c .before .before .before .before in
+    right-components _ _ _ (of found) (not-false _ (c .before .if1 .left)) (c .interleaved .ensures)
 
 pub components-spec : {M : Type 1} → statement M
 components-spec =

@@ -92,9 +92,11 @@ same-length c = search needs
 
 returns-3 : tie.Need-returns-3
 returns-3 c =
-    let d = c .before .before .before .before .before in
-    let word = c .before .before .put .ensures ∙ c .before .before .before .before .word-of .ensures .0 in
-    record { answer = ap outcome (none d); output = word ∙ output-done _ _ _ _ (none d) }
+    let written = c .before .before in
+    let made = written .before .before in
+    let passed = made .before in
+    let word = written .put .ensures ∙ made .word-of .ensures .0 in
+    record { answer = ap outcome (none passed); output = word ∙ output-done _ _ _ _ (none passed) }
 
 pub encode-spec : {M : Type 1} → statement M
 encode-spec =

@@ -34,18 +34,18 @@ sub-requires-8 c κs = search needs
 
 returns : tie.Need-returns
 returns c =
-    let t₃ = c .before .before .before .before .before in
-    let t₆ = c .before .before in
-    let start = t₃ .before .before .before in
+    let third = c .before .before .before .before .before in
+    let sixth = c .before .before in
+    let start = third .before .before .before in
     let p = start .pre in
     let n : start .args .q ≤ 255 = omega arith in
     let some : 0 < start .args .q = omega (arith, p .0) in
-    let a = taken _ _ n (p .3) (p .0) (t₃ .before .before .sub .ensures) in
-    let b = taken _ _ n (a .below) (p .1) (t₃ .before .sub2 .ensures) in
-    let two = taken _ _ n (b .below) (p .2) (t₃ .sub3 .ensures) in
-    let d = taken _ _ n some (p .0) (t₆ .before .before .sub4 .ensures) in
-    let e = taken _ _ n (d .below) (two .below) (t₆ .before .sub5 .ensures) in
-    let one = taken _ _ n (e .below) (two .below) (t₆ .sub6 .ensures) in
+    let a = taken _ _ n (p .3) (p .0) (third .before .before .sub .ensures) in
+    let b = taken _ _ n (a .below) (p .1) (third .before .sub2 .ensures) in
+    let two = taken _ _ n (b .below) (p .2) (third .sub3 .ensures) in
+    let d = taken _ _ n some (p .0) (sixth .before .before .sub4 .ensures) in
+    let e = taken _ _ n (d .below) (two .below) (sixth .before .sub5 .ensures) in
+    let one = taken _ _ n (e .below) (two .below) (sixth .sub6 .ensures) in
     let f = taken _ _ n some (p .1) (c .before .sub7 .ensures) in
     solves-of (rows (start .args .s)) a b two d e one f (taken _ _ n some (p .2) (c .sub8 .ensures))
 

@@ -76,10 +76,10 @@ filled-requires c κs =
 
 returns : tie.Need-returns
 returns c =
-    let s = c .before .before .before in
-    let a = start s in
-    components-made (a .args .row) (a .pre .0) (right s) (now (a .args .first)) (now (a .args .second)) (a .pre .2) (a .pre .3)
-    (built s .before .placed .ensures) (c .filled .ensures) (search needs) (first s) (second s)
+    let summed = c .before .before .before in
+    let a = start summed in
+    components-made (a .args .row) (a .pre .0) (right summed) (now (a .args .first)) (now (a .args .second)) (a .pre .2) (a .pre .3)
+    (built summed .before .placed .ensures) (c .filled .ensures) (search needs) (first summed) (second summed)
     (c .before .before .check-symbols .ensures) (c .before .check-symbols2 .ensures)
 
 pub interleaved-spec : {M : Type 1} → statement M

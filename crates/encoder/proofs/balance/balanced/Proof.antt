@@ -25,31 +25,33 @@ integrated-requires c κs = c .pre .1
 
 earliest-requires : tie.Need-earliest-requires
 earliest-requires c κs =
-    let i = c .before in
-    let a = i .before in
-    (a .pre .0, symbols-fewer (i .integrated .ensures .1) (a .pre .1 .room), record { of = word a; is = i .integrated .ensures .0 })
+    let integral = c .before .integrated .ensures in
+    let a = c .before .before in
+    (a .pre .0, symbols-fewer (integral .1) (a .pre .1 .room), record { of = word a; is = integral .0 })
 
 sub-raised : tie.Need-sub-raised
 sub-raised c = c .before .before .earliest .ensures .from
 
 cast-raised : tie.Need-cast-raised
 cast-raised c =
-    let e = c .before .before in
-    let i = e .before .before in
-    let a = start e in
-    let size = row-size (a .args .row) (a .pre .0) (i .integrated .result) (i .integrated .ensures .1 .size) in
-    omega (arith, e .earliest .ensures .upto, size, a .pre .1 .room)
+    let chosen = c .before .before in
+    let integral = chosen .before .before .integrated in
+    let a = start chosen in
+    let size = row-size (a .args .row) (a .pre .0) (integral .result) (integral .ensures .1 .size) in
+    omega (arith, chosen .earliest .ensures .upto, size, a .pre .1 .room)
 
 raised-requires : tie.Need-raised-requires
-raised-requires c κs = (c .before .before .before .before .integrated .ensures .1, c .before .before .earliest .ensures .below)
+raised-requires c κs =
+    let chosen = c .before .before in
+    (chosen .before .before .integrated .ensures .1, chosen .earliest .ensures .below)
 
 returns : tie.Need-returns
 returns c =
-    let e = c .before .before .before in
-    let a = start e in
-    let i = e .before .before in
-    raised-is (a .args .row .balanced) (i .integrated .ensures .1) (a .pre .1 .room) (c .raised .ensures) (search needs)
-    ∙ e .earliest .ensures .word (word a) (i .integrated .ensures .0)
+    let chosen = c .before .before .before in
+    let integral = chosen .before .before .integrated .ensures in
+    let a = start chosen in
+    raised-is (a .args .row .balanced) (integral .1) (a .pre .1 .room) (c .raised .ensures) (search needs)
+    ∙ chosen .earliest .ensures .word (word a) (integral .0)
 
 pub balanced-spec : {M : Type 1} → statement M
 balanced-spec =

@@ -45,8 +45,9 @@ returns c =
 
 returns-2 : tie.Need-returns-2 Inv-loop μ-loop
 returns-2 c =
-    let e : length (now (c .before .before .before .args .word)) ≡ c .before .before .loop .i = omega arith in
-    highest-decides (c .before .before .loop .inv .0) _ e (omega (arith, c .if2 .left))
+    let last = c .before .before in
+    let e : length (now (last .before .args .word)) ≡ last .loop .i = omega arith in
+    highest-decides (last .loop .inv .0) _ e (omega (arith, c .if2 .left))
 
 pub symbols-below-spec : {M : Type 1} → statement M
 symbols-below-spec =

@@ -56,7 +56,9 @@ element-copy-out-added-2 : tie.Need-element-copy-out-added-2 Inv-loop μ-loop
 element-copy-out-added-2 c = search needs
 
 added-requires-2 : tie.Need-added-requires-2 Inv-loop μ-loop
-added-requires-2 c κs = summing-light (c .before .before .before .before .before .loop .inv .1) (omega arith)
+added-requires-2 c κs =
+    let turn = c .before .before .before .before .before in
+    summing-light (turn .loop .inv .1) (omega arith)
 
 add-i : tie.Need-add-i Inv-loop μ-loop
 add-i c = search needs
@@ -66,12 +68,13 @@ loop-less c = search needs
 
 loop-again : tie.Need-loop-again Inv-loop μ-loop
 loop-again c =
-    let l = c .before .before .before .before .before .before in
-    let x = now (l .before .before .args .x) in (
-      summing-more (l .loop .inv .0) (part-first (l .before .if1 .end) x (l .loop .i) (omega arith)) (c .before .before .added .ensures),
-      summing-more (l .loop .inv .1) (part-second (l .before .if1 .end) x (l .loop .i) (omega arith)) (c .added2 .ensures),
+    let turn = c .before .before .before .before .before .before in
+    let end = turn .before .if1 .end in
+    let x = now (turn .before .before .args .x) in (
+      summing-more (turn .loop .inv .0) (part-first end x (turn .loop .i) (omega arith)) (c .before .before .added .ensures),
+      summing-more (turn .loop .inv .1) (part-second end x (turn .loop .i) (omega arith)) (c .added2 .ensures),
       omega arith,
-      l .loop .inv .3,
+      turn .loop .inv .3,
     )
 
 reduced-requires : tie.Need-reduced-requires Inv-loop μ-loop
@@ -82,13 +85,13 @@ reduced-requires-2 c κs = search needs
 
 returns : tie.Need-returns Inv-loop μ-loop
 returns c =
-    let l = c .before .before .before in
-    let k = l .before .before .args in
+    let last = c .before .before .before in
+    let k = last .before .before .args in
     let x = now (k .x) in
-    let end = l .before .if1 .end in
-    let i : l .loop .i ≡ end = omega arith in (
-      rw (← cap (l .before)) (summing-all (l .loop .inv .0) (k .q) (rw i (part-length true end x)) (c .before .reduced .ensures)),
-      rw (← cap (l .before)) (summing-all (l .loop .inv .1) (k .q) (rw i (part-length false end x)) (c .reduced2 .ensures)),
+    let end = last .before .if1 .end in
+    let i : last .loop .i ≡ end = omega arith in (
+      rw (← cap (last .before)) (summing-all (last .loop .inv .0) (k .q) (rw i (part-length true end x)) (c .before .reduced .ensures)),
+      rw (← cap (last .before)) (summing-all (last .loop .inv .1) (k .q) (rw i (part-length false end x)) (c .reduced2 .ensures)),
     )
 
 pub syndromes-of-spec : {M : Type 1} → statement M
