@@ -83,7 +83,8 @@ checks-balanced p s u h =
     let a : ℕ = alpha (p .q) w in
     let b : ℕ = beta (p .q) w in
     let first : getD u (length w) 0 ≡ a = ap (λ (x : List ℕ). getD x (length w) 0) (c .checks) ∙ getD-append-seam w a (b ∷ []) 0 in
-    let second : getD u (length w + 1) 0 ≡ b = ap (λ (x : List ℕ). getD x (length w + 1) 0) (c .checks) ∙ getD-append-add w (a ∷ b ∷ []) 1 0 in
+    let second : getD u (length w + 1) 0 ≡ b =
+    ap (λ (x : List ℕ). getD x (length w + 1) 0) (c .checks) ∙ getD-append-add w (a ∷ b ∷ []) 1 0 in
     ap₂ (λ (i j : ℕ). getD u i 0 + getD u j 0) (sym m) (ap (λ (i : ℕ). i + 1) (sym m))
     ∙ ap₂ (λ (x y : ℕ). x + y) first second
     ∙ checks-exact (p .q) w (s .odd) (omega (arith, m, s .second)) (c .weighs ∙ ap (balancingValue (p .q)) (sym m))

@@ -25,7 +25,8 @@ module _ {near alpha beta : Bool} (n : near ≡ true) where
   both-wrong e f = rw (n, e, f)
 
 -- what the verdict says
-says : (m : ℕ) (asked arrived : Checks) (near a b : Bool) → verdictReport m asked arrived (verdictOf near a b) ≡ balancedReport m asked arrived near a b
+says : (m : ℕ) (asked arrived : Checks) (near a b : Bool)
+    → verdictReport m asked arrived (verdictOf near a b) ≡ balancedReport m asked arrived near a b
 says m x y false a b = refl
 says m x y true true true = refl
 says m x y true true false = refl

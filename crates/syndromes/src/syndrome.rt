@@ -30,7 +30,7 @@ pub fn position(q: u8, s: Syndrome) -> usize
     (wide(s.high) * levels + wide(s.mid)) * levels + wide(s.low)
 }
 
-// Whether the last row is 1 and the digits name one of the n positions: place 0 is none.
+// Whether the last row is 1 and the digits name one of the n positions: position 0 is none.
 fn is_column(q: u8, n: usize, s: Syndrome) -> bool
     ensures { λ b. ⌜ b ≡ columnSyndrome (fourRows q n) (rows s) ⌝ }
 {

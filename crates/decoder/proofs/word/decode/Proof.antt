@@ -1,5 +1,5 @@
--- `decoder::word::decode` meets its contract: the refusals come first, and of a word that they let through the theorem of crate decoding_theory
--- says that what its sums lead to is the reading.
+-- `decoder::word::decode` meets its contract: the refusals come first, and of a word that they let through the theorem of crate
+-- decoding_theory says that what its sums lead to is the reading.
 -- Assumes nothing.
 use borrow.Author.Needs.{needs}
 use mathlib.Core.Path.{_≡_, sym, _∙_}
