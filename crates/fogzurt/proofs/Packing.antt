@@ -5,12 +5,12 @@ use mathlib.Core.List.{List, [], _∷_}
 use Prim.Native.Nat.{ℕ, zero, suc, _+_, _*_, _/_, _%_, _≤_}
 use native.Mathlib.Omega.{arith}
 use lib.Dec.{lit≤}
-use lib.ListN.{getD}
+use lib.ListN.{length, getD}
 use Rattle.code_theory.specs.Reading.{clean, corrected, read, unreadable}
-use Rattle.code_theory.specs.Operations.{Answer, refused, answered, Report, report, decodeAnswer}
+use Rattle.code_theory.specs.Operations.{Answer, refused, answered, Report, refusal, failure, success, report, decodeAnswer}
 use Rattle.lines_theory.proofs.Bounds.{SmallAnswer, decode-small}
 use Rattle.fogzurt.specs.Packed.{Parts, partsOf, joined, byte, bytes, packed, unpacked, Within}
-use Rattle.fogzurt.specs.Claims.{Unpacks}
+use Rattle.fogzurt.specs.Claims.{Tells, Unpacks}
 
 -- a refusal has one digit, a position two, a symbol one
 within : (a : Answer) → SmallAnswer a → Within (partsOf (report a))
@@ -49,6 +49,17 @@ parts-back p w =
     let g : (i : ℕ) → byte i (joined (bytes p)) ≡ getD (bytes p) i 0 = λ i. byte-joined i (bytes p) h in
     rw (g 0, g 1, g 2, g 3) refl
 
+tells : (a : Report) (c : Parts) → c ≡ partsOf a → Tells a c
+tells (refusal n) c e = e
+tells failure c e = e
+tells (success clean) c e = e
+tells (success (corrected x)) c e = e
+
 pub unpacks : Unpacks
 unfolding packed
-unpacks i u k l r e = ap unpacked e ∙ parts-back (partsOf (report (decodeAnswer i u k l))) (within-answer i u k l)
+unpacks i u r first first′ second second′ a =
+    let k = length first in
+    let l = length second in
+    let told = report (decodeAnswer i u k l) in
+    let back : unpacked r ≡ partsOf told = ap unpacked (a .answer) ∙ parts-back (partsOf told) (within-answer i u k l) in
+    (tells told (unpacked r) back, a .first-out, a .second-out)

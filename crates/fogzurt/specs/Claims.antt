@@ -1,6 +1,7 @@
 -- What is claimed of the C entry points, and of encode and decode together, by what their contracts allow.
 -- Assumes nothing.
 use mathlib.Core.Path.{_≡_}
+use mathlib.Core.Bool.{true, false}
 use mathlib.Core.List.{List}
 use Prim.Native.Nat.{ℕ, _+_, _*_}
 use lib.Dec.{T}
@@ -8,18 +9,27 @@ use lib.ListN.{length}
 use Rattle.code_theory.specs.Parameters.{messageLength}
 use Rattle.code_theory.specs.Reading.{clean, corrected}
 use Rattle.code_theory.specs.Profiles.{isProfile, profile}
-use Rattle.code_theory.specs.Operations.{refusal, failure, success, decodeAnswer, report}
+use Rattle.code_theory.specs.Operations.{Report, refusal, failure, success, decodeAnswer, report, decodeOutput}
 use Rattle.encoder.specs.declared.Encoded.{Encoded}
 use Rattle.encoder.specs.Answer.{EncodeAllows}
 use Rattle.encoder.specs.Claims as Encode
 use Rattle.decoder.specs.declared.word.Decoded.{Decoded}
 use Rattle.decoder.specs.Decode.{decodedReport, DecodeAllows}
-use Rattle.fogzurt.specs.Packed.{partsOf, packed, unpacked}
+use Rattle.fogzurt.specs.Packed.{Parts, packed, PackedAllows, unpacked}
 
--- C gets every part of decode's answer back
+-- what C is told of a report: the number, the kind (1 clean, 2 corrected), the position and the symbol sent there; 0 for what there is not
+abbrev pub Tells : Report → Parts → Type 0
+Tells (refusal n) c = c ≡ record { number = n; kind = 0; position = 0; symbol = 0 }
+Tells failure c = c ≡ record { number = 4; kind = 0; position = 0; symbol = 0 }
+Tells (success clean) c = c ≡ record { number = 0; kind = 1; position = 0; symbol = 0 }
+Tells (success (corrected x)) c = c ≡ record { number = 0; kind = 2; position = x .position; symbol = x .symbol }
+
+-- so C gets every part of decode's answer back, and its outputs
 abbrev pub Unpacks : Type 0
 Unpacks =
-    (i : ℕ) (u : List ℕ) (k l : ℕ) (r : ℕ) → let told = report (decodeAnswer i u k l) in r ≡ packed told → unpacked r ≡ partsOf told
+    (i : ℕ) (u : List ℕ) (r : ℕ) (first first′ second second′ : List ℕ) → PackedAllows i u r first first′ second second′
+    → let a = decodeAnswer i u (length first) (length second) in
+    Tells (report a) (unpacked r) × (first′ ≡ decodeOutput true a first) × (second′ ≡ decodeOutput false a second)
 
 -- as include/fogzurt.h has the bytes: number, kind, position, symbol
 pub record HeaderBytes : Type 0 where

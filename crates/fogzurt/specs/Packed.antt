@@ -1,15 +1,13 @@
 -- Decode's answer as one number of eight bytes, the lowest first: 01's number, the kind (1 clean, 2 corrected), the position, the symbol
 -- sent there, and four bytes that are 0. And how C takes it apart.
 -- Assumes nothing.
+use mathlib.Core.Path.{_≡_}
+use mathlib.Core.Bool.{true, false}
 use mathlib.Core.List.{List, [], _∷_}
 use Prim.Native.Nat.{ℕ, zero, suc, _+_, _*_, _/_, _%_, _≤_}
 use lib.ListN.{length}
 use Rattle.code_theory.specs.Reading.{Finding, clean, corrected, correction}
-use Rattle.code_theory.specs.Operations.{Answer, decodeAnswer, Report, refusal, failure, success}
-
--- decode's answer to the word u in profile i, with outputs that hold `first` and `second`
-abbrev pub answerInto : ℕ → List ℕ → List ℕ → List ℕ → Answer
-answerInto i u first second = decodeAnswer i u (length first) (length second)
+use Rattle.code_theory.specs.Operations.{Report, refusal, failure, success, decodeAnswer, report, decodeOutput}
 
 -- what C sees of an answer; a part that it does not have is 0
 pub record Parts : Type 0 where
@@ -51,6 +49,13 @@ bytes p = p .number ∷ p .kind ∷ p .position ∷ p .symbol ∷ 0 ∷ 0 ∷ 0 
 
 unfoldable pub packed : Report → ℕ
 packed a = joined (bytes (partsOf a))
+
+-- what fogzurt_decode may answer to the word u in profile i: r, and the outputs, that held `first` and `second` and now hold `first′`
+-- and `second′`
+pub record PackedAllows (i : ℕ) (u : List ℕ) (r : ℕ) (first first′ second second′ : List ℕ) : Type 0 where
+  pub answer : r ≡ packed (report (decodeAnswer i u (length first) (length second)))
+  pub first-out : first′ ≡ decodeOutput true (decodeAnswer i u (length first) (length second)) first
+  pub second-out : second′ ≡ decodeOutput false (decodeAnswer i u (length first) (length second)) second
 
 -- what the macros of include/fogzurt.h take out
 abbrev pub unpacked : ℕ → Parts

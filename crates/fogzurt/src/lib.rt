@@ -1,13 +1,12 @@
 // The C entry points, one for each operation. include/fogzurt.h says what C sees of them.
 ghost use mathlib.Core.Path.{_≡_};
-ghost use mathlib.Core.Bool.{true, false};
 ghost use mathlib.Core.List.{[], _∷_};
 ghost use lib.ListN.{length};
-ghost use Rattle.code_theory.specs.Operations.{encodeRefusal, encodeOutput, outcomeNumber, decodeOutput, report};
+ghost use Rattle.code_theory.specs.Operations.{encodeRefusal, encodeOutput, outcomeNumber};
 ghost use Rattle.queue_theory.specs.Allowed.{FormatAllows, EnqueueAllows, PeekAllows, DequeueAllows};
 ghost use Rattle.encoder.specs.Answer.{encodedOutcome};
 ghost use Rattle.decoder.specs.Decode.{decodedReport};
-ghost use Rattle.fogzurt.specs.Packed.{answerInto, partsOf, joined, packed, Within};
+ghost use Rattle.fogzurt.specs.Packed.{partsOf, joined, packed, PackedAllows, Within};
 use decoder::Decoded;
 use encoder::Encoded;
 use modular::wide64;
@@ -43,11 +42,9 @@ pub extern "C" fn fogzurt_decode(
     first: &mut [u8],
     second: &mut [u8],
 ) -> u64
-    ensures { λ r. ⌜ r ≡ packed (report (answerInto profile (now (word .entry)) (now (first .entry)) (now (second .entry)))) ⌝ }
-    ensures { λ _. ⌜ now (first .exit)
-        ≡ decodeOutput true (answerInto profile (now (word .entry)) (now (first .entry)) (now (second .entry))) (now (first .entry)) ⌝ }
-    ensures { λ _. ⌜ now (second .exit)
-        ≡ decodeOutput false (answerInto profile (now (word .entry)) (now (first .entry)) (now (second .entry))) (now (second .entry)) ⌝ }
+    ensures { λ r. ⌜
+        PackedAllows profile (now (word .entry)) r
+        (now (first .entry)) (now (first .exit)) (now (second .entry)) (now (second .exit)) ⌝ }
 {
     pack(decoder::decode(profile, word, first, second))
 }

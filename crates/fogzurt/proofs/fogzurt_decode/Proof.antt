@@ -30,7 +30,7 @@ returns : tie.Need-returns
 returns c =
     let decoded = c .before .before .before .before .before in
     let told = decoded .decode .ensures in
-    (c .pack .ensures ∙ ap packed (told .answer), (told .first-out, told .second-out))
+    record { answer = c .pack .ensures ∙ ap packed (told .answer); first-out = told .first-out; second-out = told .second-out }
 
 pub fogzurt-decode-spec : {M : Type 1} → statement M
 fogzurt-decode-spec =
