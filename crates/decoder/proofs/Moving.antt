@@ -76,7 +76,7 @@ module _ (t : Row) (v : Valid t) where
         second-digit = digit 1;
         third-digit = digit 2;
         low = w .below 0 (omega arith);
-        target = w .below 1 (omega arith);
+        mid = w .below 1 (omega arith);
         high = w .below 2 (omega arith);
         ones = w .below 3 (omega arith);
         table = m;

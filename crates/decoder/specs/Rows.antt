@@ -42,7 +42,7 @@ pub record Movable (q : ℕ) (column s multiples : List ℕ) : Type 0 where
   pub second-digit : getD column 1 0 < q
   pub third-digit : getD column 2 0 < q
   pub low : getD s 0 0 < q
-  pub target : getD s 1 0 < q
+  pub mid : getD s 1 0 < q
   pub high : getD s 2 0 < q
   pub ones : getD s 3 0 < q
   pub table : Multiples q multiples
