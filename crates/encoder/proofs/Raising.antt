@@ -14,7 +14,7 @@ use borrow.Author.Tests.{lt-ltb, le-ltb}
 use Rattle.modular_theory.specs.Sum.{weight}
 use Rattle.modular_theory.proofs.Search.{le-or-lt}
 use Rattle.code_theory.specs.Balance.{shifted, shiftedFrom}
-use Rattle.encoder.specs.Symbols.{SymbolArray, Raised, stepAt}
+use Rattle.encoder.specs.Symbols.{SymbolArray, Raised, riseAt}
 
 -- The weight, a symbol at a time.
 
@@ -40,21 +40,21 @@ weighed-more {q} {by} {m} {d} {sum} {i} w l room levels {y} e b =
 
 -- The symbols.
 
-step-low : (from s i : ℕ) → i < from → stepAt from s i ≡ s
-step-low from s i h = ap (λ (b : Bool). elim b as (λ _. ℕ) [ true ↦ s | false ↦ suc s ]) (lt-ltb i from h)
+rise-low : (from s i : ℕ) → i < from → riseAt from s i ≡ s
+rise-low from s i h = ap (λ (b : Bool). elim b as (λ _. ℕ) [ true ↦ s | false ↦ suc s ]) (lt-ltb i from h)
 
-step-high : (from s i : ℕ) → from ≤ i → stepAt from s i ≡ suc s
-step-high from s i h = ap (λ (b : Bool). elim b as (λ _. ℕ) [ true ↦ s | false ↦ suc s ]) (le-ltb i from h)
+rise-high : (from s i : ℕ) → from ≤ i → riseAt from s i ≡ suc s
+rise-high from s i h = ap (λ (b : Bool). elim b as (λ _. ℕ) [ true ↦ s | false ↦ suc s ]) (le-ltb i from h)
 
-pub step-upto : (from s i q : ℕ) → s < q → stepAt from s i ≤ q
-step-upto from s i q h =
-    ⊎-elim (λ (k : from ≤ i). rw (step-high from s i k) h) (λ (k : i < from). rw (step-low from s i k) (omega arith)) (le-or-lt from i)
+pub rise-upto : (from s i q : ℕ) → s < q → riseAt from s i ≤ q
+rise-upto from s i q h =
+    ⊎-elim (λ (k : from ≤ i). rw (rise-high from s i k) h) (λ (k : i < from). rw (rise-low from s i k) (omega arith)) (le-or-lt from i)
 
-pub step-is-low : (from s i : ℕ) → i < from → s ≡ stepAt from s i
-step-is-low from s i h = sym (step-low from s i h)
+pub rise-is-low : (from s i : ℕ) → i < from → s ≡ riseAt from s i
+rise-is-low from s i h = sym (rise-low from s i h)
 
-pub step-is-high : (from s i : ℕ) → from ≤ i → s + 1 ≡ stepAt from s i
-step-is-high from s i h = add-one s ∙ sym (step-high from s i h)
+pub rise-is-high : (from s i : ℕ) → from ≤ i → s + 1 ≡ riseAt from s i
+rise-is-high from s i h = add-one s ∙ sym (rise-high from s i h)
 
 -- w of a choice: s is added before index i, and s + 1 from there on.
 
@@ -96,6 +96,6 @@ raised-is {q} {s} {from} {d} {w} m symbols room r lw =
     getD-take m w k 0 g
     ∙ r .at k (omega arith)
     ∙ ⊎-elim
-    (λ (u : from ≤ k). rw (step-high from s k u, ← getD-take m d k 0 g) (sym (shifted-after q s from (take m d) k j u)))
-    (λ (u : k < from). rw (step-low from s k u, ← getD-take m d k 0 g) (sym (shifted-before q s from (take m d) k j u)))
+    (λ (u : from ≤ k). rw (rise-high from s k u, ← getD-take m d k 0 g) (sym (shifted-after q s from (take m d) k j u)))
+    (λ (u : k < from). rw (rise-low from s k u, ← getD-take m d k 0 g) (sym (shifted-before q s from (take m d) k j u)))
     (le-or-lt from k))

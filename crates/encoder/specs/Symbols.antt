@@ -35,9 +35,9 @@ pub record Chosen (p : Parameters) (d : List ℕ) (s v : ℕ) : Type 0 where
   pub word : (x : List ℕ) → d ≡ integrated p x → shiftedFrom (p .q) s (v - 1) d ≡ balanced p x
 
 -- s, and 1 more from an index on
-abbrev pub stepAt : ℕ → ℕ → ℕ → ℕ
-stepAt from s i = elim (ltb i from) [ true ↦ s | false ↦ suc s ]
+abbrev pub riseAt : ℕ → ℕ → ℕ → ℕ
+riseAt from s i = elim (ltb i from) [ true ↦ s | false ↦ suc s ]
 
 -- w is d with that added mod q to each of 97 symbols
 pub record Raised (q : ℕ) (d : List ℕ) (s from : ℕ) (w : List ℕ) : Type 0 where
-  pub at : (i : ℕ) → i < 97 → getD w i 0 ≡ (getD d i 0 + stepAt from s i) % q
+  pub at : (i : ℕ) → i < 97 → getD w i 0 ≡ (getD d i 0 + riseAt from s i) % q

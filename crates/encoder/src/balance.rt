@@ -11,7 +11,7 @@ ghost use lib.ListN.{take};
 ghost use Rattle.modular_theory.specs.Sum.{weight};
 ghost use Rattle.code_theory.specs.Balance.{integrate, shifted, balanced};
 ghost use Rattle.profiles.specs.Row.{parameters, Valid};
-ghost use Rattle.encoder.specs.Symbols.{SymbolArray, PrefixSums, Integral, Chosen, Raised, stepAt};
+ghost use Rattle.encoder.specs.Symbols.{SymbolArray, PrefixSums, Integral, Chosen, Raised, riseAt};
 
 // The sums of the first symbols, up to each of the first m.
 fn summed(m: usize, x: &[u8; 97]) -> SumArray
@@ -85,9 +85,9 @@ fn earliest(row: Row, d: &[u8; 97]) -> Choice
 }
 
 // s, and 1 more from an index on.
-fn step(i: u8, from: u8, s: u8) -> u8
+fn rise(i: u8, from: u8, s: u8) -> u8
     requires { ⌜ s < 255 ⌝ }
-    ensures { λ r. ⌜ r ≡ stepAt from s i ⌝ }
+    ensures { λ r. ⌜ r ≡ riseAt from s i ⌝ }
 {
     if i < from { s } else { s + 1 }
 }
@@ -101,7 +101,7 @@ fn raised(q: u8, d: &[u8; 97], s: u8, from: u8) -> [u8; 97]
     let mut at: u8 = 0;
     let mut i = 0;
     while i < 97 {
-        w[i] = add(q, d[i], step(at, from, s));
+        w[i] = add(q, d[i], rise(at, from, s));
         at += 1;
         i += 1;
     }

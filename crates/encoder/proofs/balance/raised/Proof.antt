@@ -6,32 +6,32 @@ use lib.ListN.{getD}
 use native.Mathlib.Omega.{arith}
 use denote.Ref.{now}
 use borrow.Author.Needs.{needs}
-use Rattle.encoder.specs.Symbols.{stepAt}
+use Rattle.encoder.specs.Symbols.{riseAt}
 use Rattle.modular.proofs.Filling.{FilledTo, filled-none, filled-more}
 use Rattle.modular.proofs.Bytes.{byte-sum}
-use Rattle.encoder.proofs.Raising.{step-upto}
+use Rattle.encoder.proofs.Raising.{rise-upto}
 use Rattle.encoder.proofs.balance.raised.Statement.{statement}
 use Rattle.encoder.proofs.balance.raised.Tie as tie
 
 abbrev Inv-loop : tie.InvT-loop
-Inv-loop q d s from w₀ at₀ i₀ w at i = FilledTo (λ k. (getD d k 0 + stepAt from s k) % q) 97 w i × (i ≤ 97) × (at ≡ i)
+Inv-loop q d s from w₀ at₀ i₀ w at i = FilledTo (λ k. (getD d k 0 + riseAt from s k) % q) 97 w i × (i ≤ 97) × (at ≡ i)
 
 abbrev μ-loop : tie.MeasureT-loop
 μ-loop q d s from w₀ at₀ i₀ w at i = 97 - i
 
 -- what is added at i
-module _ (c : tie.After-step Inv-loop μ-loop) where
+module _ (c : tie.After-rise Inv-loop μ-loop) where
   abbrev turn : tie.At-loop Inv-loop μ-loop
   turn = c .before .before .before
 
   abbrev start : tie.Start Inv-loop μ-loop
   start = turn .before
 
-  step : c .step .result ≡ stepAt (start .args .from) (start .args .s) (turn .loop .i)
-  step = c .step .ensures ∙ ap (stepAt (start .args .from) (start .args .s)) (turn .loop .inv .2)
+  rise : c .rise .result ≡ riseAt (start .args .from) (start .args .s) (turn .loop .i)
+  rise = c .rise .ensures ∙ ap (riseAt (start .args .from) (start .args .s)) (turn .loop .inv .2)
 
-  small : c .step .result ≤ start .args .q
-  small = omega (arith, step, step-upto (start .args .from) (start .args .s) (turn .loop .i) (start .args .q) (start .pre .1))
+  small : c .rise .result ≤ start .args .q
+  small = omega (arith, rise, rise-upto (start .args .from) (start .args .s) (turn .loop .i) (start .args .q) (start .pre .1))
 
 loop-holds : tie.Need-loop-holds Inv-loop μ-loop
 loop-holds c = (filled-none _ _ refl, omega arith, refl)
@@ -39,8 +39,8 @@ loop-holds c = (filled-none _ _ refl, omega arith, refl)
 element-copy-out-add : tie.Need-element-copy-out-add Inv-loop μ-loop
 element-copy-out-add c = search needs
 
-step-requires : tie.Need-step-requires Inv-loop μ-loop
-step-requires c κs =
+rise-requires : tie.Need-rise-requires Inv-loop μ-loop
+rise-requires c κs =
     let a = c .before .before .before in
     omega (arith, a .pre .1, a .pre .0 .levels)
 
@@ -66,7 +66,7 @@ loop-again c =
     let sum = byte-sum (start d .pre .0 .below _ inside) (small d) (omega (arith, start d .pre .0 .levels)) (c .add .ensures) in
     let a = start d .args in
     let l = turn d .loop in
-    let is = sum .0 ∙ ap (λ (y : ℕ). (getD (now (a .d)) (l .i) 0 + y) % a .q) (step d) in
+    let is = sum .0 ∙ ap (λ (y : ℕ). (getD (now (a .d)) (l .i) 0 + y) % a .q) (rise d) in
     (filled-more (l .inv .0) inside is, omega (arith, inside), ap (λ (x : ℕ). x + 1) (l .inv .2))
 
 returns : tie.Need-returns Inv-loop μ-loop
@@ -74,5 +74,5 @@ returns c = record { at = λ k h. c .before .loop .inv .0 .at k (omega (arith, c
 
 pub raised-spec : {M : Type 1} → statement M
 raised-spec =
-    tie.close (tie.spec Inv-loop μ-loop loop-holds element-copy-out-add step-requires add-requires array-write-w add-at add-i loop-less
+    tie.close (tie.spec Inv-loop μ-loop loop-holds element-copy-out-add rise-requires add-requires array-write-w add-at add-i loop-less
     loop-again returns)
