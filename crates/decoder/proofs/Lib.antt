@@ -19,5 +19,3 @@ pub mod Sent
 pub mod Answering
 pub mod Finding
 pub mod Admitting
--- Claims
-pub mod Claims

@@ -8,4 +8,3 @@ pub mod Locate
 pub mod Outputs
 pub mod Decode
 pub mod Steps
-pub mod Claims

@@ -7,5 +7,3 @@ pub mod Writing
 -- The writer
 pub mod Pairing
 pub mod Refusing
--- Claims
-pub mod Claims

@@ -1,3 +1,2 @@
 pub mod Symbols
 pub mod Answer
-pub mod Claims

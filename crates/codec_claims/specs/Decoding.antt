@@ -83,8 +83,3 @@ abbrev pub DecodeRefuses : Type 0
 DecodeRefuses =
     (i : ℕ) (v : List ℕ) (r : Decoded) (first first′ second second′ : List ℕ) → DecodeAllows i v r first first′ second second′
     → RefusesDecoding i v r first first′ second second′
-
-pub record Claims : Type 0 where
-  pub decode-corrects : DecodeCorrects
-  pub four-only : FourOnly
-  pub decode-refuses : DecodeRefuses

@@ -24,9 +24,9 @@ use Rattle.code_theory.proofs.Reading.{codeword-word, changed-word, reading-cor
 use Rattle.code_theory.proofs.Refusal.{AllPass, absent, passed-every, never-refuses, past, stops}
 use Rattle.profiles.proofs.Refusing.{three-lengths}
 use Rattle.decoding_theory.proofs.Tests.{and-three}
 use Rattle.decoder.specs.declared.word.Decoded.{Decoded}
 use Rattle.decoder.specs.Decode.{decodedReport, Answers}
-use Rattle.decoder.specs.Claims.{decodeLengthsFit, decodedNumber, Allowed, Carried, DecodesAsSent, FourOnly, DecodeRefuses, Claims}
+use Rattle.codec_claims.specs.Decoding.{decodeLengthsFit, decodedNumber, Allowed, Carried, DecodesAsSent, FourOnly, DecodeRefuses}
 
 -- a number of 4 is that of no reading
 none-read : (d : Reading) → reportNumber (report (answered d)) ≡ 4 → d ≡ unreadable
@@ -135,6 +135,3 @@ decode-refuses i v r first first′ second second′ h =
           let kept = outputs-kept (readUnless number d) (λ z. n (told ∙ z)) in
           (h .first-out ∙ kept true first, h .second-out ∙ kept false second);
     }
-
-pub claims : Claims
-claims = record { decode-corrects = decode-corrects-at; four-only = four-only; decode-refuses = decode-refuses }

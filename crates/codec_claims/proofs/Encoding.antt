@@ -1,5 +1,4 @@
--- Demand 2 of encode: the contract gives the encoded word of a call that no number refuses, and the encoded word is a codeword that carries
--- its pair.
+-- Demand 2 of encode: the contract gives the encoded word of a call that no number refuses, which is a codeword that carries its pair.
 -- Assumes nothing.
 use mathlib.Core.Path.{_≡_, refl, sym, ap, _∙_}
 use mathlib.Core.Bool.{true, false, _&&_}
@@ -19,10 +18,10 @@ use Rattle.code_theory.proofs.Encoded.{encoded-carries}
 use Rattle.code_theory.proofs.Profiles.{profiles-fit}
 use Rattle.code_theory.proofs.Refusal.{past, stops}
 use Rattle.profiles.proofs.Refusing.{Accepted, accepted-by}
 use Rattle.encoder.specs.declared.Encoded.{Encoded}
 use Rattle.encoder.specs.Answer.{EncodeAllows}
-use Rattle.encoder.specs.Claims.{encodeLengthsFit, levelsFit, WordOf, EncodeWrites, RefusedBy, EncodeRefuses, Claims}
+use Rattle.codec_claims.specs.Encoding.{encodeLengthsFit, levelsFit, WordOf, EncodeWrites, RefusedBy, EncodeRefuses}
 use Rattle.encoder.proofs.Refusing.{output-kept, output-done}
 
 module _ {i : ℕ} {a b : List ℕ} {r : Encoded} {out out′ : List ℕ} (h : EncodeAllows i a b r out out′) where
   -- the number k + 1 refuses the call
@@ -61,6 +60,3 @@ encode-refuses i a b r out out′ h =
       by-2 = λ p e. refused-by h 1 (sym (stops (profiled ∷ []) long (levels ∷ []) (p, tt) e));
       by-3 = λ p e s. refused-by h 2 (sym (stops (profiled ∷ long ∷ []) levels [] (p, (e, tt)) s));
     }
-
-pub claims : Claims
-claims = record { encode-writes = encode-writes; encode-refuses = encode-refuses }
