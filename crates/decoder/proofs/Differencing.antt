@@ -1,26 +1,29 @@
 -- An array of the differences of a body: it holds the components, and one corrected symbol changes its own difference and the next.
 -- Assumes nothing.
-use mathlib.Core.Path.{_≡_, refl, sym, ap, ap₂, _∙_}
+use mathlib.Core.Path.{_≡_, refl, sym, ap, ap₂, subst, _∙_}
 use mathlib.Core.Logic.{_≢_}
-use mathlib.Core.Bool.{Bool}
+use mathlib.Core.Bool.{Bool, true, false, _||_}
 use mathlib.Core.List.{List, [], _∷_}
-use Prim.Native.Nat.{ℕ, zero, suc, _+_, _-_, _*_, _≤_, _<_}
-use native.Mathlib.Nat.{not-suc-le-zero, le-of-suc-le-suc, le-trans}
+use Prim.Native.Nat.{ℕ, zero, suc, min, _+_, _-_, _≤_, _<_}
+use native.Mathlib.Nat.{not-suc-le-zero, le-of-suc-le-suc, le-of-lt, min-eq-left}
 use native.Mathlib.Omega.{arith}
-use native.Mathlib.Decide.{ℕ-discrete}
-use lib.ListN.{length, getD, take, drop, set, length-set, length-drop}
-use lib.Seq.{getD-take, getD-drop, getD-set-same, getD-set-other, ext-getD, length-take-le}
+use lib.Dec.{T, eqb, ltb, lt→ltb}
+use lib.ListN.{length, getD, take, drop, set, replicate, length-set, length-drop, getD-replicate}
+use lib.Seq.{getD-take, getD-drop, getD-set-other, ext-getD, length-take-le}
 use Rattle.modular_theory.proofs.Residue.{minus-below}
+use Rattle.modular_theory.proofs.Search.{holds, and-intro, or-left, or-right, eq-test}
 use Rattle.code_theory.specs.Parameters.{Parameters}
 use Rattle.code_theory.specs.Balance.{neighbourDifference, differences}
 use Rattle.code_theory.specs.Codeword.{alternate, body, received}
 use Rattle.code_theory.proofs.Symbols.{symbol-below, symbols-set}
 use Rattle.code_theory.proofs.Weights.{length-differences}
 use Rattle.code_theory.proofs.Columns.{q-positive}
-use Rattle.modular.proofs.Filling.{FilledTo, filled-none, filled-more}
+use Rattle.modular.proofs.Bytes.{byte-difference}
 use Rattle.profiles.specs.declared.row.Row.{Row}
 use Rattle.profiles.specs.Row.{parameters, Valid}
 use Rattle.symbols.specs.Syndromes.{part}
+use Rattle.differences.specs.Replaced.{differencesAt, changedBy}
+use Rattle.differences.proofs.Indices.{length-held, first-held, difference-held, other-held}
 use Rattle.decoder.specs.Received.{BodyArray}
 use Rattle.decoder.specs.Totals.{ReceivedWord, Components}
 
@@ -38,14 +41,15 @@ one-add j = omega arith
 abbrev pub between : Row → List ℕ → ℕ → ℕ
 between t u j = neighbourDifference (parameters t) (getD u j 0) (getD u (suc j) 0)
 
--- what the array holds: the first symbol, and then the differences
-abbrev pub heldAt : Row → List ℕ → ℕ → ℕ
-heldAt t u zero = getD u 0 0
-heldAt t u (suc j) = between t u j
-
 -- the differences fit the array
 pub short : {t : Row} → Valid t → t .balanced ≤ 97
 short v = omega (arith, v .balanced, v .length)
+
+-- the zeros that it is made of are levels
+pub zero-array : {t : Row} → Valid t → BodyArray t (replicate 97 0)
+zero-array {t} v =
+    let some = q-positive (parameters t) (v .sized) in
+    record { valid = v; size = refl; below = λ i l. rw (getD-replicate {A = ℕ} 97 i 0 0 (omega (arith, l, short v))) some }
 
 module _ {t : Row} {u : List ℕ} (w : ReceivedWord t u) where
   q₁ : 1 ≤ t .q
@@ -56,10 +60,6 @@ module _ {t : Row} {u : List ℕ} (w : ReceivedWord t u) where
 
   pub level : (j : ℕ) → getD u j 0 < t .q
   level = symbol-below (t .q) q₁ u (w .below)
-
-  held-below : (j : ℕ) → heldAt t u j < t .q
-  held-below zero = level 0
-  held-below (suc j) = minus-below (t .q) (getD u (suc j) 0) (getD u j 0) q₁
 
   -- an array that holds the differences holds the components
   pub components : {x : List ℕ} → BodyArray t x → ((j : ℕ) → suc j < t .balanced → getD x (suc j) 0 ≡ between t u j) → Components t u x
@@ -89,97 +89,64 @@ module _ {t : Row} {u : List ℕ} (w : ReceivedWord t u) where
           ∙ sym (difference-at (parameters t) (take (t .balanced) u) j (omega (arith, long))
           ∙ ap₂ (neighbourDifference (parameters t)) own after))
 
-  pub differenced-first : (x : List ℕ) → length x ≡ 97 → FilledTo (heldAt t u) 97 (set x 0 (getD u 0 0)) 1
-  differenced-first x e = filled-more (filled-none (heldAt t u) x e) (omega arith) refl
+-- An array that held levels, once differences of u are put into it: it holds the components where every other difference was right before.
+module _ {t : Row} {u : List ℕ} (w : ReceivedWord t u) (asked : ℕ → Bool) {x : List ℕ} (b : BodyArray t x)
+    (kept : (j : ℕ) → suc j < t .balanced → asked (suc j) ≡ false → getD x (suc j) 0 ≡ between t u j) where
+  abbrev placed : List ℕ
+  placed = differencesAt asked (t .q) u x
 
-  pub differenced-more : {x : List ℕ} {i : ℕ} → FilledTo (heldAt t u) 97 x i → 1 ≤ i → i < t .balanced
-      → {y : ℕ} → y ≡ neighbourDifference (parameters t) (getD u (i - 1) 0) (getD u i 0) → FilledTo (heldAt t u) 97 (set x i y) (i + 1)
-  differenced-more {i = zero} f n l e = absurd (not-suc-le-zero n)
-  differenced-more {i = suc j} f n l e =
-      let before : suc j - 1 ≡ j = omega arith in
-      filled-more f (omega (arith, short (w .valid)))
-      (e ∙ ap (λ (k : ℕ). neighbourDifference (parameters t) (getD u k 0) (getD u (suc j) 0)) before)
+  difference-is : (j : ℕ) → suc j < t .balanced → getD placed (suc j) 0 ≡ between t u j
+  difference-is j l = at (asked (suc j)) refl
+    where
+      at : (c : Bool) → asked (suc j) ≡ c → getD placed (suc j) 0 ≡ between t u j
+      at true e =
+          let fits : suc j < length x = omega (arith, b .size, short (w .valid), l) in
+          let there : suc j < length u = omega (arith, symbols-long w, l) in
+          let before : suc j - 1 ≡ j = omega arith in
+          difference-held asked (t .q) u x j fits there (holds (asked (suc j)) e)
+          ∙ byte-difference (level w (suc j)) (le-of-lt (level w (suc j - 1))) (omega (arith, w .valid .levels)) refl .0
+          ∙ ap (λ (k : ℕ). neighbourDifference (parameters t) (getD u k 0) (getD u (suc j) 0)) before
+      at false e = other-held asked (t .q) u x (suc j) e ∙ kept j l e
 
-  -- all of it filled
-  pub differenced : {x : List ℕ} {i : ℕ} → FilledTo (heldAt t u) 97 x i → t .balanced ≤ i → Components t u x
-  differenced f h =
-      components (record { valid = w .valid; size = f .size; below = λ j l. rw (f .at j (omega arith)) (held-below j) })
-      (λ j l. f .at (suc j) (omega arith))
+  placed-below : (j : ℕ) → j < t .balanced → getD placed j 0 < t .q
+  placed-below zero l = rw (first-held asked (t .q) u x) (b .below 0 l)
+  placed-below (suc j) l = rw (difference-is j l) (minus-below (t .q) (getD u (suc j) 0) (getD u j 0) (q₁ w))
+
+  pub components-placed : {y : List ℕ} → y ≡ placed → Components t u y
+  components-placed e =
+      rw e
+      (components w (record { valid = w .valid; size = length-held asked (t .q) u x ∙ b .size; below = placed-below }) difference-is)
+
+-- an index of a body is one of the array's
+inside : {t : Row} → Valid t → (j : ℕ) → j < t .balanced → T (ltb j (min (t .balanced) 97))
+inside {t} v j l = lt→ltb j (min (t .balanced) 97) (rw (min-eq-left (short v)) l)
+
+-- all of them
+pub components-differenced : {t : Row} {u x y : List ℕ} → ReceivedWord t u → BodyArray t x
+    → y ≡ differencesAt (λ j. ltb j (min (t .balanced) 97)) (t .q) u x → Components t u y
+components-differenced {t} {u} {x} w b e =
+    components-placed w (λ j. ltb j (min (t .balanced) 97)) b (λ j l f. absurd (subst T f (inside (w .valid) (suc j) l))) e
 
 word-set : {t : Row} {u : List ℕ} → ReceivedWord t u → (i : ℕ) {y : ℕ} → y < t .q → ReceivedWord t (set u i y)
 word-set {t} {u} w i {y} l =
     record { valid = w .valid; long = length-set u i y ∙ w .long; below = symbols-set (t .q) u i y l (w .below) }
 
--- The symbol at index i corrected to y.
-module _ {t : Row} {u : List ℕ} (w : ReceivedWord t u) {i y : ℕ} (h : i < t .balanced) (l : y < t .q) where
-  abbrev sent : List ℕ
-  sent = set u i y
+-- those that change where the symbol at index i is corrected to s
+pub components-corrected : {t : Row} {u x y : List ℕ} (i s : ℕ) → ReceivedWord t u → s < t .q → Components t u x
+    → y ≡ differencesAt (changedBy i (min (t .balanced) 97)) (t .q) (set u i s) x → Components t (set u i s) y
+components-corrected {t} {u} {x} i s w l c e =
+    components-placed (word-set w i l) (changedBy i (min (t .balanced) 97)) (c .levels) kept e
+  where
+    -- neither symbol of a difference that is left is the one corrected
+    other : (j : ℕ) → suc j < t .balanced → changedBy i (min (t .balanced) 97) (suc j) ≡ false
+        → T (eqb (suc j) i || eqb (suc j) (suc i)) → ⊥
+    other j h f t′ =
+        subst T f (and-intro (eqb (suc j) i || eqb (suc j) (suc i)) (ltb (suc j) (min (t .balanced) 97)) t′ (inside (w .valid) (suc j) h))
 
-  here : getD sent i 0 ≡ y
-  here = getD-set-same u i y 0 (le-trans h (symbols-long w))
-
-  elsewhere : (j : ℕ) → j ≢ i → getD sent j 0 ≡ getD u j 0
-  elsewhere j n = getD-set-other u i j y 0 n
-
-  -- every difference is right but the one after i
-  pub record UpTo (x : List ℕ) : Type 0 where
-    pub levels : BodyArray t x
-    pub at : (j : ℕ) → suc j < t .balanced → j ≢ i → getD x (suc j) 0 ≡ between t sent j
-
-  kept : {x : List ℕ} → Components t u x → (j : ℕ) → suc j < t .balanced → j ≢ i → suc j ≢ i → getD x (suc j) 0 ≡ between t sent j
-  kept c j g n o = c .at j g ∙ ap₂ (neighbourDifference (parameters t)) (sym (elsewhere j n)) (sym (elsewhere (suc j) o))
-
-  set-level : {x : List ℕ} → BodyArray t x → (k : ℕ) {d : ℕ} → d < t .q → BodyArray t (set x k d)
-  set-level {x} b k {d} e =
-      record {
-        valid = b .valid;
-        size = length-set x k d ∙ b .size;
-        below = λ j g. at j g (ℕ-discrete j k);
-      }
-    where
-      at : (j : ℕ) → j < t .balanced → Dec (j ≡ k) → getD (set x k d) j 0 < t .q
-      at j g (yes f) = let o : k < length x = omega (arith, b .size, short (w .valid)) in rw (f, getD-set-same x k d 0 o) e
-      at j g (no n) = rw (getD-set-other x k j d 0 n) (b .below j g)
-
-  -- the difference before i
-  pub own-corrected : {x : List ℕ} → Components t u x → 0 < i
-      → {d : ℕ} → (d ≡ neighbourDifference (parameters t) (getD u (i - 1) 0) y) × (d < t .q) → UpTo (set x i d)
-  own-corrected {x} c g {d} e =
-      record { levels = set-level (c .levels) i (e .1); at = λ j o n. at j o n (ℕ-discrete (suc j) i) }
-    where
-      at : (j : ℕ) → suc j < t .balanced → j ≢ i → Dec (suc j ≡ i) → getD (set x i d) (suc j) 0 ≡ between t sent j
-      at j o n (yes f) =
-          let before : i - 1 ≡ j = omega (arith, f) in
-          let size : i < length x = omega (arith, c .levels .size, short (w .valid)) in
-          ap (λ (k : ℕ). getD (set x i d) k 0) f ∙ getD-set-same x i d 0 size ∙ e .0
-          ∙ ap₂ (neighbourDifference (parameters t)) (ap (λ (k : ℕ). getD u k 0) before ∙ sym (elsewhere j n)) (sym (rw f here))
-      at j o n (no f) = getD-set-other x i (suc j) d 0 f ∙ kept c j o n f
-
-  -- there is none where i is the first
-  pub none-before : {x : List ℕ} → Components t u x → i ≤ 0 → UpTo x
-  none-before c g = record { levels = c .levels; at = λ j o n. kept c j o n (λ f. not-suc-le-zero (rw (sym f) at g)) }
-
-  -- the difference after i
-  pub next-corrected : {x : List ℕ} → UpTo x → i + 1 < t .balanced
-      → {d : ℕ} → (d ≡ neighbourDifference (parameters t) y (getD u (i + 1) 0)) × (d < t .q) → Components t sent (set x (i + 1) d)
-  next-corrected {x} c g {d} e =
-      components (word-set w i l) (set-level (c .levels) (i + 1) (e .1)) (λ j o. at j o (ℕ-discrete j i))
-    where
-      at : (j : ℕ) → suc j < t .balanced → Dec (j ≡ i) → getD (set x (i + 1) d) (suc j) 0 ≡ between t sent j
-      at j o (yes f) =
-          let next : suc j ≡ i + 1 = omega (arith, f) in
-          let size : i + 1 < length x = omega (arith, c .levels .size, short (w .valid)) in
-          ap (λ (k : ℕ). getD (set x (i + 1) d) k 0) next ∙ getD-set-same x (i + 1) d 0 size ∙ e .0
-          ∙ ap₂ (neighbourDifference (parameters t)) (sym (rw f here))
-          (ap (λ (k : ℕ). getD u k 0) (sym next) ∙ sym (elsewhere (suc j) (λ z. n j z f)))
-        where
-          n : (j : ℕ) → suc j ≡ i → j ≡ i → ⊥
-          n j z f = omega (arith, z, f)
-      at j o (no n) =
-          let other : suc j ≢ i + 1 = λ z. n (omega (arith, z)) in
-          getD-set-other x (i + 1) (suc j) d 0 other ∙ c .at j o n
-
-  -- there is none where i is the last
-  pub none-after : {x : List ℕ} → UpTo x → t .balanced ≤ i + 1 → Components t sent x
-  none-after c g =
-      components (word-set w i l) (c .levels) (λ j o. c .at j o (λ f. not-suc-le-zero {n = 0} (omega (arith, o, f))))
+    kept : (j : ℕ) → suc j < t .balanced → changedBy i (min (t .balanced) 97) (suc j) ≡ false
+        → getD x (suc j) 0 ≡ between t (set u i s) j
+    kept j h f =
+        let own : suc j ≢ i = λ z. other j h f (or-left (eqb (suc j) i) (eqb (suc j) (suc i)) (eq-test z)) in
+        let next : j ≢ i = λ z. other j h f (or-right (eqb (suc j) i) (eqb (suc j) (suc i)) (eq-test (ap suc z))) in
+        c .at j h
+        ∙ ap₂ (neighbourDifference (parameters t)) (sym (getD-set-other u i j s 0 next)) (sym (getD-set-other u i (suc j) s 0 own))

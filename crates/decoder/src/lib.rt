@@ -1,6 +1,5 @@
 // Decoding (01: Read): the pair of messages that a received word carries, with at most one symbol corrected. Its steps are this
-// crate's own and those of crates `symbols` and `syndromes`.
-mod body;
+// crate's own and those of crates `symbols`, `syndromes` and `differences`.
 mod column;
 mod effect;
 mod locate;

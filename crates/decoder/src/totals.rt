@@ -1,5 +1,5 @@
 // What is summed over a received word, once: its weight, its check symbols and the syndromes of its components.
-use crate::body::difference_body;
+use differences::difference_body;
 use modular::difference;
 use profiles::Row;
 use symbols::Checks;
@@ -11,7 +11,7 @@ ghost use mathlib.Core.Path.{_≡_};
 ghost use Rattle.profiles.specs.Row.{parameters};
 ghost use Rattle.symbols.specs.Columns.{Columns};
 ghost use Rattle.decoding_theory.specs.Decoded.{sums};
-ghost use lib.ListN.{length};
+ghost use Rattle.decoder.specs.Received.{BodyArray};
 ghost use Rattle.decoder.specs.Totals.{ReceivedWord, sumsOf, Components, Totalled, SummedWord};
 
 pub(crate) struct Totals {
@@ -53,11 +53,11 @@ fn total(row: Row, columns: &[[u8; 3]; 48], word: &[u8], x: &[u8; 97]) -> Totals
     }
 }
 
-// The sums over a word, whose components are put into x.
+// The sums over a word, whose components are put into x, an array of levels.
 pub(crate) fn sums_of(row: Row, columns: &[[u8; 3]; 48], word: &[u8], x: &mut [u8; 97]) -> Totals
-    requires { ⌜ ReceivedWord row (now word) × Columns (row .q) (row .n) (now columns) × (length (now x) ≡ 97) ⌝ }
+    requires { ⌜ ReceivedWord row (now word) × Columns (row .q) (row .n) (now columns) × BodyArray row (now x) ⌝ }
     ensures { λ s. ⌜ SummedWord row (now (word .entry)) (now (x .exit)) s ⌝ }
 {
-    difference_body(row, word, x);
+    difference_body(row.q, row.balanced, word, x);
     total(row, columns, word, x)
 }

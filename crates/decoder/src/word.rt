@@ -1,5 +1,4 @@
 // Decoding of a received word, by its sums.
-use crate::body::correct_differences;
 use crate::effect::effect_of;
 use crate::effect::syndromes_after;
 use crate::locate::Fit;
@@ -9,6 +8,7 @@ use crate::locate::locate;
 use crate::message::write_pair;
 use crate::totals::Totals;
 use crate::totals::sums_of;
+use differences::correct_differences;
 use profiles::Lookup;
 use profiles::Row;
 use profiles::decode_refusal;
@@ -113,7 +113,7 @@ fn correct(
 {
     let i = 2 * k + search.parity;
     let y = balancing_symbol(search, word[i]);
-    correct_differences(search.row, word, i, y, x);
+    correct_differences(search.row.q, search.row.balanced, word, i, y, x);
     write_pair(search.row, after.first, after.second, x, first, second);
     let position = i + 1;
     Decoded::Corrected(Correction {

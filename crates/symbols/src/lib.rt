@@ -13,4 +13,5 @@ pub use sums::Syndromes;
 pub use sums::syndromes_of;
 pub use weight::Body;
 pub use weight::Weight;
+pub use weight::available;
 pub use weight::weigh;

@@ -22,8 +22,8 @@ fn if_odd(index: u8, x: u16) -> u16
     x * wide16(index % 2)
 }
 
-// How many symbols are weighed of a word that has `len`.
-fn weighable(m: usize, len: usize) -> usize
+// How many of the first m symbols there are in a word that has `len`, of which an array holds 97.
+pub fn available(m: usize, len: usize) -> usize
     ensures { λ r. ⌜ r ≡ min (min m 97) len ⌝ }
 {
     let mut most = m;
@@ -37,7 +37,7 @@ fn weighable(m: usize, len: usize) -> usize
 pub fn weigh(word: &[u8], m: usize) -> Weight
     ensures { λ r. ⌜ r ≡ weightsOf (take (min m 97) (now (word .entry))) ⌝ }
 {
-    let end = weighable(m, word.len());
+    let end = available(m, word.len());
     let mut all = 0;
     let mut even = 0;
     let mut index = 0;

@@ -4,6 +4,7 @@ use borrow.Author.Needs.{needs}
 use mathlib.Core.Path.{refl}
 use mathlib.Core.Bool.{true, false}
 use native.Mathlib.Omega.{arith}
+use Rattle.decoder.proofs.Differencing.{components-corrected}
 use Rattle.decoder.proofs.Answering.{answers-read, messages-of}
 use Rattle.decoder.proofs.Finding.{fit-index, fit-small, fit-level, fit-near, fit-read}
 use Rattle.decoder.proofs.word.correct.Statement.{statement}
@@ -35,15 +36,14 @@ balancing-symbol-requires : tie.Need-balancing-symbol-requires
 balancing-symbol-requires c κs = c .before .before .before .before .before .pre .0 .given
 
 correct-differences-requires : tie.Need-correct-differences-requires
-correct-differences-requires c κs =
-    let found = start (c .before) .pre .0 in
-    (found .is, fit-index found, fit-level found (c .before .balancing-symbol .ensures), start (c .before) .pre .2)
+correct-differences-requires c κs = search needs
 
 write-pair-requires : tie.Need-write-pair-requires
 write-pair-requires c κs =
     let body = c .before .before .before in
-    let (found, after, _, outputs) = start (sent body) .pre in (
-      body .correct-differences .ensures .levels,
+    let (found, after, held, outputs) = start (sent body) .pre in
+    let level = fit-level found (sent body .balancing-symbol .ensures) in (
+      components-corrected _ _ (found .is) level held (body .correct-differences .ensures) .levels,
       record { first-rows = after .first-rows; second-rows = after .second-rows; near = fit-near found after },
       record { first-long = outputs .first-long; second-long = outputs .second-long },
     )
@@ -64,8 +64,9 @@ returns : tie.Need-returns
 returns c =
     let written = c .before .before .before .before in
     let body = corrected written in
-    let (found, after, _, outputs) = start (sent body) .pre in
-    let parts = body .correct-differences .ensures .parts in
+    let (found, after, held, outputs) = start (sent body) .pre in
+    let level = fit-level found (sent body .balancing-symbol .ensures) in
+    let parts = components-corrected _ _ (found .is) level held (body .correct-differences .ensures) .parts in
     answers-read _ _ (fit-read found after (sent body .balancing-symbol .ensures))
     (messages-of (parts true) (parts false) (written .write-pair .ensures)) refl
 

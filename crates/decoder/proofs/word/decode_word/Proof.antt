@@ -1,12 +1,12 @@
 -- `decoder::word::decode_word` meets its contract: the word's sums are those of the definition, and decide whether it is balanced.
 -- Assumes nothing.
 use borrow.Author.Needs.{needs}
-use mathlib.Core.Path.{refl}
 use denote.Ref.{now}
 use Rattle.code_theory.proofs.Columns.{q-positive}
 use Rattle.symbols.specs.Columns.{Columns}
 use Rattle.symbols.proofs.Counting.{columns-right}
 use Rattle.decoder.specs.Outputs.{Outputs}
+use Rattle.decoder.proofs.Differencing.{zero-array}
 use Rattle.decoder.proofs.Answering.{answers-as}
 use Rattle.decoder.proofs.Admitting.{balanced-answer, unbalanced-answer}
 use Rattle.decoder.proofs.word.decode_word.Statement.{statement}
@@ -38,7 +38,9 @@ columns-requires : tie.Need-columns-requires
 columns-requires c κs = search needs
 
 sums-of-requires : tie.Need-sums-of-requires
-sums-of-requires c κs = (start (c .before .before) .pre .0, matrix (c .before .before), refl)
+sums-of-requires c κs =
+    let word = start (c .before .before) .pre .0 in
+    (word, matrix (c .before .before), zero-array (word .valid))
 
 decode-unbalanced-requires : tie.Need-decode-unbalanced-requires
 decode-unbalanced-requires c κs =

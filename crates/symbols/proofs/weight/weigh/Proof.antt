@@ -22,14 +22,14 @@ Inv-loop word m end all₀ even₀ index₀ i₀ all even index i =
 abbrev μ-loop : tie.MeasureT-loop
 μ-loop word m end all₀ even₀ index₀ i₀ all even index i = end - i
 
-weighable-requires : tie.Need-weighable-requires Inv-loop μ-loop
-weighable-requires c κs = search needs
+available-requires : tie.Need-available-requires Inv-loop μ-loop
+available-requires c κs = search needs
 
 loop-holds : tie.Need-loop-holds Inv-loop μ-loop
 loop-holds c =
     let start = c .before .before in
     let most = min (start .args .m) 97 in
-    let end = c .weighable .ensures in (
+    let end = c .available .ensures in (
       weighing-none _,
       omega arith,
       omega arith,
@@ -69,7 +69,7 @@ loop-again c =
     let most = min (start .args .m) 97 in
     let inv = turn .loop .inv in
     let within = c .before .before .before .loop-test .taken in
-    let end-below : turn .before .weighable .result ≤ most = rw (inv .3) (min-le-left most _) in
+    let end-below : turn .before .available .result ≤ most = rw (inv .3) (min-le-left most _) in
     let below = le-trans within end-below in
     let symbol = getD-take most (now (start .args .word)) (turn .loop .i) 0 below ∙ sym (c .before .wide16 .ensures .0) in
     let odd = c .if-odd .ensures .0 ∙ ap (λ (j : ℕ). c .before .wide16 .result * (j % 2)) (inv .1) in (
@@ -95,5 +95,5 @@ returns c =
 
 pub weigh-spec : {M : Type 1} → statement M
 weigh-spec =
-    tie.close (tie.spec Inv-loop μ-loop weighable-requires loop-holds shared-slice-read-wide16 wide16-requires add-all if-odd-requires
+    tie.close (tie.spec Inv-loop μ-loop available-requires loop-holds shared-slice-read-wide16 wide16-requires add-all if-odd-requires
     add-even add-index add-i loop-less loop-again sub-odd returns)

@@ -1,11 +1,11 @@
--- `symbols::weight::weighable` meets its contract: the smallest of three, by two comparisons.
+-- `symbols::weight::available` meets its contract: the smallest of three, by two comparisons.
 -- Assumes nothing.
 use mathlib.Core.Path.{_≡_, refl, sym, ap, _∙_}
 use mathlib.Core.Logic.{inl, inr, ⊎-elim}
 use Prim.Native.Nat.{ℕ, min}
 use Rattle.symbols.proofs.Capped.{capped}
-use Rattle.symbols.proofs.weight.weighable.Statement.{statement}
-use Rattle.symbols.proofs.weight.weighable.Tie as tie
+use Rattle.symbols.proofs.weight.available.Statement.{statement}
+use Rattle.symbols.proofs.weight.available.Tie as tie
 
 -- the first comparison
 most : (c : tie.Joined1) → c .if1 .most ≡ min (c .before .args .m) 97
@@ -21,5 +21,5 @@ returns-2 c =
     let first = c .before in
     rw (← most first) (capped {m = first .if1 .most} (inr (c .if2 .left, refl)))
 
-pub weighable-spec : {M : Type 1} → statement M
-weighable-spec = tie.close (tie.spec returns returns-2)
+pub available-spec : {M : Type 1} → statement M
+available-spec = tie.close (tie.spec returns returns-2)

@@ -1,0 +1,5 @@
+pub mod Replacing
+pub mod Within
+pub mod OneByOne
+pub mod Correcting
+pub mod Indices

@@ -1,0 +1,29 @@
+-- The differences of a word put into an array, as the code has them for any bytes.
+-- Assumes nothing.
+use mathlib.Core.Bool.{Bool, true, false, _&&_, _||_}
+use mathlib.Core.List.{List, [], _∷_}
+use Prim.Native.Nat.{ℕ, suc, _-_}
+use lib.Dec.{eqb, ltb}
+use lib.ListN.{length, getD}
+use Rattle.modular.specs.Byte.{byteDifference}
+
+-- the elements of x at the indices that are asked for replaced by what f gives
+abbrev pub replaced : (ℕ → Bool) → (ℕ → ℕ) → List ℕ → List ℕ
+replaced asked f [] = []
+replaced asked f (a ∷ x) = elim (asked 0) [ true ↦ f 0 | false ↦ a ] ∷ replaced (λ i. asked (suc i)) (λ i. f (suc i)) x
+
+-- a symbol of w less the one before it
+abbrev pub differenceAt : ℕ → List ℕ → ℕ → ℕ
+differenceAt q w j = byteDifference q (getD w j 0) (getD w (j - 1) 0)
+
+-- the index names a symbol of w that has one before it
+abbrev pub hasDifference : List ℕ → ℕ → Bool
+hasDifference w j = ltb 0 j && ltb j (length w)
+
+-- x with the differences of w at those of its indices that are asked for
+unfoldable pub differencesAt : (ℕ → Bool) → ℕ → List ℕ → List ℕ → List ℕ
+differencesAt asked q w x = replaced (λ j. asked j && hasDifference w j) (differenceAt q w) x
+
+-- of m symbols, those whose differences the symbol at index i is in
+abbrev pub changedBy : ℕ → ℕ → ℕ → Bool
+changedBy i m j = (eqb j i || eqb j (suc i)) && ltb j m
