@@ -42,10 +42,10 @@ moved-row-requires-4 c κs = search needs
 
 returns-4 : tie.Need-returns-4
 returns-4 c =
-    let target = c .before in
-    let low = target .before .before in
+    let mid = c .before in
+    let low = mid .before .before in
     let ones = low .before .before in
-    let middle-zero = sym (target .before .moved-row3 .ensures) ∙ target .if3 .left in
+    let middle-zero = sym (mid .before .moved-row3 .ensures) ∙ mid .if3 .left in
     let low-zero = sym (low .before .moved-row2 .ensures) ∙ low .if2 .left in
     let ones-zero = sym (ones .before .moved-row .ensures) ∙ ones .if1 .left in
     ap (λ (x : ℕ). eqb x 0) (c .moved-row4 .ensures) ∙ zero-high _ low-zero middle-zero ones-zero
