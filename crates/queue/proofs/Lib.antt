@@ -1,3 +1,5 @@
 pub mod Checking
 pub mod Stores
 pub mod Told
+pub mod Refusals
+pub mod Claims

@@ -1,4 +1,4 @@
--- What is claimed of the queue, by what its contracts allow, all of it fields of one record. proofs/Claims.antt has a term of it.
+-- What is claimed of the open functions, each claim a named type, all of them fields of one record. proofs/Claims.antt has a term of it.
 -- Assumes nothing.
 use mathlib.Core.Path.{_≡_}
 use mathlib.Core.Logic.{_≢_}

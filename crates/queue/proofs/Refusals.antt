@@ -21,7 +21,7 @@ use Rattle.queue_theory.specs.Operations.{formatAnswer, formatQueue, enqueueAns
 use Rattle.queue_theory.specs.Operations.{cellOf, peekAnswer, peekOutput, dequeueAnswer}
 use Rattle.queue_theory.specs.Operations.{dequeueQueue, dequeueOutput}
 use Rattle.queue_theory.specs.Allowed.{EnqueueAllows, PeekAllows}
-use Rattle.queue_claims.specs.Claims.{EnqueueRefuses, ShowRefuses, Refusals}
+use Rattle.queue.specs.Claims.{EnqueueRefuses, ShowRefuses, Refusals}
 
 -- the tests of the bytes, and that those of a sound queue pass
 abbrev long : List ℕ → Test

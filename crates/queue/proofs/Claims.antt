@@ -1,4 +1,5 @@
--- Every claim of specs/Claims.antt, proved: the contracts allow what the definitions say, and these keep the list rule (`queue_theory`).
+-- Every claim of specs/Claims.antt, proved. What the contracts allow is what the definitions say, so the list rule of the definitions
+-- (crate `queue_theory`) is theirs.
 -- Assumes nothing.
 use mathlib.Core.Path.{_≡_, refl, sym, ap, ap₂, subst, _∙_}
 use mathlib.Core.List.{List, [], _∷_}
@@ -9,11 +10,11 @@ use Rattle.queue_theory.specs.Sound.{Queue}
 use Rattle.queue_theory.specs.Operations.{formatQueue}
 use Rattle.queue_theory.specs.Model.{Call, Reply, reply, queueReply, queueAfter, replies, left}
 use Rattle.queue_theory.proofs.Rule.{format-succeeds, list-rule}
 use Rattle.queue.specs.declared.Answer.{Answer}
 use Rattle.queue.specs.declared.Answer.the-variants.{Done, NoProfile, Length, Symbol, QueueLength, Unsound, BoxNumber, Full, NoRecord}
 use Rattle.queue.specs.Answer.{numberOf}
-use Rattle.queue_claims.proofs.Refusals.{refusals}
-use Rattle.queue_claims.specs.Claims.{NumbersDiffer, Run, over, enqueues, peeks, dequeues, ContractsListRule, Claims}
+use Rattle.queue.proofs.Refusals.{refusals}
+use Rattle.queue.specs.Claims.{NumbersDiffer, Run, over, enqueues, peeks, dequeues, ContractsListRule, Claims}
 
 -- the answer that has a number; no answer has 4 or 9
 answerOf : ℕ → Answer
