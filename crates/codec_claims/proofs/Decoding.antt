@@ -26,7 +26,8 @@ use Rattle.profiles.proofs.Refusing.{three-lengths}
 use Rattle.decoding_theory.proofs.Tests.{and-three}
 use Rattle.decoder.specs.declared.word.Decoded.{Decoded}
 use Rattle.decoder.specs.Decode.{decodedReport, Answers}
-use Rattle.codec_claims.specs.Decoding.{decodeLengthsFit, decodedNumber, Allowed, Carried, DecodesAsSent, FourOnly, DecodeRefuses}
+use Rattle.codec_claims.specs.Decoding.{decodeLengthsFit, decodedNumber, Allowed, Carried}
+use Rattle.codec_claims.specs.Decoding.{DecodesAsSent, OnlyLetThrough, DecodeRefuses}
 
 -- a number of 4 is that of no reading
 none-read : (d : Reading) → reportNumber (report (answered d)) ≡ 4 → d ≡ unreadable
@@ -104,7 +105,7 @@ outputs-kept (refused k) h b out = refl
 outputs-kept (answered unreadable) h b out = refl
 outputs-kept (answered (read f c d)) h b out = absurd (h refl)
 
-pub four-only : FourOnly
+pub four-only : OnlyLetThrough 4
 unfolding decodeAnswer
 four-only i v r first first′ second second′ h e =
     let tests : List Test = decodeTests i v (length first) (length second) in

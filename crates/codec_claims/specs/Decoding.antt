@@ -60,11 +60,11 @@ pub record LetThrough (i : ℕ) (v : List ℕ) (k l : ℕ) : Type 0 where
   pub first-long : k ≡ messageLength (profile i)
   pub second-long : l ≡ messageLength (profile i)
 
--- 4 is given for nothing else
-abbrev pub FourOnly : Type 0
-FourOnly =
+-- the number k is given for nothing else
+abbrev pub OnlyLetThrough : ℕ → Type 0
+OnlyLetThrough k =
     (i : ℕ) (v : List ℕ) (r : Decoded) (first first′ second second′ : List ℕ) → DecodeAllows i v r first first′ second second′
-    → decodedNumber r ≡ 4 → LetThrough i v (length first) (length second)
+    → decodedNumber r ≡ k → LetThrough i v (length first) (length second)
 
 -- the lengths of the word and of the outputs are the profile's
 abbrev pub decodeLengthsFit : ℕ → List ℕ → ℕ → ℕ → Bool

@@ -22,7 +22,7 @@ use Rattle.modular.proofs.Bytes.{byte-difference}
 use Rattle.profiles.specs.declared.row.Row.{Row}
 use Rattle.profiles.specs.Row.{parameters, Valid}
 use Rattle.symbols.specs.Syndromes.{part}
-use Rattle.differences.specs.Replaced.{differencesAt, changedBy}
+use Rattle.differences.specs.Overlaid.{differencesAt, changedBy}
 use Rattle.differences.proofs.Indices.{length-held, first-held, difference-held, other-held}
 use Rattle.decoder.specs.Received.{BodyArray}
 use Rattle.decoder.specs.Totals.{ReceivedWord, Components}

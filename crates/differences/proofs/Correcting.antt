@@ -12,9 +12,9 @@ use lib.ListN.{length, getD, set, length-set}
 use lib.Seq.{getD-set-same, getD-set-other}
 use Rattle.modular_theory.proofs.Search.{and-intro, and-left, and-right, or-left, or-right, or-cases, eq-test, same-test, fails}
 use Rattle.modular.specs.Byte.{byteDifference}
-use Rattle.differences.specs.Replaced.{replaced, differenceAt, hasDifference, differencesAt, changedBy}
-use Rattle.differences.proofs.Replacing.{replaced-same, replaced-none, replaced-more}
-use Rattle.differences.proofs.Within.{within, within-of}
+use Rattle.differences.specs.Overlaid.{overlaid, differenceAt, hasDifference, differencesAt, changedBy}
+use Rattle.differences.proofs.Overlaying.{overlaid-same, overlaid-none, overlaid-more}
+use Rattle.differences.proofs.AfterFirst.{after-first, after-first-of}
 
 -- its own difference, where there is one
 abbrev ownOf : ℕ → ℕ → Bool
@@ -22,7 +22,7 @@ ownOf i j = eqb j i && ltb 0 j
 
 -- x is x₀ with that one
 pub record OwnCorrected (q : ℕ) (w x₀ : List ℕ) (i y : ℕ) (x : List ℕ) : Type 0 where
-  pub is : x ≡ replaced (ownOf i) (differenceAt q (set w i y)) x₀
+  pub is : x ≡ overlaid (ownOf i) (differenceAt q (set w i y)) x₀
 
 module _ (q : ℕ) (w x₀ : List ℕ) (i y : ℕ) where
   abbrev sent : List ℕ
@@ -39,7 +39,7 @@ module _ (q : ℕ) (w x₀ : List ℕ) (i y : ℕ) where
   own-none h =
       record {
         is =
-            replaced-none own (differenceAt q sent) x₀
+            overlaid-none own (differenceAt q sent) x₀
             (λ j. fails (λ t. let (e, some) = is-own j t in not-suc-le-zero {n = 0} (omega (arith, e, some))));
       }
 
@@ -47,8 +47,8 @@ module _ (q : ℕ) (w x₀ : List ℕ) (i y : ℕ) where
   own-corrected h l {d} e =
       record {
         is =
-            ap₂ (λ (x : List ℕ) (k : ℕ). set x i k) (replaced-none none (differenceAt q sent) x₀ (λ j. refl)) (e ∙ same)
-            ∙ replaced-more none own (differenceAt q sent) x₀ i (and-intro (eqb i i) (ltb 0 i) (eq-test {a = i} refl) (lt→ltb 0 i h))
+            ap₂ (λ (x : List ℕ) (k : ℕ). set x i k) (overlaid-none none (differenceAt q sent) x₀ (λ j. refl)) (e ∙ same)
+            ∙ overlaid-more none own (differenceAt q sent) x₀ i (and-intro (eqb i i) (ltb 0 i) (eq-test {a = i} refl) (lt→ltb 0 i h))
             (λ j n. sym (fails (λ t. n (is-own j t .0))));
       }
     where
@@ -66,17 +66,17 @@ module _ (q : ℕ) (w x₀ : List ℕ) (i y : ℕ) where
     changed j = changedBy i (min m 97) j && hasDifference sent j
 
     -- such an index
-    record Changed (j : ℕ) : Type 0 where
+    record Touched (j : ℕ) : Type 0 where
       which : (j ≡ i) ⊎ (j ≡ suc i)
       some : 0 < j
       inside : j < end
 
-    is-changed : (j : ℕ) → T (changed j) → Changed j
+    is-changed : (j : ℕ) → T (changed j) → Touched j
     is-changed j t =
         let named = and-left (changedBy i (min m 97) j) (hasDifference sent j) t in
         let which = or-cases (eqb j i) (eqb j (suc i)) (and-left (eqb j i || eqb j (suc i)) (ltb j (min m 97)) named) in
         let first : j < min m 97 = ltb→lt j (min m 97) (and-right (eqb j i || eqb j (suc i)) (ltb j (min m 97)) named) in
-        let (some, long) = within (length sent) j (and-right (changedBy i (min m 97) j) (hasDifference sent j) t) in
+        let (some, long) = after-first (length sent) j (and-right (changedBy i (min m 97) j) (hasDifference sent j) t) in
         let second : j < length w = omega (arith, long, length-set w i y) in
         let inside : suc j ≤ min (min m 97) (length w) = le-min first second in
         record {
@@ -85,7 +85,7 @@ module _ (q : ℕ) (w x₀ : List ℕ) (i y : ℕ) where
           inside = omega (arith, f, inside);
         }
 
-    changed-of : (j : ℕ) → Changed j → T (changed j)
+    changed-of : (j : ℕ) → Touched j → T (changed j)
     changed-of j c =
         let inside : suc j ≤ min (min m 97) (length w) = omega (arith, f, c .inside) in
         let first : j < min m 97 = le-trans inside (min-le-left (min m 97) (length w)) in
@@ -94,7 +94,7 @@ module _ (q : ℕ) (w x₀ : List ℕ) (i y : ℕ) where
         ⊎-elim (λ e. or-left (eqb j i) (eqb j (suc i)) (eq-test e)) (λ e. or-right (eqb j i) (eqb j (suc i)) (eq-test e)) (c .which) in
         and-intro (changedBy i (min m 97) j) (hasDifference sent j)
         (and-intro (eqb j i || eqb j (suc i)) (ltb j (min m 97)) which (lt→ltb j (min m 97) first))
-        (within-of (length sent) j (c .some) (omega (arith, second, length-set w i y)))
+        (after-first-of (length sent) j (c .some) (omega (arith, second, length-set w i y)))
 
     -- its own is one of them
     own-changed : i < end → (j : ℕ) → T (own j) → T (changed j)
@@ -113,10 +113,10 @@ module _ (q : ℕ) (w x₀ : List ℕ) (i y : ℕ) where
     pub none-corrected : end ≤ i → x₀ ≡ differencesAt (changedBy i (min m 97)) q sent x₀
     unfolding differencesAt
     none-corrected h =
-        replaced-none changed (differenceAt q sent) x₀
+        overlaid-none changed (differenceAt q sent) x₀
         (λ j. fails (λ t. past j (is-changed j t)))
       where
-        past : (j : ℕ) → Changed j → ⊥
+        past : (j : ℕ) → Touched j → ⊥
         past j c =
             let later : i ≤ j = ⊎-elim (λ (e : j ≡ i). omega (arith, e)) (λ (e : j ≡ suc i). omega (arith, e)) (c .which) in
             not-suc-le-zero {n = 0} (omega (arith, h, c .inside))
@@ -125,7 +125,7 @@ module _ (q : ℕ) (w x₀ : List ℕ) (i y : ℕ) where
     pub next-none : i < end → end ≤ i + 1 → {x : List ℕ} → OwnCorrected q w x₀ i y x → x ≡ differencesAt (changedBy i (min m 97)) q sent x₀
     unfolding differencesAt
     next-none l h {x} e =
-        e .is ∙ replaced-same own changed (differenceAt q sent) x₀
+        e .is ∙ overlaid-same own changed (differenceAt q sent) x₀
         (λ j. same-test (own j) (changed j) (own-changed l j)
         (λ t. changed-own j (λ z. not-suc-le-zero {n = 0} (omega (arith, z, h, is-changed j t .inside))) t))
 
@@ -133,9 +133,9 @@ module _ (q : ℕ) (w x₀ : List ℕ) (i y : ℕ) where
         → {d : ℕ} → d ≡ byteDifference q (getD w (i + 1) 0) y → set x (i + 1) d ≡ differencesAt (changedBy i (min m 97)) q sent x₀
     unfolding differencesAt
     next-corrected l h {x} e {d} g =
-        let next : Changed (i + 1) = record { which = inr (omega arith); some = omega arith; inside = h } in
+        let next : Touched (i + 1) = record { which = inr (omega arith); some = omega arith; inside = h } in
         ap₂ (λ (x : List ℕ) (k : ℕ). set x (i + 1) k) (e .is) (g ∙ same)
-        ∙ replaced-more own changed (differenceAt q sent) x₀ (i + 1) (changed-of (i + 1) next)
+        ∙ overlaid-more own changed (differenceAt q sent) x₀ (i + 1) (changed-of (i + 1) next)
         (λ j n. same-test (own j) (changed j) (own-changed l j) (changed-own j (λ z. n (omega (arith, z)))))
       where
         same : byteDifference q (getD w (i + 1) 0) y ≡ differenceAt q sent (i + 1)

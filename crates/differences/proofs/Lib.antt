@@ -1,5 +1,5 @@
-pub mod Replacing
-pub mod Within
+pub mod Overlaying
+pub mod AfterFirst
 pub mod OneByOne
 pub mod Correcting
 pub mod Indices

@@ -10,9 +10,9 @@ use native.Mathlib.Omega.{arith}
 use lib.Dec.{T, ltb, ltb→lt, lt→ltb}
 use lib.ListN.{length, set}
 use Rattle.modular_theory.proofs.Search.{and-intro, and-left, and-right, same-test, fails}
-use Rattle.differences.specs.Replaced.{replaced, differenceAt, hasDifference, differencesAt}
-use Rattle.differences.proofs.Replacing.{replaced-same, replaced-none, replaced-more}
-use Rattle.differences.proofs.Within.{within, within-of}
+use Rattle.differences.specs.Overlaid.{overlaid, differenceAt, hasDifference, differencesAt}
+use Rattle.differences.proofs.Overlaying.{overlaid-same, overlaid-none, overlaid-more}
+use Rattle.differences.proofs.AfterFirst.{after-first, after-first-of}
 
 -- from 1 to i - 1
 abbrev upTo : ℕ → ℕ → Bool
@@ -20,15 +20,15 @@ upTo i j = ltb 0 j && ltb j i
 
 -- x is x₀ with the differences of w at those indices
 pub record DifferencedTo (q : ℕ) (w x₀ : List ℕ) (i : ℕ) (x : List ℕ) : Type 0 where
-  pub is : x ≡ replaced (upTo i) (differenceAt q w) x₀
+  pub is : x ≡ overlaid (upTo i) (differenceAt q w) x₀
 
 module _ {q : ℕ} {w x₀ : List ℕ} where
   pub differenced-none : DifferencedTo q w x₀ 1 x₀
   differenced-none =
       record {
         is =
-            replaced-none (upTo 1) (differenceAt q w) x₀
-            (λ j. fails (λ t. let (some, first) = within 1 j t in not-suc-le-zero {n = 0} (omega (arith, some, first))));
+            overlaid-none (upTo 1) (differenceAt q w) x₀
+            (λ j. fails (λ t. let (some, first) = after-first 1 j t in not-suc-le-zero {n = 0} (omega (arith, some, first))));
       }
 
   pub differenced-more : {x : List ℕ} {i : ℕ} → DifferencedTo q w x₀ i x → 1 ≤ i
@@ -37,35 +37,35 @@ module _ {q : ℕ} {w x₀ : List ℕ} where
       record {
         is =
             ap₂ (λ (y : List ℕ) (k : ℕ). set y i k) (e .is) f
-            ∙ replaced-more (upTo i) (upTo (i + 1)) (differenceAt q w) x₀ i
-            (within-of (i + 1) i h (omega arith)) (λ j n. same-test (upTo i j) (upTo (i + 1) j) (on j) (off j n));
+            ∙ overlaid-more (upTo i) (upTo (i + 1)) (differenceAt q w) x₀ i
+            (after-first-of (i + 1) i h (omega arith)) (λ j n. same-test (upTo i j) (upTo (i + 1) j) (on j) (off j n));
       }
     where
       on : (j : ℕ) → T (upTo i j) → T (upTo (i + 1) j)
-      on j t = let (some, l) = within i j t in within-of (i + 1) j some (omega (arith, l))
+      on j t = let (some, l) = after-first i j t in after-first-of (i + 1) j some (omega (arith, l))
 
       off : (j : ℕ) → j ≢ i → T (upTo (i + 1) j) → T (upTo i j)
-      off j n t = let (some, l) = within (i + 1) j t in within-of i j some (omega (arith, l, n))
+      off j n t = let (some, l) = after-first (i + 1) j t in after-first-of i j some (omega (arith, l, n))
 
   -- all of the first m
   pub differenced-all : (m : ℕ) {x : List ℕ} {i end : ℕ} → DifferencedTo q w x₀ i x → end ≡ min (min m 97) (length w)
       → end ≤ i → i - 1 ≤ end - 1 → x ≡ differencesAt (λ j. ltb j (min m 97)) q w x₀
   unfolding differencesAt
   differenced-all m {x} {i} {end} e f h last =
-      e .is ∙ replaced-same (upTo i) (λ j. ltb j (min m 97) && hasDifference w j) (differenceAt q w) x₀
+      e .is ∙ overlaid-same (upTo i) (λ j. ltb j (min m 97) && hasDifference w j) (differenceAt q w) x₀
       (λ j. same-test (upTo i j) (ltb j (min m 97) && hasDifference w j) (on j) (off j))
     where
       on : (j : ℕ) → T (upTo i j) → T (ltb j (min m 97) && hasDifference w j)
       on j t =
-          let (some, l) = within i j t in
+          let (some, l) = after-first i j t in
           let inside : j < min (min m 97) (length w) = omega (arith, f, some, l, last) in
           let first : j < min m 97 = le-trans inside (min-le-left (min m 97) (length w)) in
           let second : j < length w = le-trans inside (min-le-right (min m 97) (length w)) in
-          and-intro (ltb j (min m 97)) (hasDifference w j) (lt→ltb j (min m 97) first) (within-of (length w) j some second)
+          and-intro (ltb j (min m 97)) (hasDifference w j) (lt→ltb j (min m 97) first) (after-first-of (length w) j some second)
 
       off : (j : ℕ) → T (ltb j (min m 97) && hasDifference w j) → T (upTo i j)
       off j t =
           let first : j < min m 97 = ltb→lt j (min m 97) (and-left (ltb j (min m 97)) (hasDifference w j) t) in
-          let (some, second) = within (length w) j (and-right (ltb j (min m 97)) (hasDifference w j) t) in
+          let (some, second) = after-first (length w) j (and-right (ltb j (min m 97)) (hasDifference w j) t) in
           let inside : suc j ≤ min (min m 97) (length w) = le-min first second in
-          within-of i j some (omega (arith, f, inside))
+          after-first-of i j some (omega (arith, f, inside))

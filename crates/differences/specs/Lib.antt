@@ -1,1 +1,1 @@
-pub mod Replaced
+pub mod Overlaid

@@ -8,7 +8,7 @@ ghost use Prim.Native.Nat.{min};
 ghost use lib.ListN.{set};
 ghost use lib.Dec.{ltb};
 ghost use Rattle.modular.specs.Byte.{byteDifference};
-ghost use Rattle.differences.specs.Replaced.{differencesAt, changedBy};
+ghost use Rattle.differences.specs.Overlaid.{differencesAt, changedBy};
 
 // What differencing gives for two neighbours a and b.
 fn neighbour_difference(q: u8, a: u8, b: u8) -> u8

@@ -1,6 +1,6 @@
 -- The claims over any cutting: the conservation law, call by call.
 -- Assumes nothing.
-use mathlib.Core.Path.{_≡_, refl, sym, ap, _∙_}
+use mathlib.Core.Path.{_≡_, refl, sym, ap, subst, _∙_}
 use mathlib.Core.Logic.{inl, inr, ⊎-elim}
 use mathlib.Core.List.{List, [], _∷_, _++_, append-assoc, append-nil}
 use Prim.Native.Nat.{ℕ, _-_, _≤_, _<_, min}
@@ -12,7 +12,7 @@ use lib.Seq.{length-take-le}
 use borrow.Author.Tests.{le-leb, lt-leb}
 use Rattle.modular_theory.proofs.Search.{le-or-lt}
 use Rattle.lines_theory.specs.Feed.{held, Model, Fed, answerAtEnd, stopped, feed, finishing, isEmpty, isDone}
-use Rattle.lines_theory.specs.Claims.{Calls, none, call, Ending, done, more, AnyCutting, FinishFits, FinishStops}
+use Rattle.lines_theory.specs.Claims.{Calls, none, call, Ending, done, more, CallsGoOn, AnyCutting, FinishFits, FinishStops}
 use Rattle.lines_theory.proofs.Whole.{outputFrom, output-whole}
 use Rattle.lines_theory.proofs.Feed.{still, stops-conserves, drop-nonempty, conserved}
 
@@ -116,6 +116,20 @@ calls-give {m} {m′} (call {i} {o} s room cs) t =
     ∙ ap (λ (l : List ℕ). feed m s room .produced ++ l) (calls-give cs t)
     ∙ conserved m s room (i ++ t)
     ∙ ap (still m) (sym (append-assoc (take (feed m s room .consumed) s) i t))
+
+calls-as : {m m′ : Model} {i i′ o o′ : List ℕ} → i ≡ i′ → o ≡ o′ → Calls m i o m′ → Calls m i′ o′ m′
+calls-as e f cs = rw (sym e, sym f) cs
+
+-- one call more, at the end
+goes-on : {m m′ : Model} {i o : List ℕ} → Calls m i o m′ → (s : List ℕ) (room : ℕ)
+    → Calls m (i ++ take (feed m′ s room .consumed) s) (o ++ feed m′ s room .produced) (feed m′ s room .model)
+goes-on {m} none s room = calls-as (append-nil (take (feed m s room .consumed) s)) (append-nil (feed m s room .produced)) (call s room none)
+goes-on {m} {m′} (call {i = i} {o = o} s′ room′ cs) s room =
+    calls-as (sym (append-assoc (take (feed m s′ room′ .consumed) s′) i (take (feed m′ s room .consumed) s)))
+    (sym (append-assoc (feed m s′ room′ .produced) o (feed m′ s room .produced))) (call s′ room′ (goes-on cs s room))
+
+pub calls-go-on : CallsGoOn
+calls-go-on = record { begins = λ m. none; goes-on = goes-on }
 
 pub any-cutting : AnyCutting
 any-cutting i o o′ m cs e =

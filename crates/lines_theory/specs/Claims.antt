@@ -24,6 +24,12 @@ pub data Ending : Model → List ℕ → Type 0 where
   done : {m : Model} (room : ℕ) → T (isDone (finishing m room)) → Ending m (finishing m room .produced)
   more : {m : Model} {o : List ℕ} (room : ℕ) → Ending (finishing m room .model) o → Ending m (finishing m room .produced ++ o)
 
+-- such calls begin at any model, and can go on with any piece and any room
+pub record CallsGoOn : Type 0 where
+  pub begins : (m : Model) → Calls m [] [] m
+  pub goes-on : {m m′ : Model} {i o : List ℕ} → Calls m i o m′ → (s : List ℕ) (room : ℕ)
+      → Calls m (i ++ take (feed m′ s room .consumed) s) (o ++ feed m′ s room .produced) (feed m′ s room .model)
+
 -- what is put out does not depend on how the input is cut or how long the outputs are
 abbrev pub AnyCutting : Type 0
 AnyCutting = (i o o′ : List ℕ) (m : Model) → Calls begin i o m → Ending m o′ → o ++ o′ ≡ streamOutput i
@@ -60,6 +66,7 @@ abbrev pub ExamplesPrint : Type 0
 ExamplesPrint = AllPrint examples
 
 pub record Claims : Type 0 where
+  pub calls-go-on : CallsGoOn
   pub any-cutting : AnyCutting
   pub feed-stops : FeedStops
   pub feed-fits : FeedFits

@@ -7,14 +7,14 @@ use Prim.Native.Nat.{ℕ}
 use lib.ListN.{getD}
 use Rattle.queue_theory.specs.Chains.{records}
 use Rattle.queue_theory.specs.Sound.{Queue}
-use Rattle.queue_theory.specs.Operations.{formatQueue}
-use Rattle.queue_theory.specs.Model.{Call, Reply, reply, queueReply, queueAfter, replies, left}
+use Rattle.queue_theory.specs.Operations.{formatQueue, enqueueQueue, dequeueQueue}
+use Rattle.queue_theory.specs.Model.{Call, enqueue, peek, dequeue, Reply, reply, queueReply, queueAfter, replies, left}
 use Rattle.queue_theory.proofs.Rule.{format-succeeds, list-rule}
 use Rattle.queue.specs.declared.Answer.{Answer}
 use Rattle.queue.specs.declared.Answer.the-variants.{Done, NoProfile, Length, Symbol, QueueLength, Unsound, BoxNumber, Full, NoRecord}
 use Rattle.queue.specs.Answer.{numberOf}
 use Rattle.queue.proofs.Refusals.{refusals}
-use Rattle.queue.specs.Claims.{NumbersDiffer, Run, over, enqueues, peeks, dequeues, ContractsListRule, Claims}
+use Rattle.queue.specs.Claims.{NumbersDiffer, Run, over, enqueues, peeks, dequeues, RunsExist, ContractsListRule, Claims}
 
 -- the answer that has a number; no answer has 4 or 9
 answerOf : ℕ → Answer
@@ -56,6 +56,19 @@ defined (enqueues h more) = before (ap (λ (n : ℕ). reply n []) (h .answer)) (
 defined (peeks h more) = before (ap₂ reply (h .answer) (h .output)) refl (defined more)
 defined (dequeues h more) = before (ap₂ reply (h .answer) (h .output)) (h .queue) (defined more)
 
+-- that of the definitions
+runs-exist : RunsExist
+runs-exist s [] = ([], s, over)
+runs-exist s (enqueue b p w ∷ calls) =
+    let (rs, t, run) = runs-exist (enqueueQueue s b p w) calls in
+    (_, t, enqueues (record { answer = refl; queue = refl }) run)
+runs-exist s (peek k out ∷ calls) =
+    let (rs, t, run) = runs-exist s calls in
+    (_, t, peeks (record { answer = refl; output = refl }) run)
+runs-exist s (dequeue out ∷ calls) =
+    let (rs, t, run) = runs-exist (dequeueQueue s out) calls in
+    (_, t, dequeues (record { answer = refl; queue = refl; output = refl }) run)
+
 contracts-list-rule : ContractsListRule
 contracts-list-rule before long n s format calls rs t run =
     let rule = list-rule before long calls in
@@ -70,4 +83,10 @@ contracts-list-rule before long n s format calls rs t run =
     }
 
 pub claims : Claims
-claims = record { numbers-differ = numbers-differ; contracts-list-rule = contracts-list-rule; refusals = refusals }
+claims =
+    record {
+      numbers-differ = numbers-differ;
+      runs-exist = runs-exist;
+      contracts-list-rule = contracts-list-rule;
+      refusals = refusals;
+    }

@@ -33,6 +33,10 @@ pub data Run : List ℕ → List Call → List Reply → List ℕ → Type 0 whe
   dequeues : {s s′ t out out′ : List ℕ} {n : ℕ} {cs : List Call} {rs : List Reply}
       → DequeueAllows s out n s′ out′ → Run s′ cs rs t → Run s (dequeue out ∷ cs) (reply n out′ ∷ rs) t
 
+-- Every sequence of calls has a run.
+abbrev pub RunsExist : Type 0
+RunsExist = (s : List ℕ) (calls : List Call) → (rs : List Reply) × (t : List ℕ) × Run s calls rs t
+
 -- The answer n of format, the replies and the bytes that are left are those of a list of at most R records that was empty at first.
 pub record RanAsList (R : ℕ) (n : ℕ) (calls : List Call) (rs : List Reply) (t : List ℕ) : Type 0 where
   pub formatted : n ≡ 0
@@ -76,5 +80,6 @@ pub record Refusals : Type 0 where
 
 pub record Claims : Type 0 where
   pub numbers-differ : NumbersDiffer
+  pub runs-exist : RunsExist
   pub contracts-list-rule : ContractsListRule
   pub refusals : Refusals

@@ -7,7 +7,7 @@ use Prim.Native.Nat.{_≤_, _<_}
 use native.Mathlib.Omega.{arith}
 use denote.Ref.{now}
 use lib.ListN.{length}
-use Rattle.differences.proofs.Within.{there}
+use Rattle.differences.proofs.AfterFirst.{there}
 use Rattle.differences.proofs.Correcting.{OwnCorrected, own-none, own-corrected, none-corrected, next-none, next-corrected}
 use Rattle.differences.proofs.correct_differences.Statement.{statement}
 use Rattle.differences.proofs.correct_differences.Tie as tie
@@ -29,8 +29,8 @@ module _ (c : tie.Joined2) where
   own =
       ⊎-elim
       (λ w.
-      let there : start begun .args .i < length (now (start begun .args .word)) = omega (arith, c .before .if1 .left, room begun .1) in
-      subst (OwnCorrected _ _ _ _ _) (sym (w .3)) (own-corrected _ _ _ _ _ (w .0 .taken) there (w .2 .ensures)))
+      let inside : start begun .args .i < length (now (start begun .args .word)) = omega (arith, c .before .if1 .left, room begun .1) in
+      subst (OwnCorrected _ _ _ _ _) (sym (w .3)) (own-corrected _ _ _ _ _ (w .0 .taken) inside (w .2 .ensures)))
       (λ w. subst (OwnCorrected _ _ _ _ _) (sym (w .1)) (own-none _ _ _ _ _ (w .0 .left))) (c .if2 .came)
 
 available-requires : tie.Need-available-requires

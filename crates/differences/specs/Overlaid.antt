@@ -7,10 +7,10 @@ use lib.Dec.{eqb, ltb}
 use lib.ListN.{length, getD}
 use Rattle.modular.specs.Byte.{byteDifference}
 
--- the elements of x at the indices that are asked for replaced by what f gives
-abbrev pub replaced : (ℕ → Bool) → (ℕ → ℕ) → List ℕ → List ℕ
-replaced asked f [] = []
-replaced asked f (a ∷ x) = elim (asked 0) [ true ↦ f 0 | false ↦ a ] ∷ replaced (λ i. asked (suc i)) (λ i. f (suc i)) x
+-- x with what f gives at the indices that are asked for
+abbrev pub overlaid : (ℕ → Bool) → (ℕ → ℕ) → List ℕ → List ℕ
+overlaid asked f [] = []
+overlaid asked f (a ∷ x) = elim (asked 0) [ true ↦ f 0 | false ↦ a ] ∷ overlaid (λ i. asked (suc i)) (λ i. f (suc i)) x
 
 -- a symbol of w less the one before it
 abbrev pub differenceAt : ℕ → List ℕ → ℕ → ℕ
@@ -22,7 +22,7 @@ hasDifference w j = ltb 0 j && ltb j (length w)
 
 -- x with the differences of w at those of its indices that are asked for
 unfoldable pub differencesAt : (ℕ → Bool) → ℕ → List ℕ → List ℕ → List ℕ
-differencesAt asked q w x = replaced (λ j. asked j && hasDifference w j) (differenceAt q w) x
+differencesAt asked q w x = overlaid (λ j. asked j && hasDifference w j) (differenceAt q w) x
 
 -- of m symbols, those whose differences the symbol at index i is in
 abbrev pub changedBy : ℕ → ℕ → ℕ → Bool
