@@ -56,7 +56,7 @@ fn feed(bytes: &[u8], line: &mut [u8], queue: &mut [u8], session: Session) -> Se
 }
 
 // Reads once, and takes what came.
-fn step(line: &mut [u8], queue: &mut [u8], session: Session) -> Session {
+fn turn(line: &mut [u8], queue: &mut [u8], session: Session) -> Session {
     let mut space = io::large_buffer();
     let got = libc::read(0, &mut space);
     let n = io::count(got, &space);
@@ -79,7 +79,7 @@ fn run(line: &mut [u8], queue: &mut [u8]) {
     };
     let mut turns = u64::MAX;
     while turns > 0 {
-        session = step(line, queue, session);
+        session = turn(line, queue, session);
         let more = session.more;
         if !more {
             return;
