@@ -1,6 +1,6 @@
 -- The symbol sent in place of a received one, by plain subtraction.
 -- Assumes nothing.
-use mathlib.Core.Path.{_≡_, refl, ap₂, _∙_}
+use mathlib.Core.Path.{_≡_, refl, ap, _∙_}
 use mathlib.Core.Logic.{_≢_}
 use mathlib.Core.Bool.{Bool, true, false}
 use Prim.Native.Nat.{ℕ, _+_, _<_}
@@ -48,7 +48,7 @@ module _ (p : Parameters) (s : Sums) (x : ℕ) where
       go false f = absurd (n (rw (f, symbolSent)))
 
 -- the symbol as the code computes it
-pub sent-by : {t : Row} → Valid t → (s : Totals) {x y r : ℕ} → y ≡ x → r ≡ level (t .q) (y + t .target) (s .weight)
+pub sent-by : {t : Row} → Valid t → (s : Totals) (x : ℕ) {r : ℕ} → r ≡ level (t .q) (x + t .target) (s .weight)
     → r ≡ symbolSent (parameters t) (sumsOf t s) x
-sent-by {t} v s {x} e f =
-    f ∙ ap₂ (λ (a b : ℕ). level (t .q) (a + b) (s .weight)) e (target-is v) ∙ sent-level (parameters t) (sumsOf t s) x
+sent-by {t} v s x e =
+    e ∙ ap (λ (b : ℕ). level (t .q) (x + b) (s .weight)) (target-is v) ∙ sent-level (parameters t) (sumsOf t s) x

@@ -4,7 +4,6 @@ use crate::column::moves_to_zero;
 use crate::totals::Totals;
 use modular::add;
 use modular::sub;
-use modular::wide;
 use profiles::Row;
 use syndromes::near;
 ghost use mathlib.Core.Path.{_≡_};
@@ -33,7 +32,7 @@ pub(crate) fn balancing_symbol(search: Search, x: u8) -> u8
     requires { ⌜ Searches search ⌝ }
     ensures { λ y. ⌜ y ≡ symbolSent (parametersOf search) (sumsIn search) x ⌝ }
 {
-    modular::plain::difference(search.row.q, wide(x) + search.row.target, search.s.weight)
+    modular::plain::offset(search.row.q, x, search.row.target, search.s.weight)
 }
 
 // Whether the check symbol of the parity is off by as much as the weight, mod q.
