@@ -5,7 +5,7 @@ use mathlib.Core.Logic.{_⊎_, inl, inr, ⊎-elim}
 use mathlib.Core.Bool.{Bool, false, _&&_, _||_}
 use mathlib.Core.List.{List}
 use Prim.Native.Nat.{ℕ, suc, min, _+_, _-_, _≤_, _<_}
-use native.Mathlib.Nat.{not-suc-le-zero, le-trans, le-min, min-le-left, min-le-right}
+use native.Mathlib.Nat.{not-suc-le-zero, le-trans, le-min, min-le-right}
 use native.Mathlib.Omega.{arith}
 use lib.Dec.{T, eqb, ltb, ltb→lt, lt→ltb, eqb→eq}
 use lib.ListN.{length, getD, set, length-set}
@@ -14,7 +14,7 @@ use Rattle.modular_theory.proofs.Search.{and-intro, and-left, and-right, or-lef
 use Rattle.modular.specs.Byte.{byteDifference}
 use Rattle.differences.specs.Overlaid.{overlaid, differenceAt, hasDifference, differencesAt, changedBy}
 use Rattle.differences.proofs.Overlaying.{overlaid-same, overlaid-none, overlaid-more}
-use Rattle.differences.proofs.AfterFirst.{after-first, after-first-of}
+use Rattle.differences.proofs.AfterFirst.{after-first, after-first-of, below-each}
 
 -- its own difference, where there is one
 abbrev ownOf : ℕ → ℕ → Bool
@@ -88,8 +88,7 @@ module _ (q : ℕ) (w x₀ : List ℕ) (i y : ℕ) where
     changed-of : (j : ℕ) → Touched j → T (changed j)
     changed-of j c =
         let inside : suc j ≤ min (min m 97) (length w) = omega (arith, f, c .inside) in
-        let first : j < min m 97 = le-trans inside (min-le-left (min m 97) (length w)) in
-        let second : j < length w = le-trans inside (min-le-right (min m 97) (length w)) in
+        let (first, second) = below-each m (length w) j inside in
         let which : T (eqb j i || eqb j (suc i)) =
         ⊎-elim (λ e. or-left (eqb j i) (eqb j (suc i)) (eq-test e)) (λ e. or-right (eqb j i) (eqb j (suc i)) (eq-test e)) (c .which) in
         and-intro (changedBy i (min m 97) j) (hasDifference sent j)

@@ -5,14 +5,14 @@ use mathlib.Core.Logic.{_≢_}
 use mathlib.Core.Bool.{Bool, _&&_}
 use mathlib.Core.List.{List}
 use Prim.Native.Nat.{ℕ, suc, min, _+_, _-_, _≤_, _<_}
-use native.Mathlib.Nat.{not-suc-le-zero, le-trans, le-min, min-le-left, min-le-right}
+use native.Mathlib.Nat.{not-suc-le-zero, le-min}
 use native.Mathlib.Omega.{arith}
 use lib.Dec.{T, ltb, ltb→lt, lt→ltb}
 use lib.ListN.{length, set}
 use Rattle.modular_theory.proofs.Search.{and-intro, and-left, and-right, same-test, fails}
 use Rattle.differences.specs.Overlaid.{overlaid, differenceAt, hasDifference, differencesAt}
 use Rattle.differences.proofs.Overlaying.{overlaid-same, overlaid-none, overlaid-more}
-use Rattle.differences.proofs.AfterFirst.{after-first, after-first-of}
+use Rattle.differences.proofs.AfterFirst.{after-first, after-first-of, below-each}
 
 -- from 1 to i - 1
 abbrev upTo : ℕ → ℕ → Bool
@@ -59,8 +59,7 @@ module _ {q : ℕ} {w x₀ : List ℕ} where
       on j t =
           let (some, l) = after-first i j t in
           let inside : j < min (min m 97) (length w) = omega (arith, f, some, l, last) in
-          let first : j < min m 97 = le-trans inside (min-le-left (min m 97) (length w)) in
-          let second : j < length w = le-trans inside (min-le-right (min m 97) (length w)) in
+          let (first, second) = below-each m (length w) j inside in
           and-intro (ltb j (min m 97)) (hasDifference w j) (lt→ltb j (min m 97) first) (after-first-of (length w) j some second)
 
       off : (j : ℕ) → T (ltb j (min m 97) && hasDifference w j) → T (upTo i j)

@@ -5,7 +5,7 @@ ghost use Prim.Native.Nat.{_+_};
 ghost use Rattle.modular.specs.Level.{level};
 
 // a - b where it is one of the q levels, and q where it is none: nothing wraps.
-pub fn difference(q: u8, a: usize, b: usize) -> u8
+fn difference(q: u8, a: usize, b: usize) -> u8
     ensures { λ r. ⌜ r ≡ level q a b ⌝ }
 {
     if a < b {

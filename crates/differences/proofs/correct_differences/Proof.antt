@@ -7,7 +7,7 @@ use Prim.Native.Nat.{_≤_, _<_}
 use native.Mathlib.Omega.{arith}
 use denote.Ref.{now}
 use lib.ListN.{length}
-use Rattle.differences.proofs.AfterFirst.{there}
+use Rattle.symbols.proofs.Capped.{there}
 use Rattle.differences.proofs.Correcting.{OwnCorrected, own-none, own-corrected, none-corrected, next-none, next-corrected}
 use Rattle.differences.proofs.correct_differences.Statement.{statement}
 use Rattle.differences.proofs.correct_differences.Tie as tie

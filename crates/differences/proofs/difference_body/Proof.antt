@@ -6,7 +6,7 @@ use Prim.Native.Nat.{min, _-_, _≤_}
 use native.Mathlib.Omega.{arith}
 use lib.ListN.{length}
 use borrow.Author.Needs.{needs}
-use Rattle.differences.proofs.AfterFirst.{there}
+use Rattle.symbols.proofs.Capped.{there}
 use Rattle.differences.proofs.OneByOne.{DifferencedTo, differenced-none, differenced-more, differenced-all}
 use Rattle.differences.proofs.difference_body.Statement.{statement}
 use Rattle.differences.proofs.difference_body.Tie as tie

@@ -10,6 +10,7 @@ use lib.ListN.{length, take, length-take}
 use lib.Seq.{getD-take}
 use denote.Ref.{now}
 use borrow.Author.Needs.{needs}
+use Rattle.symbols.proofs.Capped.{there}
 use Rattle.symbols.proofs.Weighing.{Weighing, weighing-none, weighing-next, weighing-all}
 use Rattle.symbols.proofs.weight.weigh.Statement.{statement}
 use Rattle.symbols.proofs.weight.weigh.Tie as tie
@@ -27,16 +28,9 @@ available-requires c κs = search needs
 
 loop-holds : tie.Need-loop-holds Inv-loop μ-loop
 loop-holds c =
-    let start = c .before .before in
-    let most = min (start .args .m) 97 in
-    let end = c .available .ensures in (
-      weighing-none _,
-      omega arith,
-      omega arith,
-      end,
-      rw end (le-trans (min-le-left most _) (min-le-right (start .args .m) 97)),
-      rw end (min-le-right most _),
-    )
+    let end = c .available .ensures in
+    let (room, symbols) = there (c .before .before .args .m) end in
+    (weighing-none _, omega arith, omega arith, end, room, symbols)
 
 shared-slice-read-wide16 : tie.Need-shared-slice-read-wide16 Inv-loop μ-loop
 shared-slice-read-wide16 c = search needs
