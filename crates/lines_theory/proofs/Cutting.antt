@@ -3,7 +3,7 @@
 use mathlib.Core.Path.{_≡_, refl, sym, ap, subst, _∙_}
 use mathlib.Core.Logic.{inl, inr, ⊎-elim}
 use mathlib.Core.List.{List, [], _∷_, _++_, append-assoc, append-nil}
-use Prim.Native.Nat.{ℕ, _-_, _≤_, _<_, min}
+use Prim.Native.Nat.{ℕ, _+_, _-_, _≤_, _<_, min}
 use native.Mathlib.Nat.{le-of-lt, min-le-left}
 use native.Mathlib.Omega.{arith}
 use lib.Dec.{T}
@@ -128,8 +128,19 @@ goes-on {m} {m′} (call {i = i} {o = o} s′ room′ cs) s room =
     calls-as (sym (append-assoc (take (feed m s′ room′ .consumed) s′) i (take (feed m′ s room .consumed) s)))
     (sym (append-assoc (feed m s′ room′ .produced) o (feed m′ s room .produced))) (call s′ room′ (goes-on cs s room))
 
+-- a call with room for all that is left is done
+ends : (m : Model) → (o : List ℕ) × Ending m o
+unfolding isDone
+ends m =
+    let end = answerAtEnd (m .line) in
+    let room = length (m .pending) + length end in
+    let e : finishing m room ≡ fedAtEnd m (room - length (m .pending)) = finish-on m room (omega arith) in
+    let reaches : length end ≤ room - length (m .pending) = omega arith in
+    let all : drop (room - length (m .pending)) end ≡ [] = drop-of-length-le end reaches in
+    (finishing m room .produced, done {m = m} room (rw (e, all) tt))
+
 pub calls-go-on : CallsGoOn
-calls-go-on = record { begins = λ m. none; goes-on = goes-on }
+calls-go-on = record { begins = λ m. none; goes-on = goes-on; ends = ends }
 
 pub any-cutting : AnyCutting
 any-cutting i o o′ m cs e =

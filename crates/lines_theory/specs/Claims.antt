@@ -24,11 +24,12 @@ pub data Ending : Model → List ℕ → Type 0 where
   done : {m : Model} (room : ℕ) → T (isDone (finishing m room)) → Ending m (finishing m room .produced)
   more : {m : Model} {o : List ℕ} (room : ℕ) → Ending (finishing m room .model) o → Ending m (finishing m room .produced ++ o)
 
--- such calls begin at any model, and can go on with any piece and any room
+-- such calls begin at any model, can go on with any piece and any room, and can be ended
 pub record CallsGoOn : Type 0 where
   pub begins : (m : Model) → Calls m [] [] m
   pub goes-on : {m m′ : Model} {i o : List ℕ} → Calls m i o m′ → (s : List ℕ) (room : ℕ)
       → Calls m (i ++ take (feed m′ s room .consumed) s) (o ++ feed m′ s room .produced) (feed m′ s room .model)
+  pub ends : (m : Model) → (o : List ℕ) × Ending m o
 
 -- what is put out does not depend on how the input is cut or how long the outputs are
 abbrev pub AnyCutting : Type 0
