@@ -3,8 +3,11 @@
  * A codeword (the request's "lawful word") carries two messages (its "user words") in symbols of q
  * levels, one symbol a byte, 0 to q - 1. Where at most one symbol of a codeword is wrong, it is
  * corrected and never taken for other messages. Where more are wrong, the word may be refused or be
- * read as other messages. A sheet keeps received words in a buffer that the caller lends, first in
- * first out.
+ * read as other messages. A symbol of a received word that fell between two levels is an erasure,
+ * 255 (the request's "mark"). Where one or two symbols of a codeword are erased and all others are
+ * right, the erased ones are filled, and the word is never taken for other messages; in a word with
+ * erasures no other symbol is corrected. A sheet keeps received words in a buffer that the caller
+ * lends, first in first out.
  *
  *   profile    levels q    message    word
  *      1          3            5       19      lengths in symbols, that is in bytes
@@ -41,7 +44,7 @@ extern "C" {
 #endif
 
 /* Major, minor: a major step breaks a caller. */
-#define FOGZURT_VERSION_MAJOR 1
+#define FOGZURT_VERSION_MAJOR 2
 #define FOGZURT_VERSION_MINOR 0
 
 /* The number in an answer: 0, or why the call was refused. */
@@ -52,13 +55,15 @@ enum {
     FOGZURT_OK = 0,
     FOGZURT_ERR_PROFILE = 1,       /* the profile is not 1 to 4 */
     FOGZURT_ERR_LENGTH = 2,        /* a message, a word or an output has another length than it must */
-    FOGZURT_ERR_SYMBOL = 3,        /* a symbol is not below q */
-    FOGZURT_ERR_UNREADABLE = 4,    /* no codeword differs from the word in at most one position */
+    FOGZURT_ERR_SYMBOL = 3,        /* a symbol is not below q, nor an erasure in a received word */
+    FOGZURT_ERR_UNREADABLE = 4,    /* no codeword differs from the word in at most one position or,
+                                      where symbols are erased, agrees with it at all others */
     FOGZURT_ERR_SHEET_LENGTH = 5,  /* the sheet's length is not 104 times a number from 2 to 256 */
     FOGZURT_ERR_SHEET_UNSOUND = 6, /* the sheet's bytes are not those of a sheet */
     FOGZURT_ERR_BOX_NUMBER = 7,    /* the box number is not 1 to 40 */
     FOGZURT_ERR_SHEET_FULL = 8,    /* the sheet has no free cell */
-    FOGZURT_ERR_NO_RECORD = 10     /* the sheet has no record of that number */
+    FOGZURT_ERR_NO_RECORD = 10,    /* the sheet has no record of that number */
+    FOGZURT_ERR_ERASURES = 11      /* more than two symbols are erased */
 };
 
 /* The bytes of a profile's message and of its word; 0 where there is no such profile. */
@@ -71,24 +76,29 @@ enum {
 #define FOGZURT_LONGEST_MESSAGE 45
 #define FOGZURT_LONGEST_WORD 99
 
+/* What a received word holds in place of a symbol that fell between two levels. */
+#define FOGZURT_ERASURE 255
+
 /* Encodes two messages into their word (the request's "write").
  *   profile              1 to 4
  *   first, second        the messages
  *   out                  where the word goes; its length is the word's
  * Answers 0, and out then holds the word. Refusals, in this order:
- *   1 profile; 2 a message or out has not its length; 3 a symbol of a message is not below q.
+ *   1 profile; 2 a message or out has not its length; 3 a symbol of a message is not below q, as
+ *   FOGZURT_ERASURE is not.
  */
 uint64_t fogzurt_encode(uint64_t profile, const uint8_t *first, size_t first_len,
                         const uint8_t *second, size_t second_len, uint8_t *out, size_t out_len);
 
 /* Decodes a received word (the request's "read").
  *   profile              1 to 4
- *   word                 the word as received
+ *   word                 the word as received, with FOGZURT_ERASURE for each erased symbol
  *   first, second        where the messages go; their lengths are the messages'
  * FOGZURT_NUMBER of the answer is 0 where the word was read, and first and second then hold the
  * messages. Refusals, in this order:
- *   1 profile; 2 the word, first or second has not its length; 3 a symbol is not below q;
- *   4 no codeword differs from the word in at most one position.
+ *   1 profile; 2 the word, first or second has not its length; 3 a symbol is neither below q nor an
+ *   erasure; 11 more than two symbols are erased; 4 no codeword differs from the word in at most one
+ *   position or, where symbols are erased, agrees with it at all others.
  */
 uint64_t fogzurt_decode(uint64_t profile, const uint8_t *word, size_t word_len, uint8_t *first,
                         size_t first_len, uint8_t *second, size_t second_len);
@@ -99,17 +109,23 @@ uint64_t fogzurt_decode(uint64_t profile, const uint8_t *word, size_t word_len, 
 /* What the word turned out to be. */
 #define FOGZURT_KIND(answer) ((unsigned)((uint64_t)(answer) >> 8 & 0xff))
 enum {
-    FOGZURT_KIND_NONE = 0,     /* it was refused */
-    FOGZURT_KIND_CLEAN = 1,    /* it is a codeword */
-    FOGZURT_KIND_CORRECTED = 2 /* it differs from a codeword in one position (the request's "mended") */
+    FOGZURT_KIND_NONE = 0,      /* it was refused */
+    FOGZURT_KIND_CLEAN = 1,     /* it is a codeword */
+    FOGZURT_KIND_CORRECTED = 2, /* it differs from a codeword in one position (the request's "mended") */
+    FOGZURT_KIND_FILLED = 3     /* its erased symbols were filled, one or two (the request's "F") */
 };
 
-/* The position that was corrected, counted from 1, and the symbol sent there; 0 where none was. */
+/* The position that was corrected or filled, counted from 1, and the symbol sent there; 0 where none
+ * was. Where two were filled, this is the lower one. */
 #define FOGZURT_POSITION(answer) ((unsigned)((uint64_t)(answer) >> 16 & 0xff))
 #define FOGZURT_SENT_SYMBOL(answer) ((unsigned)((uint64_t)(answer) >> 24 & 0xff))
 
+/* The second position that was filled, and the symbol sent there; 0 where no second one was. */
+#define FOGZURT_SECOND_POSITION(answer) ((unsigned)((uint64_t)(answer) >> 32 & 0xff))
+#define FOGZURT_SECOND_SENT_SYMBOL(answer) ((unsigned)((uint64_t)(answer) >> 40 & 0xff))
+
 /* The bytes of a cell, and of a record that is copied out: byte 0 is 0, then come the box number,
- * the profile and the word's symbols, and then zeros. */
+ * the profile and the word's symbols, any of which may be FOGZURT_ERASURE, and then zeros. */
 #define FOGZURT_CELL 104
 #define FOGZURT_RECORD_BOX 1
 #define FOGZURT_RECORD_PROFILE 2
@@ -124,14 +140,15 @@ enum {
  */
 uint64_t fogzurt_sheet_format(uint8_t *sheet, size_t sheet_len);
 
-/* Adds a word as the last record (the request's "enter"). It is kept as received, readable or not.
+/* Adds a word as the last record (the request's "enter"). It is kept as received, readable or not,
+ * with any number of erasures.
  *   sheet                a sheet that fogzurt_sheet_format made; at most three of its cells are
  *                        written
  *   box_number           1 to 40, with any profile
  *   profile, word        the word and its profile
  * Answers 0. Refusals, in this order:
  *   5 the sheet's length; 6 the sheet is unsound; 7 box number; 1 profile; 2 the word has not its
- *   length; 3 a symbol is not below q; 8 the sheet is full.
+ *   length; 3 a symbol is neither below q nor an erasure; 8 the sheet is full.
  */
 uint64_t fogzurt_sheet_enqueue(uint8_t *sheet, size_t sheet_len, uint64_t box_number,
                                uint64_t profile, const uint8_t *word, size_t word_len);

@@ -1,9 +1,14 @@
-//! Encoding, decoding of clean words, and decoding of words with one symbol changed.
+//! Encoding, and decoding of clean words, of words with one symbol changed, and of words with one
+//! and two symbols erased.
 
 use std::hint::black_box;
 use std::time::Duration;
 
 use coder::codeword::Messages;
+use coder::erased_words::{
+    both_checks, like_parity, one_check, one_of_w, one_of_w_and_one_check, unlike_parity, Draw,
+};
+use coder::erasure::erased_at;
 use coder::profile::{Profile, PROFILES};
 use coder::random_words::changed;
 use coder::rng::Rng;
@@ -16,7 +21,13 @@ use crate::race::{time, Race};
 const PAIRS: usize = 2000;
 
 /// What is measured, in the order of a turn.
-const OPERATIONS: [&str; 3] = ["encode", "decode clean", "decode corrected"];
+const OPERATIONS: [&str; 5] =
+    ["encode", "decode clean", "decode corrected", "decode one erasure", "decode two erasures"];
+
+/// Where words are erased, by turns: in w, of two symbols of like and of unlike parity, and at check
+/// symbols.
+const ONE_ERASURE: [Draw; 4] = [one_of_w, one_of_w, one_of_w, one_check];
+const TWO_ERASURES: [Draw; 4] = [like_parity, unlike_parity, one_of_w_and_one_check, both_checks];
 
 pub fn race_profiles() {
     for profile in &PROFILES {
@@ -30,12 +41,12 @@ pub fn race_profiles() {
     }
 }
 
-/// Messages of a profile, their words, and those words with one symbol changed.
+/// Messages of a profile, and received words: theirs, those with one symbol changed, and those with
+/// one and two erased.
 struct Inputs {
     profile: &'static Profile,
     messages: Vec<Messages>,
-    clean: Vec<Vec<u8>>,
-    damaged: Vec<Vec<u8>>,
+    received: [Vec<Vec<u8>>; OPERATIONS.len() - 1],
 }
 
 impl Inputs {
@@ -51,11 +62,18 @@ impl Inputs {
             })
             .collect();
         let damaged = clean.iter().map(|word| changed(profile, word, 1, rng)).collect();
-        Inputs { profile, messages, clean, damaged }
+        let [one_erased, two_erased] = [ONE_ERASURE, TWO_ERASURES].map(|draws| {
+            let words = clean.iter().zip(draws.iter().cycle());
+            words.map(|(word, draw)| erased_at(word, &draw(profile, rng))).collect()
+        });
+        Inputs { profile, messages, received: [clean, damaged, one_erased, two_erased] }
     }
 
     fn turn(&self, coder: &EntryPoints) -> [Duration; OPERATIONS.len()] {
-        [self.encode(coder), self.decode(coder, &self.clean), self.decode(coder, &self.damaged)]
+        let encode = self.encode(coder);
+        let [clean, damaged, one_erased, two_erased] =
+            self.received.each_ref().map(|words| self.decode(coder, words));
+        [encode, clean, damaged, one_erased, two_erased]
     }
 
     fn encode(&self, coder: &EntryPoints) -> Duration {

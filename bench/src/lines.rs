@@ -87,7 +87,7 @@ fn mixed_lines() -> Vec<u8> {
             fast::encode(u64::from(profile.number), &first, &second, &mut word)
                 .expect("the messages are right");
             let word = changed(profile, &word, count / PROFILES.len() % 4, rng);
-            let malformed = if rng.once_in(10) { "?" } else { "" };
+            let malformed = if rng.once_in(10) { "!" } else { "" };
             format!("{} {}{malformed}\n", profile.number, digits(&word))
         })
         .collect();

@@ -1,4 +1,5 @@
-/* Encodes two messages, damages a symbol on the way, decodes the word, and keeps it on a sheet.
+/* Encodes two messages, damages a symbol on the way or erases some, decodes what arrives, and keeps it
+ * on a sheet.
  *
  * At the top of the repository, after `rt staticlib fogzurt`:
  *   cc -std=c11 -Iinclude examples/c/example.c target/staticlib/libfogzurt.a -o target/example
@@ -26,11 +27,11 @@ static void expect_ok(const char *call, uint64_t answer) {
     }
 }
 
-/* Prints a label and symbols as digits. */
+/* Prints a label and symbols as digits, an erasure as a question mark. */
 static void print_symbols(const char *label, const uint8_t *symbols, size_t length) {
     printf("%s", label);
     for (size_t i = 0; i < length; i++) {
-        printf("%u", symbols[i]);
+        putchar(symbols[i] == FOGZURT_ERASURE ? '?' : '0' + symbols[i]);
     }
     printf("\n");
 }
@@ -46,6 +47,14 @@ static void print_decoded(const uint8_t *word) {
     if (FOGZURT_KIND(answer) == FOGZURT_KIND_CORRECTED) {
         printf("  corrected: a %u was sent at position %u\n", FOGZURT_SENT_SYMBOL(answer),
                FOGZURT_POSITION(answer));
+    } else if (FOGZURT_KIND(answer) == FOGZURT_KIND_FILLED) {
+        printf("  filled: a %u was sent at position %u", FOGZURT_SENT_SYMBOL(answer),
+               FOGZURT_POSITION(answer));
+        if (FOGZURT_SECOND_POSITION(answer) != 0) {
+            printf(", a %u at position %u", FOGZURT_SECOND_SENT_SYMBOL(answer),
+                   FOGZURT_SECOND_POSITION(answer));
+        }
+        printf("\n");
     } else {
         printf("  clean: a codeword, with no symbol corrected\n");
     }
@@ -70,6 +79,14 @@ int main(void) {
     print_decoded(word);
 
     word[6 - 1] = 2; /* positions count from 1 */
+    print_symbols("received          ", word, WORD);
+    print_decoded(word);
+
+    word[6 - 1] = FOGZURT_ERASURE;
+    print_symbols("received          ", word, WORD);
+    print_decoded(word);
+
+    word[17 - 1] = FOGZURT_ERASURE;
     print_symbols("received          ", word, WORD);
     print_decoded(word);
 

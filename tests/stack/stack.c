@@ -30,6 +30,11 @@ static void decode_corrected(void) {
     decode();
 }
 
+static void decode_filled(void) {
+    word[50] = word[51] = FOGZURT_ERASURE;
+    decode();
+}
+
 static void format(void) { fogzurt_sheet_format(sheet, sizeof sheet); }
 
 static void enqueue(void) {
@@ -70,6 +75,7 @@ int main(void) {
     } calls[] = {
         {"fogzurt_encode", encode},       {"fogzurt_decode, clean", decode},
         {"fogzurt_decode, corrected", decode_corrected},
+        {"fogzurt_decode, filled", decode_filled},
         {"fogzurt_sheet_format", format}, {"fogzurt_sheet_enqueue", enqueue},
         {"fogzurt_sheet_peek", peek},     {"fogzurt_sheet_dequeue", dequeue},
     };

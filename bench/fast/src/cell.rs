@@ -2,7 +2,9 @@
 
 use coder::list::{CELL, LAST_BOX};
 
-use crate::code::{Profile1, Profile2, Profile3, Profile4, Shape};
+use crate::code::{
+    highest, highest_received, shape, Profile1, Profile2, Profile3, Profile4, Shape,
+};
 
 /// Where a record's fields stand in its cell; byte 0 is the number of the next cell.
 pub const BOX: usize = 1;
@@ -17,7 +19,8 @@ pub const FIRST_FREE: usize = 1;
 #[inline]
 pub fn holds_record(cell: &[u8]) -> bool {
     let limits = USED_LIMITS.get(usize::from(cell[PROFILE]).wrapping_sub(1));
-    cell[BOX] != 0 && limits.is_some_and(|limits| is_within(cell, limits))
+    let is_within = limits.is_some_and(|limits| is_within(cell, limits));
+    cell[BOX] != 0 && (is_within || holds_erasures(cell))
 }
 
 /// Whether a free cell is zero after byte 0.
@@ -71,4 +74,13 @@ const fn used_limits(shape: Shape) -> Limits {
 fn is_within(cell: &[u8], limits: &Limits) -> bool {
     let excess = |(&byte, &limit): (&u8, &u8)| byte.saturating_sub(limit);
     cell.iter().zip(limits).map(excess).fold(0, |any, excess| any | excess) == 0
+}
+
+/// Whether a used cell that is not within its limits is so because of erasures alone.
+#[cold]
+fn holds_erasures(cell: &[u8]) -> bool {
+    shape(u64::from(cell[PROFILE])).is_ok_and(|shape| {
+        let (word, zeros) = cell[WORD..].split_at(shape.word_length);
+        cell[BOX] <= LAST_BOX && highest_received(word) <= shape.q && highest(zeros) == 0
+    })
 }

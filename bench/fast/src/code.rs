@@ -164,6 +164,13 @@ pub fn highest(word: &[u8]) -> u8 {
     word.iter().fold(0, |highest, &symbol| highest.max(symbol))
 }
 
+/// The highest of the levels' successors; an erasure (255) counts as 0. It is at most q where every
+/// symbol is one that may be received.
+#[inline]
+pub fn highest_received(word: &[u8]) -> u8 {
+    word.iter().fold(0, |highest, &symbol| highest.max(symbol.wrapping_add(1)))
+}
+
 /// A row times w.
 #[inline]
 pub fn dot(row: &[i16], w: &[i16]) -> i16 {

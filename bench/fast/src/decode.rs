@@ -8,12 +8,16 @@ use crate::code::{dot, Code, Symbols, MAX_M, MAX_R};
 use crate::for_profile;
 
 /// The rows of the first component's syndrome, then those of the second's, each mod q.
-type Syndromes = [i16; 2 * MAX_R];
+pub(crate) type Syndromes = [i16; 2 * MAX_R];
 
 /// For each component, the position from which 1 is to be taken, or 0 if it is in code.
-type Added = [usize; 2];
+pub(crate) type Added = [usize; 2];
 
-/// Decodes a received word. 01's refusals 1, 2, 3 and 4, in this order.
+/// The index of a wrong symbol and what was sent there, if there is one, and what the components
+/// then are.
+type Found = (Option<(usize, u8)>, Added);
+
+/// Decodes a received word. Refusals 1, 2, 3, 11 and 4, in this order.
 pub fn decode(
     profile: u64,
     word: &[u8],
@@ -31,29 +35,43 @@ impl<const Q: usize, const R: usize, const N: usize> Code<Q, R, N> {
     ) -> Result<Decoded, Refusal> {
         require(word.len() == Self::LENGTH, Refusal::Length)?;
         require(first.len() == Self::K && second.len() == Self::K, Refusal::Length)?;
-        require(Self::has_symbols(word), Refusal::Symbol)?;
-        let mut w = [0; MAX_M];
-        for (symbol, &byte) in w.iter_mut().zip(&word[..Self::M]) {
-            *symbol = i16::from(byte);
+        if !Self::has_symbols(word) {
+            return Self::decode_erased(word, first, second);
         }
-        let (decoded, added) = Self::find(&w, word).ok_or(Refusal::Unreadable)?;
-        if let Decoded::Corrected { position, symbol } = decoded {
-            if position <= Self::M {
-                w[position - 1] = i16::from(symbol);
+        let mut w = Self::symbols(word, |byte| byte);
+        let (correction, added) = Self::find(&w, word).ok_or(Refusal::Unreadable)?;
+        if let Some((index, symbol)) = correction {
+            if index < Self::M {
+                w[index] = i16::from(symbol);
             }
         }
         Self::write_messages(&w, added, first, second);
-        Ok(decoded)
+        Ok(correction.map_or(Decoded::Clean, |(index, symbol)| Decoded::Corrected {
+            position: index + 1,
+            symbol,
+        }))
+    }
+
+    // What must be inlined here has two callers, and a call costs a clean word a tenth of its time.
+
+    /// The symbols of w, each of them as `level` has it.
+    #[inline(always)]
+    pub(crate) fn symbols(word: &[u8], level: impl Fn(u8) -> u8) -> Symbols {
+        let mut w = [0; MAX_M];
+        for (symbol, &byte) in w.iter_mut().zip(&word[..Self::M]) {
+            *symbol = i16::from(level(byte));
+        }
+        w
     }
 
     /// Where the word differs from a codeword, and what its components then are.
-    fn find(w: &Symbols, word: &[u8]) -> Option<(Decoded, Added)> {
+    fn find(w: &Symbols, word: &[u8]) -> Option<Found> {
         let [odd, even] = Self::parity_sums(w);
         let off = [(odd + Self::DELTA, Self::M), (even, Self::M + 1)]
             .map(|(sum, check)| Self::mod_q(sum + Q as i16 - i16::from(word[check])));
         let syndromes = Self::syndromes(w);
         match (odd + even - Self::BALANCING_VALUE, off) {
-            (0, [0, 0]) => Some((Decoded::Clean, Self::added(&syndromes)?)),
+            (0, [0, 0]) => Some((None, Self::added(&syndromes)?)),
             (0, [_, 0]) => Self::wrong_check(word, 0, off, &syndromes),
             (0, [0, _]) => Self::wrong_check(word, 1, off, &syndromes),
             (excess, [by, 0]) => Self::wrong_symbol(w, 0, excess, by, &syndromes),
@@ -62,7 +80,8 @@ impl<const Q: usize, const R: usize, const N: usize> Code<Q, R, N> {
         }
     }
 
-    fn syndromes(w: &Symbols) -> Syndromes {
+    #[inline(always)]
+    pub(crate) fn syndromes(w: &Symbols) -> Syndromes {
         let mut syndromes = [0; 2 * MAX_R];
         for (row, entries) in syndromes.iter_mut().zip(&Self::SYNDROME_ROWS[..2 * R]) {
             *row = dot(&entries[..Self::PADDED_M], &w[..Self::PADDED_M]).rem_euclid(Q as i16);
@@ -76,10 +95,10 @@ impl<const Q: usize, const R: usize, const N: usize> Code<Q, R, N> {
         check: usize,
         off: [i16; 2],
         syndromes: &Syndromes,
-    ) -> Option<(Decoded, Added)> {
+    ) -> Option<Found> {
         let index = Self::M + check;
         let symbol = Self::mod_q(i16::from(word[index]) + off[check]) as u8;
-        Some((Decoded::Corrected { position: index + 1, symbol }, Self::added(syndromes)?))
+        Some((Some((index, symbol)), Self::added(syndromes)?))
     }
 
     /// w is off balance by `excess`, and only the check sum of the indices `start`, `start` + 2, ..
@@ -90,7 +109,7 @@ impl<const Q: usize, const R: usize, const N: usize> Code<Q, R, N> {
         excess: i16,
         off: i16,
         syndromes: &Syndromes,
-    ) -> Option<(Decoded, Added)> {
+    ) -> Option<Found> {
         if excess.abs() >= Q as i16 || Self::reduce(excess) != off {
             return None;
         }
@@ -100,13 +119,13 @@ impl<const Q: usize, const R: usize, const N: usize> Code<Q, R, N> {
                 return None;
             }
             let added = Self::added(&Self::moved(syndromes, index, excess))?;
-            Some((Decoded::Corrected { position: index + 1, symbol: level as u8 }, added))
+            Some((Some((index, level as u8)), added))
         })
     }
 
     /// The syndromes of w with `excess` taken from the symbol at an index.
     #[inline]
-    fn moved(syndromes: &Syndromes, index: usize, excess: i16) -> Syndromes {
+    pub(crate) fn moved(syndromes: &Syndromes, index: usize, excess: i16) -> Syndromes {
         let mut moved = [0; 2 * MAX_R];
         for row in 0..2 * R {
             moved[row] = Self::reduce(syndromes[row] - excess * Self::SYNDROME_COLUMNS[index][row]);
@@ -131,7 +150,7 @@ impl<const Q: usize, const R: usize, const N: usize> Code<Q, R, N> {
 
     /// Where 1 was added, if the components are those of a codeword.
     #[inline]
-    fn added(syndromes: &Syndromes) -> Option<Added> {
+    pub(crate) fn added(syndromes: &Syndromes) -> Option<Added> {
         let first = Self::added_at(&syndromes[..R])?;
         let second = Self::added_at(&syndromes[R..2 * R])?;
         (first == 0 || second == 0).then_some([first, second])
@@ -148,7 +167,8 @@ impl<const Q: usize, const R: usize, const N: usize> Code<Q, R, N> {
     }
 
     /// Differences w, takes 1 where it was added, and copies the message positions out.
-    fn write_messages(w: &Symbols, added: Added, first: &mut [u8], second: &mut [u8]) {
+    #[inline(always)]
+    pub(crate) fn write_messages(w: &Symbols, added: Added, first: &mut [u8], second: &mut [u8]) {
         let mut x = [0u8; MAX_M];
         for index in 1..Self::M {
             let difference = (w[index] - w[index - 1] + Q as i16) as u8;

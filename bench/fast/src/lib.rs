@@ -7,6 +7,7 @@ mod cell;
 mod code;
 mod decode;
 mod encode;
+mod fill;
 pub mod lines;
 pub mod queue;
 

@@ -1,13 +1,18 @@
 //! One line of the program boxlines: the answer to its bytes.
 
-use coder::decode::Decoded;
+use coder::decode::{Decoded, Sent};
+use coder::erasure::ERASURE;
 use coder::refusal::{require, Refusal};
+use coder::text::ERASURE_BYTE;
 
 use crate::code::highest;
 use crate::{decode, shape};
 
-/// The longest answer is profile 4's, as in `4 M 99 6 `, two messages of 45, a space and byte 10.
-pub const LONGEST_ANSWER: usize = 101;
+/// The longest answer is profile 4's, as in `4 F 98 6 99 6 `, two messages of 45, a space and byte 10.
+pub const LONGEST_ANSWER: usize = 106;
+
+/// What is left of a question mark when the digit 0 is taken from it.
+const MARK: u8 = ERASURE_BYTE - b'0';
 
 /// The longest message and word.
 const MESSAGE: usize = 45;
@@ -46,6 +51,13 @@ impl Answer<'_> {
         self.put(&[b'0' + (number % 10) as u8]);
     }
 
+    /// A position and the symbol sent there, a space before each.
+    fn sent(&mut self, Sent { position, symbol }: Sent) {
+        self.put(b" ");
+        self.number(position);
+        self.put(&[b' ', b'0' + symbol]);
+    }
+
     /// A space and the digits of a message.
     fn message(&mut self, message: &[u8]) {
         self.put(b" ");
@@ -69,7 +81,9 @@ impl Answer<'_> {
         for (symbol, &byte) in word.iter_mut().zip(digits) {
             *symbol = digit(byte);
         }
-        require(highest(word) <= 9, Refusal::LineForm)?;
+        if highest(word) > 9 {
+            erase_marks(word)?;
+        }
         let number = u64::from(digit(*profile));
         let length = shape(number)?.message_length;
         let (mut first, mut second) = ([0; MESSAGE], [0; MESSAGE]);
@@ -79,13 +93,29 @@ impl Answer<'_> {
         match decoded {
             Decoded::Clean => self.put(b" C 0 0"),
             Decoded::Corrected { position, symbol } => {
-                self.put(b" M ");
-                self.number(position);
-                self.put(&[b' ', b'0' + symbol]);
+                self.put(b" M");
+                self.sent(Sent { position, symbol });
+            }
+            Decoded::Filled(one, other) => {
+                self.put(b" F");
+                self.sent(one);
+                other.into_iter().for_each(|other| self.sent(other));
             }
         }
         self.message(first);
         self.message(second);
         Ok(())
     }
+}
+
+/// Puts erasures in place of question marks; every other byte has to be a digit.
+#[cold]
+fn erase_marks(word: &mut [u8]) -> Result<(), Refusal> {
+    let unmarked = |symbol: u8| if symbol == MARK { 0 } else { symbol };
+    let highest = word.iter().fold(0, |highest, &symbol| highest.max(unmarked(symbol)));
+    require(highest <= 9, Refusal::LineForm)?;
+    for symbol in word {
+        *symbol = if *symbol == MARK { ERASURE } else { *symbol };
+    }
+    Ok(())
 }

@@ -4,7 +4,7 @@ use coder::list::{CELL, LAST_BOX};
 use coder::refusal::{require, Refusal};
 
 use crate::cell::{holds_record, is_free, is_head, BOX, FIRST_FREE, FIRST_USED, PROFILE, WORD};
-use crate::code::{highest, shape};
+use crate::code::{highest_received, shape};
 
 /// The used cells of a sound queue, in the order of the list.
 struct UsedCells {
@@ -34,7 +34,7 @@ pub fn enqueue(
     require((1..=u64::from(LAST_BOX)).contains(&box_number), Refusal::BoxNumber)?;
     let shape = shape(profile)?;
     require(word.len() == shape.word_length, Refusal::Length)?;
-    require(highest(word) < shape.q, Refusal::Symbol)?;
+    require(highest_received(word) <= shape.q, Refusal::Symbol)?;
     let taken = buffer[FIRST_FREE];
     require(taken != 0, Refusal::NoFreeCell)?;
     let cell = cell_mut(buffer, taken);

@@ -10,7 +10,8 @@ use lib.Dec.{ltb}
 use lib.ListN.{length, getD, take, drop, set, length-append, length-map, length-set, length-drop, take-append-drop}
 use lib.Seq.{take-suc, take-all, take-at, set-split, length-take-le, drop-append-add, drop-drop}
 use borrow.Author.Tests.{lt-ltb, le-ltb}
-use Rattle.lines_theory.specs.Line.{digitByte, decimalBefore, decimal, refusalLine, readingLine}
+use Rattle.code_theory.specs.Reading.{Change}
+use Rattle.lines_theory.specs.Line.{digitByte, decimalBefore, decimal, refusalLine, changesBefore, readingLine}
 use Rattle.lines_theory.specs.Feed.{overwritten}
 use Rattle.code_theory.proofs.Merge.{cases}
 use Rattle.answers.specs.Writing.{Written, headingOf}
@@ -75,14 +76,14 @@ decimal-two n after h k =
     let e : n / 10 < 10 = omega arith in
     rw (le-ltb n 10 h, decimalBefore, lt-ltb (n / 10) 10 e, decimalBefore)
 
-pub number-one : {out new : List ℕ} {at end n : ℕ} → n < 10 → Written out new at end ((48 + n) ∷ 32 ∷ [])
-    → Written out new at end (decimal n (32 ∷ []))
-number-one {n} h w = rw (decimal-one n (32 ∷ []) h) w
+pub number-one : {out new : List ℕ} {at end n last : ℕ} → n < 10 → Written out new at end ((48 + n) ∷ last ∷ [])
+    → Written out new at end (decimal n (last ∷ []))
+number-one {n} {last} h w = rw (decimal-one n (last ∷ []) h) w
 
 -- the first of two digits, and what the function pair writes after it
-pub number-two : (out : List ℕ) {new : List ℕ} {end n : ℕ} (at : ℕ) → at < length out → 10 ≤ n → n ≤ 99
-    → Written (set out at (48 + n / 10)) new (at + 1) end ((48 + n % 10) ∷ 32 ∷ []) → Written out new at end (decimal n (32 ∷ []))
-number-two out {n} at h k l w = rw (decimal-two n (32 ∷ []) k l) (one out at (48 + n / 10) h followed-by (rw (add-one at) at w))
+pub number-two : (out : List ℕ) {new : List ℕ} {end n last : ℕ} (at : ℕ) → at < length out → 10 ≤ n → n ≤ 99
+    → Written (set out at (48 + n / 10)) new (at + 1) end ((48 + n % 10) ∷ last ∷ []) → Written out new at end (decimal n (last ∷ []))
+number-two out {n} {last} at h k l w = rw (decimal-two n (last ∷ []) k l) (one out at (48 + n / 10) h followed-by (rw (add-one at) at w))
 
 -- A word.
 
@@ -109,45 +110,55 @@ pub words-length : (symbols : List ℕ) (last : ℕ) → length (map digitByte s
 words-length symbols last = length-append (map digitByte symbols) (last ∷ []) ∙ ap (λ (n : ℕ). n + 1) (length-map symbols digitByte)
 
 -- the two lines, from their fields
-pub refusal-written : {a b c : List ℕ} {i j n : ℕ} → n ≤ 9 → Written a b 0 i (82 ∷ 32 ∷ []) → Written b c i j ((48 + n) ∷ 10 ∷ [])
+
+pub refusal-written : {a b c : List ℕ} {i j : ℕ} (n : ℕ) → Written a b 0 i (82 ∷ 32 ∷ []) → Written b c i j (decimal n (10 ∷ []))
     → Written a c 0 j (refusalLine n)
 unfolding refusalLine
-refusal-written {n} h f g = rw (decimal-one n (10 ∷ []) (omega arith)) (f followed-by g)
+refusal-written n f g = f followed-by g
 
 decimal-append : (k n : ℕ) (x y : List ℕ) → decimalBefore k n (x ++ y) ≡ decimalBefore k n x ++ y
 decimal-append zero n x y = refl
 decimal-append (suc k) n x y =
     cases (ltb n 10) (λ e. rw (e, decimalBefore)) (λ e. rw (e, decimalBefore) (decimal-append k (n / 10) (digitByte (n % 10) ∷ x) y))
 
-pub heading-written : {a b c d e : List ℕ} {i j k l : ℕ} (p v position y : ℕ) → Written a b 0 i ((48 + p) ∷ 32 ∷ [])
-    → Written b c i j (v ∷ 32 ∷ []) → Written c d j k (decimal position (32 ∷ [])) → Written d e k l ((48 + y) ∷ 32 ∷ [])
-    → Written a e 0 l (headingOf p v position y)
-unfolding headingOf decimal
-heading-written p v position y f g h w =
-    rw (decimal-append 20 position (32 ∷ []) ((48 + y) ∷ 32 ∷ [])) (f followed-by (g followed-by (h followed-by w)))
-
--- the two words of a reading, as they follow its heading
-abbrev words : List ℕ → List ℕ → List ℕ
-words s t = map digitByte s ++ 32 ∷ (map digitByte t ++ 10 ∷ [])
-
-position-on : (position y : ℕ) (after : List ℕ) → y ≤ 9
-    → decimal position (32 ∷ digitByte y ∷ 32 ∷ []) ++ after ≡ decimal position (32 ∷ decimal y (32 ∷ after))
+number-before : (n : ℕ) (x y : List ℕ) → decimal n (x ++ y) ≡ decimal n x ++ y
 unfolding decimal
-position-on position y after h =
-    sym (decimal-append 20 position (32 ∷ digitByte y ∷ 32 ∷ []) after)
-    ∙ ap (λ (l : List ℕ). decimal position (32 ∷ l)) (sym (decimal-one y (32 ∷ after) (omega arith)))
+number-before n x y = decimal-append 20 n x y
 
-fields : (p v position y : ℕ) (s t : List ℕ) → y ≤ 9
-    → headingOf p v position y ++ ((map digitByte s ++ 32 ∷ []) ++ (map digitByte t ++ 10 ∷ [])) ≡ readingLine p v position y s t
+changes-before : (cs : List Change) (x y : List ℕ) → changesBefore cs (x ++ y) ≡ changesBefore cs x ++ y
+changes-before [] x y = refl
+changes-before (c ∷ cs) x y =
+    let rest : List ℕ = 32 ∷ changesBefore cs x in
+    ap (λ (l : List ℕ). decimal (c .position) (32 ∷ decimal (c .symbol) (32 ∷ l))) (changes-before cs x y)
+    ∙ ap (λ (l : List ℕ). decimal (c .position) (32 ∷ l)) (number-before (c .symbol) rest y)
+    ∙ number-before (c .position) (32 ∷ decimal (c .symbol) rest) y
+
+pub change-written : {a b c : List ℕ} {i j k : ℕ} (d : Change) → d .symbol ≤ 9 → Written a b i j (decimal (d .position) (32 ∷ []))
+    → Written b c j k ((48 + d .symbol) ∷ 32 ∷ []) → Written a c i k (changesBefore (d ∷ []) [])
+change-written d h f g =
+    rw (decimal-one (d .symbol) (32 ∷ []) (omega arith), number-before (d .position) (32 ∷ []) ((48 + d .symbol) ∷ 32 ∷ []))
+    (f followed-by g)
+
+pub changes-written : {a b c : List ℕ} {i j k : ℕ} (d e : Change) → Written a b i j (changesBefore (d ∷ []) [])
+    → Written b c j k (changesBefore (e ∷ []) []) → Written a c i k (changesBefore (d ∷ e ∷ []) [])
+changes-written d e f g = rw (changes-before (d ∷ []) [] (changesBefore (e ∷ []) [])) (f followed-by g)
+
+pub heading-written : {a b c d : List ℕ} {i j k : ℕ} (p v : ℕ) (cs : List Change) → Written a b 0 i ((48 + p) ∷ 32 ∷ [])
+    → Written b c i j (v ∷ 32 ∷ []) → Written c d j k (changesBefore cs []) → Written a d 0 k (headingOf p v cs)
+unfolding headingOf
+heading-written p v cs f g h = f followed-by (g followed-by h)
+
+fields : (p v : ℕ) (cs : List Change) (s t : List ℕ)
+    → headingOf p v cs ++ ((map digitByte s ++ 32 ∷ []) ++ (map digitByte t ++ 10 ∷ [])) ≡ readingLine p v cs s t
 unfolding headingOf readingLine
-fields p v position y s t h =
-    ap (λ (l : List ℕ). headingOf p v position y ++ l) (append-assoc (map digitByte s) (32 ∷ []) (map digitByte t ++ 10 ∷ []))
-    ∙ ap (λ (l : List ℕ). digitByte p ∷ 32 ∷ v ∷ 32 ∷ l) (position-on position y (words s t) h)
+fields p v cs s t =
+    ap (λ (l : List ℕ). headingOf p v cs ++ l) (append-assoc (map digitByte s) (32 ∷ []) (map digitByte t ++ 10 ∷ []))
+    ∙ ap (λ (l : List ℕ). digitByte p ∷ 32 ∷ v ∷ 32 ∷ l) (sym (changes-before cs [] (map digitByte s ++ 32 ∷ (map digitByte t ++ 10 ∷ []))))
 
-pub reading-written : {a b c d : List ℕ} {i j k : ℕ} (p v position y : ℕ) (s t : List ℕ) → y ≤ 9
-    → Written a b 0 i (headingOf p v position y) → Written b c i j (map digitByte s ++ 32 ∷ [])
-    → Written c d j k (map digitByte t ++ 10 ∷ []) → Written a d 0 k (readingLine p v position y s t)
-reading-written p v position y s t small f g h = rw (fields p v position y s t small) at (f followed-by (g followed-by h))
+pub reading-written : {a b c d : List ℕ} {i j k : ℕ} (p v : ℕ) (cs : List Change) (s t : List ℕ) → Written a b 0 i (headingOf p v cs)
+    → Written b c i j (map digitByte s ++ 32 ∷ []) → Written c d j k (map digitByte t ++ 10 ∷ [])
+    → Written a d 0 k (readingLine p v cs s t)
+reading-written p v cs s t f g h = rw (fields p v cs s t) at (f followed-by (g followed-by h))
 
 pub reworded : {old new x y : List ℕ} {at end : ℕ} → x ≡ y → Written old new at end x → Written old new at end y
 reworded e w = rw e at w

@@ -6,7 +6,7 @@ use mathlib.Core.List.{List, map}
 use Prim.Native.Nat.{ℕ, _-_, _≤_, _<_}
 use lib.Dec.{T}
 use lib.ListN.{length, take}
-use Rattle.lines_theory.specs.Line.{isDigit, digitsOnly, digitValue, symbolsOf, isShort, hasForm, profileOf}
+use Rattle.lines_theory.specs.Line.{isDigit, isSymbol, symbolsOnly, digitValue, symbolValue, symbolsOf, isShort, hasForm, profileOf}
 use Rattle.answers.specs.declared.form.Form.{Form}
 use Rattle.answers.specs.declared.form.Form.the-variants.{Good, Bad}
 
@@ -19,17 +19,23 @@ pub record Valued (b r : ℕ) : Type 0 where
   pub digit : r ≤ 9 → T (isDigit b)
   pub is : r ≤ 9 → r ≡ digitValue b
 
+-- y is the symbol that the byte b stands for, if b is a digit or a question mark, and else the height h is past 9
+pub record SymbolRead (b y h : ℕ) : Type 0 where
+  pub low : T (isSymbol b) → h ≤ 9
+  pub symbol : h ≤ 9 → T (isSymbol b)
+  pub is : h ≤ 9 → y ≡ symbolValue b
+
 -- r is the higher of a and b
 pub record Higher (a b r : ℕ) : Type 0 where
   pub left : a ≤ r
   pub right : b ≤ r
   pub is : a < r → r ≡ b
 
--- the highest value tells whether the bytes s are digits, and then their values stand at the front of a word
-pub record DigitValues (s word : List ℕ) (highest : ℕ) : Type 0 where
-  pub low : T (digitsOnly s) → highest ≤ 9
-  pub digits : highest ≤ 9 → T (digitsOnly s)
-  pub text : highest ≤ 9 → take (length s) word ≡ map digitValue s
+-- the greatest height tells whether the bytes s are symbols, and then these stand at the front of a word
+pub record SymbolValues (s word : List ℕ) (highest : ℕ) : Type 0 where
+  pub low : T (symbolsOnly s) → highest ≤ 9
+  pub symbols : highest ≤ 9 → T (symbolsOnly s)
+  pub text : highest ≤ 9 → take (length s) word ≡ map symbolValue s
 
 -- the form of the line l, and of a good one its symbols at the front of a word
 pub record Parsed (l : List ℕ) (r : Form) (word : List ℕ) : Type 0 where

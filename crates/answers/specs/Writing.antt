@@ -5,9 +5,10 @@ use mathlib.Core.List.{List, [], _∷_, _++_}
 use Prim.Native.Nat.{ℕ, _+_, _≤_}
 use lib.ListN.{length, take, drop}
 use Rattle.code_theory.specs.Component.{Below}
-use Rattle.code_theory.specs.Reading.{correction}
+use Rattle.code_theory.specs.Reading.{Change, changesOf}
 use Rattle.code_theory.specs.Operations.{Report, refusal, failure, success}
-use Rattle.lines_theory.specs.Line.{digitByte, decimal, letter, refusalLine, readingLine}
+use Rattle.lines_theory.specs.Line.{digitByte, letter, refusalLine, changesBefore, readingLine}
+use Rattle.lines_theory.specs.Sizes.{ChangesWithin}
 
 -- bytes stand from index at on, up to end, and all else is as it was
 pub record Written (old new : List ℕ) (at end : ℕ) (bytes : List ℕ) : Type 0 where
@@ -15,18 +16,18 @@ pub record Written (old new : List ℕ) (at end : ℕ) (bytes : List ℕ) : Type
   pub ends : end ≡ at + length bytes
   pub fits : end ≤ length old
 
--- the fields of a reading before its words, each with a space: profile, the kind's letter, place, sent symbol
-unfoldable pub headingOf : ℕ → ℕ → ℕ → ℕ → List ℕ
-headingOf i c position y = digitByte i ∷ 32 ∷ c ∷ 32 ∷ decimal position (32 ∷ digitByte y ∷ 32 ∷ [])
+-- the fields of a reading before its words, each with a space: profile, the kind's letter, place and sent symbol of each change
+unfoldable pub headingOf : ℕ → ℕ → List Change → List ℕ
+headingOf i c cs = digitByte i ∷ 32 ∷ c ∷ 32 ∷ changesBefore cs []
 
 -- the output line from what decoding reports and leaves in its two outputs
 abbrev pub shownLine : ℕ → Report → List ℕ → List ℕ → List ℕ
 shownLine i (refusal n) a b = refusalLine n
 shownLine i failure a b = refusalLine 4
-shownLine i (success f) a b = readingLine i (letter f) (correction f .position) (correction f .symbol) a b
+shownLine i (success f) a b = readingLine i (letter f) (changesOf f) a b
 
--- its numbers are of at most two digits, one digit, one digit a symbol
+-- at most two digits for a refusal's number and for a position, one for a symbol
 abbrev pub Small : Report → List ℕ → List ℕ → Type 0
-Small (refusal n) a b = n ≤ 9
+Small (refusal n) a b = n ≤ 99
 Small failure a b = Unit {0}
-Small (success f) a b = (correction f .position ≤ 99) × (correction f .symbol ≤ 9) × Below 10 a × Below 10 b
+Small (success f) a b = ChangesWithin 99 9 (changesOf f) × Below 10 a × Below 10 b

@@ -1,11 +1,12 @@
-// The reading of a line: whether it has 01's form, its profile, and its symbols.
+// The reading of a line: whether it has its form (01; 02 for question marks), its profile, and its symbols.
+use profiles::ERASURE;
 ghost use mathlib.Core.Path.{_≡_};
 ghost use mathlib.Core.Bool.{_&&_};
 ghost use Prim.Native.Nat.{_+_, _≤_};
 ghost use lib.Dec.{leb};
 ghost use lib.ListN.{length, drop};
 ghost use Rattle.lines_theory.specs.Line.{isShort};
-ghost use Rattle.answers.specs.Forms.{Valued, Higher, DigitValues, Parsed};
+ghost use Rattle.answers.specs.Forms.{Valued, SymbolRead, Higher, SymbolValues, Parsed};
 
 // 01: "A line not of this form gives 9". Of the form: its profile.
 pub(crate) enum Form {
@@ -30,24 +31,47 @@ fn digit_value(byte: u8) -> u8
     std::num::wrapping_sub_u8(byte, b'0')
 }
 
+// The symbol that a byte stands for. Its height is past 9 where it stands for none.
+struct Symbol {
+    value: u8,
+    height: u8,
+}
+
+// A digit is as high as its value, and a question mark has no height.
+fn symbol_of(byte: u8) -> Symbol
+    ensures { λ r. ⌜ SymbolRead byte (r .value) (r .height) ⌝ }
+{
+    if byte == b'?' {
+        return Symbol {
+            value: ERASURE,
+            height: 0,
+        };
+    }
+    let digit = digit_value(byte);
+    Symbol {
+        value: digit,
+        height: digit,
+    }
+}
+
 fn higher(a: u8, b: u8) -> u8
     ensures { λ r. ⌜ Higher a b r ⌝ }
 {
     if a < b { b } else { a }
 }
 
-// The values of the bytes after the first two, at the front of a word, and the highest of them: one pass with no way
-// out, which the compiler does sixteen bytes at a time.
-fn digit_values(line: &[u8], word: &mut [u8]) -> u8
+// The symbols of the bytes after the first two, at the front of a word, and the highest of their heights: one pass with
+// no way out, which the compiler does sixteen bytes at a time.
+fn symbol_values(line: &[u8], word: &mut [u8]) -> u8
     requires { ⌜ (2 ≤ length (now line)) × (length (now line) ≤ length (now word) + 2) ⌝ }
-    ensures { λ r. ⌜ DigitValues (drop 2 (now (line .entry))) (now (word .exit)) r ⌝ }
+    ensures { λ r. ⌜ SymbolValues (drop 2 (now (line .entry))) (now (word .exit)) r ⌝ }
 {
     let mut highest = 0;
     let mut i = 0;
     while i < line.len() - 2 {
-        let symbol = digit_value(line[i + 2]);
-        word[i] = symbol;
-        highest = higher(highest, symbol);
+        let symbol = symbol_of(line[i + 2]);
+        word[i] = symbol.value;
+        highest = higher(highest, symbol.height);
         i += 1;
     }
     highest
@@ -68,7 +92,7 @@ pub(crate) fn parse(line: &[u8], word: &mut [u8]) -> Form
     if line[1] != b' ' {
         return Form::Bad;
     }
-    if digit_values(line, word) > 9 {
+    if symbol_values(line, word) > 9 {
         return Form::Bad;
     }
     Form::Good(profile as usize)

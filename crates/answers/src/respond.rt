@@ -7,6 +7,8 @@ ghost use Rattle.code_theory.specs.Profiles as Profiles;
 ghost use Rattle.decoder.specs.Decode.{decodedReport};
 ghost use Rattle.lines_theory.specs.Line.{answerLine, readAnswer};
 ghost use Rattle.answers.specs.Writing.{Written, shownLine, Small};
+use decoder::Change;
+use decoder::Changes;
 use decoder::Decoded;
 use profiles::Lookup;
 use profiles::row_of;
@@ -25,9 +27,22 @@ fn write_decoded(
         (shownLine profile (decodedReport decoded) (now (first .entry)) (now (second .entry))) ⌝ }
 {
     match decoded {
-        Decoded::Clean => crate::text::reading_line(out, profile, b'C', 0, 0, first, second),
+        Decoded::Clean => {
+            let none = Change {
+                position: 0,
+                symbol: 0,
+            };
+            crate::text::reading_line(out, profile, b'C', Changes::One(none), first, second)
+        }
         Decoded::Corrected(c) => {
-            crate::text::reading_line(out, profile, b'M', c.position, c.symbol, first, second)
+            let one = Change {
+                position: c.position,
+                symbol: c.symbol,
+            };
+            crate::text::reading_line(out, profile, b'M', Changes::One(one), first, second)
+        }
+        Decoded::Filled(changes) => {
+            crate::text::reading_line(out, profile, b'F', changes, first, second)
         }
         Decoded::Unreadable => crate::text::refusal_line(out, 4),
         Decoded::Refused(number) => crate::text::refusal_line(out, number),

@@ -4,8 +4,12 @@ ghost use mathlib.Core.List.{[], _∷_, _++_, map};
 ghost use Prim.Native.Nat.{_+_, _≤_, _<_};
 ghost use lib.ListN.{length};
 ghost use Rattle.code_theory.specs.Component.{Below};
-ghost use Rattle.lines_theory.specs.Line.{digitByte, decimal, refusalLine, readingLine};
+ghost use Rattle.decoder.specs.Decode.{changeOf, changesIn};
+ghost use Rattle.lines_theory.specs.Line.{digitByte, decimal, refusalLine, changesBefore, readingLine};
+ghost use Rattle.lines_theory.specs.Sizes.{ChangesWithin};
 ghost use Rattle.answers.specs.Writing.{Written, headingOf};
+use decoder::Change;
+use decoder::Changes;
 
 // Two bytes.
 fn pair(out: &mut [u8], at: usize, a: u8, b: u8) -> usize
@@ -17,17 +21,17 @@ fn pair(out: &mut [u8], at: usize, a: u8, b: u8) -> usize
     at + 2
 }
 
-// A number of at most two digits, and a space.
-fn decimal(out: &mut [u8], at: usize, n: usize) -> usize
+// A number of at most two digits, and one more byte.
+fn decimal(out: &mut [u8], at: usize, n: usize, last: u8) -> usize
     requires { ⌜ (at + 2 < length (now out)) × (n ≤ 99) ⌝ }
-    ensures text { λ r. ⌜ Written (now (out .entry)) (now (out .exit)) at r (decimal n (32 ∷ [])) ⌝ }
+    ensures text { λ r. ⌜ Written (now (out .entry)) (now (out .exit)) at r (decimal n (last ∷ [])) ⌝ }
     ensures short { λ r. ⌜ r ≤ at + 3 ⌝ }
 {
     if n < 10 {
-        return pair(out, at, 48 + n as u8, b' ');
+        return pair(out, at, 48 + n as u8, last);
     }
     out[at] = 48 + (n / 10) as u8;
-    pair(out, at + 1, 48 + (n % 10) as u8, b' ')
+    pair(out, at + 1, 48 + (n % 10) as u8, last)
 }
 
 // The digits of a word run together, and one more byte.
@@ -46,41 +50,64 @@ fn word(out: &mut [u8], at: usize, symbols: &[u8], last: u8) -> usize
 
 // 01: "For a refused one: R, a space and the number."
 pub(crate) fn refusal_line(out: &mut [u8], n: u8) -> usize
-    requires { ⌜ (n ≤ 9) × (length (now out) ≡ 128) ⌝ }
+    requires { ⌜ (n ≤ 99) × (length (now out) ≡ 128) ⌝ }
     ensures { λ r. ⌜ Written (now (out .entry)) (now (out .exit)) 0 r (refusalLine n) ⌝ }
 {
     let at = pair(out, 0, b'R', b' ');
-    pair(out, at, 48 + n, b'\n')
+    decimal(out, at, n as usize, b'\n')
 }
 
-// The fields before the words: profile, kind, place and sent symbol, each with a space.
-fn heading(out: &mut [u8], profile: usize, kind: u8, position: usize, symbol: u8) -> usize
-    requires { ⌜ (profile ≤ 9) × (position ≤ 99) × (symbol ≤ 9) × (length (now out) ≡ 128) ⌝ }
-    ensures text { λ r. ⌜ Written (now (out .entry)) (now (out .exit)) 0 r (headingOf profile kind position symbol) ⌝ }
-    ensures short { λ r. ⌜ r ≤ 9 ⌝ }
+// The place of a change and the symbol sent there, each with a space.
+fn one_change(out: &mut [u8], at: usize, c: Change) -> usize
+    requires { ⌜ (at + 4 < length (now out)) × ChangesWithin 99 9 (changeOf c ∷ []) ⌝ }
+    ensures text { λ r. ⌜ Written (now (out .entry)) (now (out .exit)) at r (changesBefore (changeOf c ∷ []) []) ⌝ }
+    ensures short { λ r. ⌜ r ≤ at + 5 ⌝ }
+{
+    let next = decimal(out, at, c.position, b' ');
+    pair(out, next, 48 + c.symbol, b' ')
+}
+
+// The same of one change or of two.
+fn all_changes(out: &mut [u8], at: usize, changes: Changes) -> usize
+    requires { ⌜ (at + 9 < length (now out)) × ChangesWithin 99 9 (changesIn changes) ⌝ }
+    ensures text { λ r. ⌜ Written (now (out .entry)) (now (out .exit)) at r (changesBefore (changesIn changes) []) ⌝ }
+    ensures short { λ r. ⌜ r ≤ at + 10 ⌝ }
+{
+    match changes {
+        Changes::One(c) => one_change(out, at, c),
+        Changes::Two(c, d) => {
+            let next = one_change(out, at, c);
+            one_change(out, next, d)
+        }
+    }
+}
+
+// The fields before the words: profile and kind, each with a space, and the changes.
+fn heading(out: &mut [u8], profile: usize, kind: u8, changes: Changes) -> usize
+    requires { ⌜ (profile ≤ 9) × ChangesWithin 99 9 (changesIn changes) × (length (now out) ≡ 128) ⌝ }
+    ensures text { λ r. ⌜ Written (now (out .entry)) (now (out .exit)) 0 r (headingOf profile kind (changesIn changes)) ⌝ }
+    ensures short { λ r. ⌜ r ≤ 14 ⌝ }
 {
     let a = pair(out, 0, 48 + profile as u8, b' ');
     let b = pair(out, a, kind, b' ');
-    let c = decimal(out, b, position);
-    pair(out, c, 48 + symbol, b' ')
+    all_changes(out, b, changes)
 }
 
-// 01: "profile, kind C or M, place, sent symbol, first word, second word".
+// 01: "profile, kind C or M, place, sent symbol, first word, second word"; 02: F, with one place and symbol or two.
 pub(crate) fn reading_line(
     out: &mut [u8],
     profile: usize,
     kind: u8,
-    position: usize,
-    symbol: u8,
+    changes: Changes,
     first: &[u8],
     second: &[u8],
 ) -> usize
-    requires { ⌜ (profile ≤ 9) × (position ≤ 99) × (symbol ≤ 9) × (length (now out) ≡ 128) ⌝ }
+    requires { ⌜ (profile ≤ 9) × ChangesWithin 99 9 (changesIn changes) × (length (now out) ≡ 128) ⌝ }
     requires { ⌜ (length (now first) ≤ 45) × (length (now second) ≤ 45) × Below 10 (now first) × Below 10 (now second) ⌝ }
     ensures { λ r. ⌜ Written (now (out .entry)) (now (out .exit)) 0 r
-        (readingLine profile kind position symbol (now (first .entry)) (now (second .entry))) ⌝ }
+        (readingLine profile kind (changesIn changes) (now (first .entry)) (now (second .entry))) ⌝ }
 {
-    let a = heading(out, profile, kind, position, symbol);
+    let a = heading(out, profile, kind, changes);
     let b = word(out, a, first, b' ');
     word(out, b, second, b'\n')
 }

@@ -1,4 +1,4 @@
--- The starred cases, computed.
+-- The starred cases and those with erasures, computed.
 -- Assumes nothing.
 use mathlib.Core.Path.{refl}
 use Rattle.modular_theory.specs.Residue.{minus}
@@ -7,14 +7,20 @@ use Rattle.code_theory.specs.Component.{syndrome, inCode, isCheck, messa
 use Rattle.code_theory.specs.Balance.{chosen, balances, earliestS, earliestV, balanced}
 use Rattle.code_theory.specs.Codeword.{alpha, beta, withChecks, interleaved, encoded, body, received, nearCode}
 use Rattle.code_theory.specs.Codeword.{restored, isBalanced, hasChecks, nearComponents, hasComponents, codeword, carried}
-use Rattle.code_theory.specs.Reading.{mends, changedAt, sentAt, nearReading, reading}
+use Rattle.code_theory.specs.Erasures.{filling, firstFilling}
+use Rattle.code_theory.specs.Reading.{mends, changedAt, sentAt, nearReading, reading, filledReading, receivedReading}
 use Rattle.code_theory.specs.Profiles.{profile}
 use Rattle.code_theory.specs.Operations.{decodeAnswer}
-use Rattle.code_theory.specs.Cases.{AllHold, starred}
+use Rattle.code_theory.specs.Cases.{AllHold, starred, erased}
 
 pub starred-hold : AllHold starred
 unfolding minus balancingValue delta syndrome inCode isCheck message candidate component chosen balances earliestS earliestV balanced alpha
     beta withChecks interleaved encoded body received nearCode restored isBalanced hasChecks nearComponents hasComponents codeword carried
-    mends changedAt sentAt nearReading reading profile decodeAnswer
+    mends changedAt sentAt nearReading reading receivedReading profile decodeAnswer
 starred-hold =
     ((refl, refl, refl, refl), (refl, (refl, (refl, (refl, (refl, ((refl, refl, refl), (refl, (refl, (refl, (refl, tt)))))))))))
+
+pub erased-hold : AllHold erased
+unfolding minus balancingValue delta syndrome inCode isCheck message alpha beta body received nearCode restored isBalanced hasChecks
+    nearComponents hasComponents codeword carried filling firstFilling filledReading receivedReading profile decodeAnswer
+erased-hold = (refl, (refl, (refl, (refl, (refl, (refl, (refl, (refl, (refl, (refl, tt))))))))))

@@ -9,8 +9,10 @@ use Rattle.code_theory.proofs.Restored.{one-pair}
 use Rattle.code_theory.proofs.Parity.{parity-sums, checks-balanced}
 use Rattle.code_theory.proofs.Apart.{apart-by-units, differences-invertible, apart}
 use Rattle.code_theory.proofs.Reading.{near-is-one, reading-is, reading-corrects}
+use Rattle.code_theory.proofs.Whole.{received-symbols, whole-reading}
+use Rattle.code_theory.proofs.Erased.{erasures-filled, erased-by-filling}
 use Rattle.code_theory.proofs.Profiles.{profiles-fit}
-use Rattle.code_theory.proofs.Cases.{starred-hold}
+use Rattle.code_theory.proofs.Cases.{starred-hold, erased-hold}
 
 pub claims : Claims
 claims =
@@ -29,6 +31,11 @@ claims =
       near-is-one = near-is-one;
       reading-is = reading-is;
       reading-corrects = reading-corrects;
+      received-symbols = received-symbols;
+      erasures-filled = erasures-filled;
+      whole-reading = whole-reading;
+      erased-by-filling = erased-by-filling;
       profiles-fit = profiles-fit;
       starred-hold = starred-hold;
+      erased-hold = erased-hold;
     }

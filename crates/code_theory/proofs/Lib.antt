@@ -23,6 +23,10 @@ pub mod Parity
 pub mod Apart
 pub mod Found
 pub mod Reading
+-- Words with erased symbols
+pub mod Whole
+pub mod Filling
+pub mod Erased
 -- The pair that a codeword carries
 pub mod Restored
 pub mod Delta

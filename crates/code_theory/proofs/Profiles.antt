@@ -12,6 +12,7 @@ use Rattle.modular_theory.specs.Search.{allBelow}
 use Rattle.modular_theory.specs.Residue.{Prime}
 use Rattle.modular_theory.proofs.Search.{and-intro, and-left, and-right, and-parts, or-cases, le-or-lt, all-at}
 use Rattle.code_theory.specs.Parameters.{Parameters, Sized, balancingValue, delta}
+use Rattle.code_theory.specs.Component.{erasure}
 use Rattle.code_theory.specs.Profiles.{row, profiles, isProfile, profile, derivedRow}
 use Rattle.code_theory.specs.Claims.{ProfilesFit}
 
@@ -86,3 +87,11 @@ profiles-fit = (row-fits, refl)
         let s : Bool = isSized (profile i) in
         let p : Bool = isPrime (profile i .q) in
         (sized (profile i) (and-left s p f), prime (profile i .q) (and-right s p f))
+
+-- no profile has so many levels that an erasure is one
+pub few-levels : (i : ℕ) → T (isProfile i) → profile i .q ≤ erasure
+unfolding profile
+few-levels i h = leb→le (profile i .q) erasure (every-profile (λ i. leb (profile i .q) erasure) few i h)
+  where
+    few : T (allBelow (λ j. leb (profile (suc j) .q) erasure) (length profiles))
+    few = tt

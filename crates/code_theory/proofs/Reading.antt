@@ -28,7 +28,7 @@ use Rattle.code_theory.proofs.Found.{found-clean, found-differing, foun
 use Rattle.code_theory.proofs.Conditions.{conditions}
 use Rattle.code_theory.proofs.Apart.{apart}
 
-never : {f : Finding} {a b : List ℕ} → read f a b ≡ unreadable → ⊥
+pub never : {f : Finding} {a b : List ℕ} → read f a b ≡ unreadable → ⊥
 never e = let z : _≡_ {A = ℕ} 0 1 = cc in omega arith
 
 -- the reading by its two tests

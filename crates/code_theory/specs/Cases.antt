@@ -1,4 +1,4 @@
--- The starred cases of document 01 ("Checked by hand"), a row each.
+-- The starred cases of document 01 ("Checked by hand"), and words with erased symbols (02, T-01), a row each.
 -- Assumes nothing.
 use mathlib.Core.Path.{_≡_}
 use mathlib.Core.List.{List, [], _∷_, _++_}
@@ -9,7 +9,7 @@ use Rattle.code_theory.specs.Parameters.{Parameters, messageLength}
 use Rattle.code_theory.specs.Component.{component}
 use Rattle.code_theory.specs.Balance.{earliestS, earliestV, balanced}
 use Rattle.code_theory.specs.Codeword.{interleaved, encoded}
-use Rattle.code_theory.specs.Reading.{Reading, read, corrected, reading}
+use Rattle.code_theory.specs.Reading.{Change, change, corrected, filled, Reading, read, unreadable, receivedReading}
 use Rattle.code_theory.specs.Profiles.{row, profile}
 use Rattle.code_theory.specs.Operations.{decodeAnswer, report, reportNumber}
 
@@ -40,7 +40,7 @@ Holds (choosing i a b s v u) =
     × (earliestV (profile i) (interleaved (profile i) a b) ≡ v)
     × (encoded (profile i) a b ≡ u)
 Holds (checking i a c) = component (profile i) a ≡ c
-Holds (decoding i u d) = reading (profile i) u ≡ d
+Holds (decoding i u d) = receivedReading (profile i) u ≡ d
 Holds (refusing i u n) = reportNumber (report (decodeAnswer i u (messageLength (profile i)) (messageLength (profile i)))) ≡ n
 
 abbrev pub AllHold : List Case → Type 0
@@ -67,4 +67,32 @@ starred =
     ∷ decoding 1 (replicate 17 1 ++ (0 ∷ 1 ∷ [])) (read (corrected (record { position = 19; symbol = 2 })) (zeros 5) (zeros 5))
     ∷ refusing 1 (replicate 17 1 ++ (1 ∷ 1 ∷ [])) 4
     ∷ refusing 1 (2 ∷ 2 ∷ replicate 15 1 ++ (0 ∷ 2 ∷ [])) 4
+    ∷ []
+
+-- u with the symbol at index i erased
+abbrev pub erase : List ℕ → ℕ → List ℕ
+erase u i = set u i 255
+
+-- what `shown` is read as once these are filled
+abbrev pub shownFilled : List Change → Reading
+shownFilled cs = read (filled cs) (0 ∷ 0 ∷ 0 ∷ 0 ∷ 1 ∷ []) (zeros 5)
+
+abbrev pub erased : List Case
+erased =
+    -- one: in w, and as a check symbol
+    decoding 1 (erase shown 5) (shownFilled (change 6 1 ∷ []))
+    ∷ decoding 1 (erase shown 17) (shownFilled (change 18 2 ∷ []))
+    -- two: of unlike parity, of like parity, w's last and α, α and β
+    ∷ decoding 1 (erase (erase shown 0) 1) (shownFilled (change 1 1 ∷ change 2 2 ∷ []))
+    ∷ decoding 1 (erase (erase shown 0) 2) (shownFilled (change 1 1 ∷ change 3 0 ∷ []))
+    ∷ decoding 1 (erase (erase shown 16) 17) (shownFilled (change 17 2 ∷ change 18 2 ∷ []))
+    ∷ decoding 1 (erase (erase shown 17) 18) (shownFilled (change 18 2 ∷ change 19 0 ∷ []))
+    -- one, and a symbol changed that is not erased
+    ∷ decoding 1 (erase (set shown 5 2) 3) unreadable
+    -- two of like parity, far apart, in the zero pair's word of profile 4
+    ∷ decoding 4 (erase (erase (replicate 97 3 ++ (2 ∷ 4 ∷ [])) 0) 96)
+    (read (filled (change 1 3 ∷ change 97 3 ∷ [])) (zeros 45) (zeros 45))
+    -- three, and three beside a symbol that is no level
+    ∷ refusing 1 (erase (erase (erase shown 0) 1) 2) 11
+    ∷ refusing 1 (erase (erase (erase (set shown 3 3) 0) 1) 2) 3
     ∷ []

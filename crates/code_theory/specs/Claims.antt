@@ -10,12 +10,14 @@ use lib.ListN.{length, getD, set}
 use Rattle.modular_theory.specs.Sum.{weight}
 use Rattle.modular_theory.specs.Residue.{Invertible, Prime, minus}
 use Rattle.code_theory.specs.Parameters.{Parameters, Sized, messageLength, balancedLength, codewordLength, balancingValue, delta}
-use Rattle.code_theory.specs.Component.{isWord, inCode, message, component}
+use Rattle.code_theory.specs.Component.{isWord, erasure, isReceived, inCode, message, component}
 use Rattle.code_theory.specs.Balance.{chosen, earliestS, earliestV, balanced}
 use Rattle.code_theory.specs.Codeword.{alternate, withChecks, interleaved, encoded, received, lowered, codeword, carried}
-use Rattle.code_theory.specs.Reading.{distance, clean, corrected, findingOf, unreadable, readAs, reading}
+use Rattle.code_theory.specs.Erasures.{erasures, Agrees}
+use Rattle.code_theory.specs.Reading.{distance, change, clean, corrected, filled, findingOf, unreadable, readAs, reading}
+use Rattle.code_theory.specs.Reading.{changesAt, filledReading, receivedReading}
 use Rattle.code_theory.specs.Profiles.{isProfile, profile, table, derivedRow}
-use Rattle.code_theory.specs.Cases.{AllHold, starred}
+use Rattle.code_theory.specs.Cases.{AllHold, starred, erased}
 
 -- Why a balance can always be found.
 
@@ -170,6 +172,49 @@ pub record Corrects (p : Parameters) : Type 0 where
 abbrev pub ReadingCorrects : Type 0
 ReadingCorrects = (p : Parameters) → Sized p → Prime (p .q) → Corrects p
 
+-- Why erased symbols can be filled in one way at most (02, T-01).
+
+-- 02: a received symbol is a level or 255, and no other
+abbrev pub ReceivedSymbols : Type 0
+ReceivedSymbols =
+    (p : Parameters) (v : List ℕ)
+    → T (isReceived p v) ↔ ((i : ℕ) → i < length v → (getD v i 0 < p .q) ⊎ (getD v i 0 ≡ 255))
+
+-- codewords that differ in at most k positions are equal, as `Apart` says of 2 where q is prime
+abbrev pub Separated : Parameters → ℕ → Type 0
+Separated p k = (u v : List ℕ) → T (codeword p u) → T (codeword p v) → distance u v ≤ k → u ≡ v
+
+-- 02's rule for marks, where up to k are read
+pub record Fills (p : Parameters) (k : ℕ) : Type 0 where
+  -- a word is read as a codeword that agrees with it at every position that is not erased
+  pub reads : (v u : List ℕ) → erasures v ≤ k → T (codeword p u) → Agrees v u
+      → filledReading p v ≡ readAs p (filled (changesAt 1 v u)) u
+  -- that codeword is the only one
+  pub only : (v u u′ : List ℕ) → erasures v ≤ k → T (codeword p u) → T (codeword p u′) → Agrees v u → Agrees v u′ → u ≡ u′
+  -- a word is refused exactly when there is none
+  pub refused : (v : List ℕ) → (filledReading p v ≡ unreadable) ↔ ((u : List ℕ) → T (codeword p u) → Agrees v u → ⊥)
+  -- so a codeword with any one symbol erased is read as its pair, with the position and the symbol sent
+  pub one : 1 ≤ k → (u : List ℕ) → T (codeword p u) → (i : ℕ) → i < codewordLength p
+      → (erasures (set u i erasure) ≡ 1)
+      × (filledReading p (set u i erasure) ≡ readAs p (filled (change (i + 1) (getD u i 0) ∷ [])) u)
+  -- and so it is with any two, in rising order
+  pub two : 2 ≤ k → (u : List ℕ) → T (codeword p u) → (i j : ℕ) → i < j → j < codewordLength p
+      → (erasures (set (set u i erasure) j erasure) ≡ 2)
+      × (filledReading p (set (set u i erasure) j erasure)
+      ≡ readAs p (filled (change (i + 1) (getD u i 0) ∷ change (j + 1) (getD u j 0) ∷ [])) u)
+
+-- prime or not
+abbrev pub ErasuresFilled : Type 0
+ErasuresFilled = (p : Parameters) → Sized p → p .q ≤ erasure → (k : ℕ) → Separated p k → Fills p k
+
+-- a word without erasures is read as 01 says
+abbrev pub WholeReading : Type 0
+WholeReading = (p : Parameters) (v : List ℕ) → erasures v ≡ 0 → receivedReading p v ≡ reading p v
+
+-- and every other by that rule
+abbrev pub ErasedByFilling : Type 0
+ErasedByFilling = (p : Parameters) (v : List ℕ) → 1 ≤ erasures v → receivedReading p v ≡ filledReading p v
+
 -- The four profiles are sized and prime, and their columns are those of 01's table.
 abbrev pub ProfilesFit : Type 0
 ProfilesFit =
@@ -178,6 +223,10 @@ ProfilesFit =
 -- Document 01's starred cases.
 abbrev pub StarredHold : Type 0
 StarredHold = AllHold starred
+
+-- Words with erasures.
+abbrev pub ErasedHold : Type 0
+ErasedHold = AllHold erased
 
 pub record Claims : Type 0 where
   pub balance-exists : BalanceExists
@@ -194,5 +243,10 @@ pub record Claims : Type 0 where
   pub near-is-one : NearIsOne
   pub reading-is : ReadingIs
   pub reading-corrects : ReadingCorrects
+  pub received-symbols : ReceivedSymbols
+  pub erasures-filled : ErasuresFilled
+  pub whole-reading : WholeReading
+  pub erased-by-filling : ErasedByFilling
   pub profiles-fit : ProfilesFit
   pub starred-hold : StarredHold
+  pub erased-hold : ErasedHold

@@ -23,9 +23,18 @@ Below q c = (i : ℕ) → getD c i 0 < q
 abbrev pub isWord : ℕ → ℕ → List ℕ → Bool
 isWord q n c = eqb (length c) n && symbolsBelow q c
 
--- the symbols of a received word: each is one of the profile's levels, and any word of them may arrive
+-- 02: the mark, which the level detector hands over for a symbol that falls between two levels
+abbrev pub erasure : ℕ
+erasure = 255
+
+-- every symbol is below q or an erasure
+abbrev pub levelsOrErasures : ℕ → List ℕ → Bool
+levelsOrErasures q [] = true
+levelsOrErasures q (x ∷ xs) = (ltb x q || eqb x erasure) && levelsOrErasures q xs
+
+-- the symbols of a received word: each is one of the profile's levels or an erasure, and any word of them may arrive
 abbrev pub isReceived : Parameters → List ℕ → Bool
-isReceived p u = symbolsBelow (p .q) u
+isReceived p u = levelsOrErasures (p .q) u
 
 -- 01: column i, the r - 1 digits of i in base q and a 1 as the last row
 abbrev pub column : Parameters → ℕ → List ℕ

@@ -3,6 +3,7 @@ pub mod Refusal
 pub mod Component
 pub mod Balance
 pub mod Codeword
+pub mod Erasures
 pub mod Reading
 pub mod Profiles
 pub mod Operations

@@ -4,13 +4,14 @@
 use mathlib.Core.Bool.{Bool, true, false, _&&_}
 use mathlib.Core.List.{List, [], _∷_}
 use Prim.Native.Nat.{ℕ, zero, suc}
-use lib.Dec.{eqb}
+use lib.Dec.{eqb, leb}
 use lib.ListN.{length}
 use Rattle.code_theory.specs.Refusal.{Test, asks, firstRefusal, onSuccess}
 use Rattle.code_theory.specs.Parameters.{Parameters, messageLength, codewordLength}
 use Rattle.code_theory.specs.Component.{symbolsBelow, isReceived}
 use Rattle.code_theory.specs.Codeword.{encoded}
-use Rattle.code_theory.specs.Reading.{Finding, Reading, read, unreadable, reading}
+use Rattle.code_theory.specs.Erasures.{erasures, mostErasures}
+use Rattle.code_theory.specs.Reading.{Finding, Reading, read, unreadable, receivedReading}
 use Rattle.code_theory.specs.Profiles.{isProfile, profile}
 
 -- 01: Write, what is tested, in this order: profile i, messages a and b, an output of l symbols
@@ -45,7 +46,7 @@ abbrev pub outcomeNumber : Outcome → ℕ
 outcomeNumber done = 0
 outcomeNumber (refusedBy k) = k
 
--- 01: Read, refused by one of the numbers 1 to 3, or a reading
+-- 01: Read, refused by one of the numbers 1 to 3 and 02's 11, or a reading
 pub data Answer : Type 0 where
   refused : ℕ → Answer
   answered : Reading → Answer
@@ -57,6 +58,7 @@ decodeTests i u k l =
     asks (isProfile i) 1
     ∷ asks (eqb (length u) (codewordLength p) && eqb k (messageLength p) && eqb l (messageLength p)) 2
     ∷ asks (isReceived p u) 3
+    ∷ asks (leb (erasures u) (mostErasures p)) 11
     ∷ []
 
 -- a reading, unless a number refuses
@@ -65,9 +67,9 @@ readUnless zero d = answered d
 readUnless (suc n) d = refused (suc n)
 
 unfoldable pub decodeAnswer : ℕ → List ℕ → ℕ → ℕ → Answer
-decodeAnswer i u k l = readUnless (firstRefusal (decodeTests i u k l)) (reading (profile i) u)
+decodeAnswer i u k l = readUnless (firstRefusal (decodeTests i u k l)) (receivedReading (profile i) u)
 
--- what is answered beside the outputs: the number of a refusal by 1 to 3, that no codeword is near, or what was found
+-- what is answered beside the outputs: the number of a refusal by 1 to 3 or 11, that no codeword was found, or what was
 pub data Report : Type 0 where
   refusal : ℕ → Report
   failure : Report
@@ -78,7 +80,7 @@ report (refused k) = refusal k
 report (answered unreadable) = failure
 report (answered (read f a b)) = success f
 
--- 01: the number of a refusal, 4 where no codeword is near; 0 where the word is read
+-- the number of a refusal, 01's 4 where no codeword was found; 0 where the word is read
 abbrev pub reportNumber : Report → ℕ
 reportNumber (refusal k) = k
 reportNumber failure = 4

@@ -1,13 +1,15 @@
--- Reading a received word (01: Reading), by the lawful words near it.
+-- Reading a received word: by the lawful words near it (01: Reading) or, where symbols are erased, by those that agree with it (02, T-01).
 -- Assumes nothing.
 use mathlib.Core.Bool.{Bool, true, false, not}
 use mathlib.Core.List.{List, [], _∷_}
-use Prim.Native.Nat.{ℕ, suc, _+_}
+use Prim.Native.Nat.{ℕ, suc, _+_, _^_}
 use lib.Dec.{eqb, ltb}
-use lib.ListN.{length, getD, set}
+use lib.ListN.{length, getD, drop, set}
 use Rattle.modular_theory.specs.Search.{least, anyBelow}
 use Rattle.code_theory.specs.Parameters.{Parameters}
+use Rattle.code_theory.specs.Component.{erasure}
 use Rattle.code_theory.specs.Codeword.{codeword, carried}
+use Rattle.code_theory.specs.Erasures.{erasures, filling, firstFilling}
 
 -- the places in which two words differ, the longer word's tail among them
 abbrev pub distance : List ℕ → List ℕ → ℕ
@@ -24,15 +26,25 @@ pub record Correction : Type 0 where
 abbrev pub correctionAt : ℕ → ℕ → ℕ → Correction
 correctionAt i x y = record { position = i + 1; symbol = y }
 
--- 01: kind, clean or mended, with what is said of the change
+-- what is said of a position (01: place), from 1, that arrived otherwise than sent: the symbol sent there
+pub record Change : Type 0 where
+  pub position : ℕ
+  pub symbol : ℕ
+
+abbrev pub change : ℕ → ℕ → Change
+change i y = record { position = i; symbol = y }
+
+-- 01: kind, clean or mended, with what is said of the change; 02: filled, with the erased positions in rising order
 pub data Finding : Type 0 where
   clean : Finding
   corrected : Correction → Finding
+  filled : List Change → Finding
 
--- 01: the place and the symbol sent there, 0 if clean
-abbrev pub correction : Finding → Correction
-correction clean = record { position = 0; symbol = 0 }
-correction (corrected c) = c
+-- the positions of a finding and the symbols sent there; 01: both 0 if clean
+abbrev pub changesOf : Finding → List Change
+changesOf clean = change 0 0 ∷ []
+changesOf (corrected c) = change (c .position) (c .symbol) ∷ []
+changesOf (filled cs) = cs
 
 -- the first index at which two words differ; the length of v where there is none
 unfoldable pub differsAt : List ℕ → List ℕ → ℕ
@@ -46,7 +58,7 @@ findingOf v u =
       | false ↦ clean
     ]
 
--- 01: the answer to a word that numbers 1 to 3 let through: what was found, and the pair; or 4
+-- 01: the answer to a word that numbers 1 to 3 and 11 let through: what was found, and the pair; or 4
 pub data Reading : Type 0 where
   read : Finding → List ℕ → List ℕ → Reading
   unreadable : Reading
@@ -81,3 +93,25 @@ nearReading p u =
 -- 01: Reading
 unfoldable pub reading : Parameters → List ℕ → Reading
 reading p u = elim (codeword p u) [ true ↦ readAs p clean u | false ↦ nearReading p u ]
+
+-- the erased positions of v, whose first symbol is at position i, with the symbols of u there
+abbrev pub changesAt : ℕ → List ℕ → List ℕ → List Change
+changesAt i [] u = []
+changesAt i (x ∷ xs) u =
+    elim (eqb x erasure) [
+      | true ↦ change i (getD u 0 0) ∷ changesAt (suc i) xs (drop 1 u)
+      | false ↦ changesAt (suc i) xs (drop 1 u)
+    ]
+
+-- the answer that gives the pair of u, a codeword that agrees with v
+abbrev pub filledAs : Parameters → List ℕ → List ℕ → Reading
+filledAs p v u = readAs p (filled (changesAt 1 v u)) u
+
+-- 02: the answer to a word with marks: by the first filling that is a codeword, and no other symbol is changed
+unfoldable pub filledReading : Parameters → List ℕ → Reading
+filledReading p v =
+    elim (ltb (firstFilling p v) (p .q ^ erasures v)) [ true ↦ filledAs p v (filling p v (firstFilling p v)) | false ↦ unreadable ]
+
+-- the answer to a received word: 01's, and 02's where a symbol is erased
+unfoldable pub receivedReading : Parameters → List ℕ → Reading
+receivedReading p v = elim (eqb (erasures v) 0) [ true ↦ reading p v | false ↦ filledReading p v ]

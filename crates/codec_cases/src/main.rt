@@ -1,16 +1,18 @@
 // Runs encode and decode on stored cases (tests/README.md: pairs, words). Pairs come on standard input, a line
 // `profile first second length` each, and the answer is the word. Words are in the file `words`, a line
-// `profile word first_length second_length` each, and the answer is `C 0 0 first second` or `M place symbol first second`. A refusal is
-// `R number`.
+// `profile word first_length second_length` each, and the answer is `C 0 0 first second`, `M place symbol first second`, or
+// `F place symbol first second` with a place and a symbol for each mark. In a word and in a message `?` is a mark. A refusal is `R number`.
 mod print;
 mod text;
 
+use decoder::Changes;
 use decoder::Decoded;
 use encoder::Encoded;
 use libc::STDIN_FILENO;
 use libc::STDOUT_FILENO;
 use print::FILL;
 use print::is_untouched;
+use print::print_change;
 use print::print_refusal;
 use print::print_word;
 use text::field;
@@ -40,10 +42,19 @@ fn print_pair(first: &[u8], second: &[u8]) {
 }
 
 fn print_corrected(position: usize, symbol: u8) {
-    io::write_all(STDOUT_FILENO, b"M ");
-    io::print_decimal(STDOUT_FILENO, position as u64);
-    io::write_all(STDOUT_FILENO, b" ");
-    io::print_decimal(STDOUT_FILENO, symbol as u64);
+    io::write_all(STDOUT_FILENO, b"M");
+    print_change(position, symbol);
+}
+
+fn print_filled(changes: Changes) {
+    io::write_all(STDOUT_FILENO, b"F");
+    match changes {
+        Changes::One(c) => print_change(c.position, c.symbol),
+        Changes::Two(c, d) => {
+            print_change(c.position, c.symbol);
+            print_change(d.position, d.symbol);
+        }
+    }
 }
 
 fn print_unread(number: u8, first: &[u8], second: &[u8]) {
@@ -60,6 +71,10 @@ fn decode_and_print(profile: usize, word: &[u8], first: &mut [u8], second: &mut 
         }
         Decoded::Corrected(c) => {
             print_corrected(c.position, c.symbol);
+            print_pair(first, second);
+        }
+        Decoded::Filled(changes) => {
+            print_filled(changes);
             print_pair(first, second);
         }
         Decoded::Unreadable => print_unread(4, first, second),
@@ -107,8 +122,9 @@ fn answer_all(input: &[u8], is_words: bool) {
     }
 }
 
+// Answers a file of at most 2 MB; what is longer is cut off.
 fn run(fd: i32, is_words: bool) {
-    let mut input = [0u8; 393216];
+    let mut input = [0u8; 2097152];
     let n = io::read_full(fd, &mut input);
     answer_all(&input[..n], is_words);
 }

@@ -29,10 +29,19 @@ pub(crate) fn is_untouched(s: &[u8]) -> bool {
     true
 }
 
+// A changed position and the symbol sent there, each after a space.
+pub(crate) fn print_change(position: usize, symbol: u8) {
+    io::write_all(STDOUT_FILENO, b" ");
+    io::print_decimal(STDOUT_FILENO, position as u64);
+    io::write_all(STDOUT_FILENO, b" ");
+    io::print_decimal(STDOUT_FILENO, symbol as u64);
+}
+
 // A refusal that changed a byte of an output begins with X.
 pub(crate) fn print_refusal(number: u8, is_kept: bool) {
-    let mark = if is_kept { b'R' } else { b'X' };
-    let digit = if number < 10 { b'0' + number } else { b'?' };
-    let text = [mark, b' ', digit, b'\n'];
+    let letter = if is_kept { b'R' } else { b'X' };
+    let text = [letter, b' '];
     io::write_all(STDOUT_FILENO, &text);
+    io::print_decimal(STDOUT_FILENO, number as u64);
+    io::write_all(STDOUT_FILENO, b"\n");
 }

@@ -65,7 +65,14 @@ pub(crate) fn parse_number(s: &[u8]) -> usize {
     value
 }
 
-// The digits of a word, and how many there are; `-` is none.
+// What a byte stands for in a word: `?` is 02's mark, 255.
+fn symbol_of(b: u8) -> u8
+    requires { ⌜ 48 ≤ b ⌝ }
+{
+    if b == b'?' { 255 } else { b - b'0' }
+}
+
+// The symbols of a word, and how many there are; `-` is none.
 pub(crate) fn parse_symbols(s: &[u8], out: &mut [u8]) -> usize {
     let mut n = 0;
     let mut i = 0;
@@ -73,7 +80,7 @@ pub(crate) fn parse_symbols(s: &[u8], out: &mut [u8]) -> usize {
         let b = s[i];
         if b >= b'0' {
             if n < out.len() {
-                out[n] = b - b'0';
+                out[n] = symbol_of(b);
                 n += 1;
             }
         }

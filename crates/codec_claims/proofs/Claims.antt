@@ -2,7 +2,8 @@
 -- Assumes nothing.
 use Rattle.codec_claims.specs.Claims.{Claims}
 use Rattle.codec_claims.proofs.Encoding.{encode-writes, encode-refuses}
-use Rattle.codec_claims.proofs.Decoding.{decode-corrects-at, four-only, decode-refuses}
+use Rattle.codec_claims.proofs.Decoding.{decode-corrects-at, four-only, many-erasures, decode-refuses}
+use Rattle.codec_claims.proofs.Filling.{decode-fills-at}
 use Rattle.codec_claims.proofs.RoundTrip.{round-trip}
 
 pub claims : Claims
@@ -12,6 +13,8 @@ claims =
       encode-refuses = encode-refuses;
       decode-corrects = decode-corrects-at;
       four-only = four-only;
+      decode-fills = decode-fills-at;
+      many-erasures = many-erasures;
       decode-refuses = decode-refuses;
       round-trip = round-trip;
     }

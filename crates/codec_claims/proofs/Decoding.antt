@@ -1,36 +1,39 @@
--- Demand 3 of decode: the contract says of a word that numbers 1 to 3 let through what its reading is, and demand 3 holds of the reading.
+-- Demand 3 of decode: the contract says of a word that numbers 1 to 3 and 11 let through what its reading is, and demand 3 holds of the
+-- reading of a word of levels, which has no erasures.
 -- Assumes nothing.
 use mathlib.Core.Path.{_≡_, refl, sym, ap, subst, _∙_}
 use mathlib.Core.Logic.{_≢_}
-use mathlib.Core.Bool.{Bool, true, false, _&&_}
+use mathlib.Core.Bool.{Bool, true, false}
 use mathlib.Core.List.{List, [], _∷_}
-use Prim.Native.Nat.{ℕ, zero, suc, _≤_, _<_}
+use Prim.Native.Nat.{ℕ, zero, suc, _≤_}
 use native.Mathlib.Omega.{arith}
-use lib.Dec.{T, eqb}
+use lib.Dec.{T, eqb, leb, le→leb, leb→le}
 use lib.ListN.{length, set}
+use borrow.Author.Tests.{leb-false, lt-leb}
 use Rattle.modular_theory.proofs.Search.{eq-test, and-right}
 use Rattle.code_theory.specs.Parameters.{Sized, messageLength, codewordLength}
-use Rattle.code_theory.specs.Component.{symbolsBelow, isWord}
-use Rattle.code_theory.specs.Codeword.{codeword}
-use Rattle.code_theory.specs.Reading.{Finding, Reading, read, unreadable, readAs, reading}
+use Rattle.code_theory.specs.Component.{symbolsBelow, isWord, isReceived, erasure}
+use Rattle.code_theory.specs.Erasures.{erasures}
+use Rattle.code_theory.specs.Reading.{Finding, Reading, read, unreadable, readAs, reading, receivedReading}
 use Rattle.code_theory.specs.Profiles.{isProfile, profile}
 use Rattle.code_theory.specs.Claims as Reads
 use Rattle.code_theory.specs.Refusal.{Test, asks, firstRefusal}
 use Rattle.code_theory.specs.Operations.{Answer, refused, answered, readUnless, decodeTests, decodeAnswer}
 use Rattle.code_theory.specs.Operations.{report, reportNumber, success, decodeOutput}
-use Rattle.code_theory.proofs.Merge.{word-length, word-of}
-use Rattle.code_theory.proofs.Profiles.{profiles-fit}
+use Rattle.code_theory.proofs.Merge.{word-length}
+use Rattle.code_theory.proofs.Profiles.{profiles-fit, few-levels}
+use Rattle.code_theory.proofs.Whole.{none-erased, levels-received, whole-reading}
 use Rattle.code_theory.proofs.Reading.{codeword-word, changed-word, reading-corrects}
-use Rattle.code_theory.proofs.Refusal.{AllPass, absent, passed-every, never-refuses, past, stops}
+use Rattle.code_theory.proofs.Refusal.{AllPass, absent, passed, passed-every, never-refuses, past, stops, failed}
 use Rattle.profiles.proofs.Refusing.{three-lengths}
 use Rattle.decoding_theory.proofs.Tests.{and-three}
 use Rattle.decoder.specs.declared.word.Decoded.{Decoded}
 use Rattle.decoder.specs.Decode.{decodedReport, Answers}
 use Rattle.codec_claims.specs.Decoding.{decodeLengthsFit, decodedNumber, Allowed, Carried}
-use Rattle.codec_claims.specs.Decoding.{DecodesAsSent, OnlyLetThrough, DecodeRefuses}
+use Rattle.codec_claims.specs.Decoding.{DecodesAsSent, LetThrough, OnlyLetThrough, ManyErasures, DecodeRefuses}
 
 -- a number of 4 is that of no reading
-none-read : (d : Reading) → reportNumber (report (answered d)) ≡ 4 → d ≡ unreadable
+pub none-read : (d : Reading) → reportNumber (report (answered d)) ≡ 4 → d ≡ unreadable
 none-read unreadable e = refl
 none-read (read f a b) e = absurd (omega arith)
 
@@ -42,26 +45,40 @@ module _ (i : ℕ) (t : T (isProfile i)) where
   sized = profiles-fit .0 i t .0
 
   -- the contract speaks of the reading
-  let-through : (v : List ℕ) → T (isWord (profile i .q) (codewordLength (profile i)) v) → {r : Decoded} {first second : List ℕ}
-      → (a : Allowed i v r first second) → Answers (answered (reading (profile i) v)) r (a .before-first) first (a .before-second) second
+  pub admitted : (v : List ℕ) → length v ≡ codewordLength (profile i) → T (isReceived (profile i) v) → erasures v ≤ 2
+      → {r : Decoded} {first second : List ℕ} → (a : Allowed i v r first second)
+      → Answers (answered (receivedReading (profile i) v)) r (a .before-first) first (a .before-second) second
   unfolding decodeAnswer
-  let-through v w {r} {first} {second} a =
+  admitted v word symbols few {r} {first} {second} a =
       let k : ℕ = length (a .before-first) in
       let l : ℕ = length (a .before-second) in
       let long : T (decodeLengthsFit i v k l) =
       and-three (eqb (length v) (codewordLength (profile i))) (eqb k (messageLength (profile i))) (eqb l (messageLength (profile i)))
-      (eq-test (word-length (profile i .q) (codewordLength (profile i)) v w)) (eq-test (a .first-long)) (eq-test (a .second-long)) in
-      let below : T (symbolsBelow (profile i .q) v) =
-      and-right (eqb (length v) (codewordLength (profile i))) (symbolsBelow (profile i .q) v) w in
-      let none : firstRefusal (decodeTests i v k l) ≡ 0 = past (decodeTests i v k l) [] (t, (long, (below, tt))) in
-      subst (λ (n : ℕ). Answers (readUnless n (reading (profile i) v)) r (a .before-first) first (a .before-second) second) none
+      (eq-test word) (eq-test (a .first-long)) (eq-test (a .second-long)) in
+      let none : firstRefusal (decodeTests i v k l) ≡ 0 =
+      past (decodeTests i v k l) [] (t, (long, (symbols, (le→leb (erasures v) 2 few, tt)))) in
+      subst (λ (n : ℕ). Answers (readUnless n (receivedReading (profile i) v)) r (a .before-first) first (a .before-second) second) none
       (a .allowed)
 
+  pub small : profile i .q ≤ erasure
+  small = few-levels i t
+
+  -- and of a word of levels of 01's
+  let-through : (v : List ℕ) → T (isWord (profile i .q) (codewordLength (profile i)) v) → {r : Decoded} {first second : List ℕ}
+      → (a : Allowed i v r first second) → Answers (answered (reading (profile i) v)) r (a .before-first) first (a .before-second) second
+  let-through v w {r} {first} {second} a =
+      let below : T (symbolsBelow (profile i .q) v) =
+      and-right (eqb (length v) (codewordLength (profile i))) (symbolsBelow (profile i .q) v) w in
+      let none : erasures v ≡ 0 = none-erased (profile i .q) small v below in
+      subst (λ (d : Reading). Answers (answered d) r (a .before-first) first (a .before-second) second)
+      (whole-reading (profile i) v none)
+      (admitted v (word-length (profile i .q) (codewordLength (profile i)) v w) (levels-received (profile i .q) v below) (omega arith) a)
+
   -- where the reading gives the pair of u, so does the answer
-  answered-by : (v u : List ℕ) {f : Finding} {r : Decoded} {bf first bs second : List ℕ}
-      → reading (profile i) v ≡ readAs (profile i) f u → Answers (answered (reading (profile i) v)) r bf first bs second
+  pub answered-by : (u : List ℕ) {d : Reading} {f : Finding} {r : Decoded} {bf first bs second : List ℕ}
+      → d ≡ readAs (profile i) f u → Answers (answered d) r bf first bs second
       → (decodedReport r ≡ success f) × Carried i u first second
-  answered-by v u {f} {r} {bf} {first} {bs} {second} e a =
+  answered-by u {d} {f} {r} {bf} {first} {bs} {second} e a =
       let h : Answers (answered (readAs (profile i) f u)) r bf first bs second = rw e at a in
       (h .answer, record { first-is = h .first-out; second-is = h .second-out })
 
@@ -71,11 +88,11 @@ module _ (i : ℕ) (t : T (isProfile i)) where
         unchanged =
             λ u c r first second a.
             let word = codeword-word (profile i) sized u c in
-            answered-by u u (corrects .unchanged u c) (let-through u word a);
+            answered-by u (corrects .unchanged u c) (let-through u word a);
         changed =
             λ u c j y l h n r first second a.
             let word = changed-word (profile i) sized u c j y h in
-            answered-by (set u j y) u (corrects .changed u c j y l h n) (let-through (set u j y) word a);
+            answered-by u (corrects .changed u c j y l h n) (let-through (set u j y) word a);
         others = corrects .others;
         refused =
             λ v w r first second a.
@@ -105,32 +122,94 @@ outputs-kept (refused k) h b out = refl
 outputs-kept (answered unreadable) h b out = refl
 outputs-kept (answered (read f c d)) h b out = absurd (h refl)
 
+-- The tests of a call, and what they say where they pass.
+module _ (i : ℕ) (v : List ℕ) (k l : ℕ) where
+  abbrev profiled : Test
+  profiled = asks (isProfile i) 1
+
+  abbrev long : Test
+  long = asks (decodeLengthsFit i v k l) 2
+
+  abbrev symbols : Test
+  symbols = asks (isReceived (profile i) v) 3
+
+  abbrev few : Test
+  few = asks (leb (erasures v) 2) 11
+
+  passed-three : AllPass (profiled ∷ long ∷ symbols ∷ []) → LetThrough i v k l
+  passed-three (known, (fit, (received, _))) =
+      let (word, first, second) = three-lengths (length v) k l _ _ _ fit in
+      record { in-table = known; word-long = word; first-long = first; second-long = second; symbols = received }
+
+  let-three : LetThrough i v k l → AllPass (profiled ∷ long ∷ symbols ∷ [])
+  let-three t =
+      let fit : T (decodeLengthsFit i v k l) =
+      and-three (eqb (length v) (codewordLength (profile i))) (eqb k (messageLength (profile i))) (eqb l (messageLength (profile i)))
+      (eq-test (t .word-long)) (eq-test (t .first-long)) (eq-test (t .second-long)) in
+      (t .in-table, (fit, (t .symbols, tt)))
+
 pub four-only : OnlyLetThrough 4
 unfolding decodeAnswer
 four-only i v r first first′ second second′ h e =
     let tests : List Test = decodeTests i v (length first) (length second) in
-    let (known, (long, (below, _))) = four-read tests (reading (profile i) v) tt tt (ap reportNumber (sym (h .answer)) ∙ e) in
-    let (word, k, l) = three-lengths (length v) (length first) (length second) _ _ _ long in
-    record {
-      in-table = known;
-      word = word-of (profile i .q) (codewordLength (profile i)) v word below;
-      first-long = k;
-      second-long = l;
-    }
+    let (known, (fit, (received, (most, _)))) =
+    four-read tests (receivedReading (profile i) v) tt tt (ap reportNumber (sym (h .answer)) ∙ e) in
+    (passed-three i v (length first) (length second) (known, (fit, (received, tt))), leb→le (erasures v) 2 most)
+
+-- a number of 11 is that of no reading
+eleven-told : (n : ℕ) (d : Reading) → reportNumber (report (readUnless n d)) ≡ 11 → n ≡ 11
+eleven-told zero unreadable e = absurd (omega arith)
+eleven-told zero (read f a b) e = absurd (omega arith)
+eleven-told (suc n) d e = e
+
+pub many-erasures : ManyErasures
+unfolding decodeAnswer
+many-erasures i v r first first′ second second′ h = (to, from)
+  where
+    k : ℕ
+    k = length first
+
+    l : ℕ
+    l = length second
+
+    d : Reading
+    d = receivedReading (profile i) v
+
+    number : ℕ
+    number = firstRefusal (decodeTests i v k l)
+
+    told : decodedNumber r ≡ reportNumber (report (readUnless number d))
+    told = ap reportNumber (h .answer)
+
+    to : decodedNumber r ≡ 11 → LetThrough i v k l × (3 ≤ erasures v)
+    to e =
+        let is : number ≡ 11 = eleven-told number d (sym told ∙ e) in
+        let (three, last) = passed (profiled i v k l ∷ long i v k l ∷ symbols i v k l ∷ []) (few i v k l ∷ []) tt is in
+        let many : leb (erasures v) 2 ≡ false = failed (leb (erasures v) 2) 11 (λ z. omega arith) last in
+        (passed-three i v k l three, leb-false (erasures v) 2 many)
+
+    from : LetThrough i v k l × (3 ≤ erasures v) → decodedNumber r ≡ 11
+    from (t, many) =
+        told
+        ∙ number-told number d
+        (stops (profiled i v k l ∷ long i v k l ∷ symbols i v k l ∷ []) (few i v k l) [] (let-three i v k l t) (lt-leb (erasures v) 2 many))
 
 pub decode-refuses : DecodeRefuses
 unfolding decodeAnswer
 decode-refuses i v r first first′ second second′ h =
-    let profiled : Test = asks (isProfile i) 1 in
-    let long : Test = asks (decodeLengthsFit i v (length first) (length second)) 2 in
-    let levels : Test = asks (symbolsBelow (profile i .q) v) 3 in
-    let d : Reading = reading (profile i) v in
-    let number : ℕ = firstRefusal (decodeTests i v (length first) (length second)) in
+    let k : ℕ = length first in
+    let l : ℕ = length second in
+    let one : Test = profiled i v k l in
+    let two : Test = long i v k l in
+    let three : Test = symbols i v k l in
+    let more : Test = few i v k l in
+    let d : Reading = receivedReading (profile i) v in
+    let number : ℕ = firstRefusal (decodeTests i v k l) in
     let told : decodedNumber r ≡ reportNumber (report (readUnless number d)) = ap reportNumber (h .answer) in
     record {
-      by-1 = λ p. told ∙ number-told number d (stops [] profiled (long ∷ levels ∷ []) tt p);
-      by-2 = λ p e. told ∙ number-told number d (stops (profiled ∷ []) long (levels ∷ []) (p, tt) e);
-      by-3 = λ p e s. told ∙ number-told number d (stops (profiled ∷ long ∷ []) levels [] (p, (e, tt)) s);
+      by-1 = λ p. told ∙ number-told number d (stops [] one (two ∷ three ∷ more ∷ []) tt p);
+      by-2 = λ p e. told ∙ number-told number d (stops (one ∷ []) two (three ∷ more ∷ []) (p, tt) e);
+      by-3 = λ p e s. told ∙ number-told number d (stops (one ∷ two ∷ []) three (more ∷ []) (p, (e, tt)) s);
       keeps =
           λ n.
           let kept = outputs-kept (readUnless number d) (λ z. n (told ∙ z)) in

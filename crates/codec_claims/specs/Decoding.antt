@@ -8,8 +8,9 @@ use Prim.Native.Nat.{ℕ, _+_, _≤_, _<_}
 use lib.Dec.{T, eqb}
 use lib.ListN.{length, getD, set}
 use Rattle.code_theory.specs.Parameters.{messageLength, codewordLength}
-use Rattle.code_theory.specs.Component.{symbolsBelow, isWord}
+use Rattle.code_theory.specs.Component.{isWord, isReceived}
 use Rattle.code_theory.specs.Codeword.{codeword, carried}
+use Rattle.code_theory.specs.Erasures.{erasures}
 use Rattle.code_theory.specs.Reading.{distance, clean, corrected}
 use Rattle.code_theory.specs.Profiles.{isProfile, profile}
 use Rattle.code_theory.specs.Operations.{success, reportNumber}
@@ -46,7 +47,7 @@ pub record DecodesAsSent (i : ℕ) : Type 0 where
   -- every other codeword differs from what arrived in at least two positions
   pub others : (u v : List ℕ) → T (codeword (profile i) u) → T (codeword (profile i) v) → v ≢ u → (k y : ℕ) → k < codewordLength (profile i)
       → y < profile i .q → 2 ≤ distance v (set u k y)
-  -- a word that numbers 1 to 3 let through is refused by 4 exactly when every codeword does
+  -- a word of levels, that numbers 1 to 3 let through, is refused by 4 exactly when every codeword does
   pub refused : (v : List ℕ) → T (isWord (profile i .q) (codewordLength (profile i)) v) → (r : Decoded) (first second : List ℕ)
       → Allowed i v r first second → (decodedNumber r ≡ 4) ↔ ((u : List ℕ) → T (codeword (profile i) u) → 2 ≤ distance u v)
 
@@ -56,26 +57,33 @@ DecodeCorrects = (i : ℕ) → T (isProfile i) → DecodesAsSent i
 -- a call that numbers 1 to 3 let through
 pub record LetThrough (i : ℕ) (v : List ℕ) (k l : ℕ) : Type 0 where
   pub in-table : T (isProfile i)
-  pub word : T (isWord (profile i .q) (codewordLength (profile i)) v)
+  pub word-long : length v ≡ codewordLength (profile i)
   pub first-long : k ≡ messageLength (profile i)
   pub second-long : l ≡ messageLength (profile i)
+  pub symbols : T (isReceived (profile i) v)
 
--- the number k is given for nothing else
+-- the number k is given for nothing else, and for no word with more than two erasures
 abbrev pub OnlyLetThrough : ℕ → Type 0
 OnlyLetThrough k =
     (i : ℕ) (v : List ℕ) (r : Decoded) (first first′ second second′ : List ℕ) → DecodeAllows i v r first first′ second second′
-    → decodedNumber r ≡ k → LetThrough i v (length first) (length second)
+    → decodedNumber r ≡ k → LetThrough i v (length first) (length second) × (erasures v ≤ 2)
+
+-- 02: number 11 is given exactly for a call that they let through and whose word has more
+abbrev pub ManyErasures : Type 0
+ManyErasures =
+    (i : ℕ) (v : List ℕ) (r : Decoded) (first first′ second second′ : List ℕ) → DecodeAllows i v r first first′ second second′
+    → (decodedNumber r ≡ 11) ↔ (LetThrough i v (length first) (length second) × (3 ≤ erasures v))
 
 -- the lengths of the word and of the outputs are the profile's
 abbrev pub decodeLengthsFit : ℕ → List ℕ → ℕ → ℕ → Bool
 decodeLengthsFit i v k l =
     eqb (length v) (codewordLength (profile i)) && eqb k (messageLength (profile i)) && eqb l (messageLength (profile i))
 
--- the other numbers, by the first that applies; and no refusal changes an output
+-- numbers 1 to 3, by the first that applies; and no refusal changes an output
 pub record RefusesDecoding (i : ℕ) (v : List ℕ) (r : Decoded) (first first′ second second′ : List ℕ) : Type 0 where
   pub by-1 : isProfile i ≡ false → decodedNumber r ≡ 1
   pub by-2 : T (isProfile i) → decodeLengthsFit i v (length first) (length second) ≡ false → decodedNumber r ≡ 2
-  pub by-3 : T (isProfile i) → T (decodeLengthsFit i v (length first) (length second)) → symbolsBelow (profile i .q) v ≡ false
+  pub by-3 : T (isProfile i) → T (decodeLengthsFit i v (length first) (length second)) → isReceived (profile i) v ≡ false
       → decodedNumber r ≡ 3
   pub keeps : decodedNumber r ≢ 0 → (first′ ≡ first) × (second′ ≡ second)
 

@@ -4,28 +4,40 @@ use mathlib.Core.Path.{_≡_, sym, ap, subst, _∙_}
 use mathlib.Core.Logic.{_≢_}
 use mathlib.Core.Bool.{true, false}
 use mathlib.Core.List.{List}
-use Prim.Native.Nat.{ℕ}
+use Prim.Native.Nat.{ℕ, _≤_}
+use native.Mathlib.Nat.{le-refl}
+use native.Mathlib.Omega.{arith}
 use lib.Dec.{T, eqb}
 use lib.ListN.{length}
 use borrow.Author.Tests.{eq-eqb, ne-eqb}
 use Rattle.code_theory.specs.Parameters.{Parameters, messageLength, codewordLength}
-use Rattle.code_theory.specs.Component.{symbolsBelow}
+use Rattle.code_theory.specs.Component.{symbolsBelow, levelsOrErasures}
+use Rattle.code_theory.specs.Erasures.{erasures, erasedIndices}
 use Rattle.code_theory.specs.Profiles.{isProfile, profile}
-use Rattle.code_theory.specs.Reading.{reading}
+use Rattle.code_theory.specs.Reading.{receivedReading}
 use Rattle.code_theory.specs.Operations.{answered, decodeAnswer}
 use Rattle.code_theory.proofs.Merge.{word-of}
-use Rattle.code_theory.proofs.Profiles.{profiles-fit}
+use Rattle.code_theory.proofs.Profiles.{profiles-fit, few-levels}
+use Rattle.code_theory.proofs.Apart.{apart}
 use Rattle.code_theory.proofs.Reading.{near-is-one}
+use Rattle.code_theory.proofs.Whole.{whole-reading, length-indices}
+use Rattle.code_theory.proofs.Erased.{erased-by-filling}
 use Rattle.decoding_theory.specs.Decoded.{Sums, sums, target, decodedBalanced, decodedUnbalanced, decodedBy, decoded}
+use Rattle.decoding_theory.specs.Filled.{decodedErased}
 use Rattle.decoding_theory.proofs.Decoded.{decoded-reading}
+use Rattle.decoding_theory.proofs.Erased.{erased-reading}
 use Rattle.profiles.specs.declared.row.Row.{Row}
 use Rattle.profiles.specs.Row.{parameters, Valid, RowOf}
-use Rattle.profiles.specs.Refusal.{decodeNumber}
-use Rattle.profiles.proofs.Refusing.{Admitted, admitted, refused-number, decode-refused}
+use Rattle.profiles.specs.declared.refusals.Screened.{Screened}
+use Rattle.profiles.specs.declared.refusals.Screened.the-variants as found
+use Rattle.profiles.specs.Refusal.{decodeNumber, screening}
+use Rattle.profiles.proofs.Refusing.{Admitted, decode-refused}
+use Rattle.profiles.proofs.Screening.{screened-refused, screened-whole}
 use Rattle.decoder.specs.declared.totals.Totals.{Totals}
 use Rattle.decoder.specs.declared.word.Decoded.the-variants.{Refused}
-use Rattle.decoder.specs.Totals.{ReceivedWord, sumsOf}
+use Rattle.decoder.specs.Totals.{WholeWord, sumsOf}
 use Rattle.decoder.specs.Outputs.{Outputs}
+use Rattle.decoder.specs.Erased.{ErasedWord}
 use Rattle.decoder.specs.Decode.{Answers}
 use Rattle.decoder.proofs.Answering.{answers-refused}
 use Rattle.decoder.proofs.Totalling.{target-is}
@@ -35,42 +47,79 @@ pub call-unprofiled : (i : ℕ) (u : List ℕ) (k l : ℕ) (first second : List 
     → Answers (decodeAnswer i u k l) (Refused 1) first first second second
 call-unprofiled i u k l first second e = answers-refused first second (decode-refused i u k l e)
 
--- What is known of a call by the profile's row.
+-- What is known of a call by the profile's row, once the word is screened.
 
-module _ (i : ℕ) (u first second : List ℕ) {t : Row} (of : RowOf i t) where
-  pub call-refused : {n : ℕ} → n ≡ decodeNumber t u (length first) (length second) → n ≢ 0
+module _ (i : ℕ) (u first second : List ℕ) {t : Row} (of : RowOf i t) {r : Screened}
+    (is : r ≡ screening (decodeNumber t u (length first) (length second)) (erasedIndices 0 u)) where
+  abbrev Known : Type 0
+  Known = Admitted i u (length first) (length second)
+
+  pub call-refused : {n : ℕ} → r ≡ found.Refused n
       → Answers (decodeAnswer i u (length first) (length second)) (Refused n) first first second second
-  call-refused e h = answers-refused first second (refused-number i u (length first) (length second) of e h)
+  call-refused e = answers-refused first second (screened-refused i u (length first) (length second) of is e)
 
-  -- where no number refuses it
-  module _ (z : decodeNumber t u (length first) (length second) ≡ 0) where
-    known : Admitted i u (length first) (length second)
-    known = admitted i u (length first) (length second) of z
+  word-long : Known → length u ≡ codewordLength (parameters t)
+  word-long known = known .word-long ∙ sym (ap codewordLength (of .same))
 
-    pub word-known : ReceivedWord t u
+  pub outputs-known : Known → Outputs t first second
+  outputs-known known =
+      record {
+        first-long = known .first-long ∙ sym (ap messageLength (of .same));
+        second-long = known .second-long ∙ sym (ap messageLength (of .same));
+      }
+
+  -- its symbols are levels
+  module _ (e : r ≡ found.Whole) where
+    pub whole-known : Known
+    whole-known = screened-whole i u (length first) (length second) of is e .0
+
+    none : erasures u ≡ 0
+    none = screened-whole i u (length first) (length second) of is e .1
+
+    below : T (symbolsBelow (profile i .q) u)
+    below = screened-whole i u (length first) (length second) of is e .2
+
+    pub word-known : WholeWord t u
     word-known =
         record {
           valid = of .valid;
-          long = known .word-long ∙ sym (ap codewordLength (of .same));
-          below = subst (λ (p : Parameters). T (symbolsBelow (p .q) u)) (sym (of .same)) (known .below);
+          long = word-long whole-known;
+          below = subst (λ (p : Parameters). T (symbolsBelow (p .q) u)) (sym (of .same)) below;
         }
 
-    pub outputs-known : Outputs t first second
-    outputs-known =
-        record {
-          first-long = known .first-long ∙ sym (ap messageLength (of .same));
-          second-long = known .second-long ∙ sym (ap messageLength (of .same));
-        }
-
-    is-decoded : reading (profile i) u ≡ decoded (parameters t) u
+    is-decoded : receivedReading (profile i) u ≡ decoded (parameters t) u
     is-decoded =
         let (s, prime) = profiles-fit .0 i (of .known) in
         let one = near-is-one (profile i) s prime in
-        sym (decoded-reading (profile i) s one u (word-of (profile i .q) (codewordLength (profile i)) u (known .word-long) (known .below)))
+        whole-reading (profile i) u none
+        ∙ sym (decoded-reading (profile i) s one u (word-of (profile i .q) (codewordLength (profile i)) u (whole-known .word-long) below))
         ∙ ap (λ (p : Parameters). decoded p u) (sym (of .same))
 
     pub decoded-answer : decodeAnswer i u (length first) (length second) ≡ answered (decoded (parameters t) u)
-    decoded-answer = known .read ∙ ap answered is-decoded
+    decoded-answer = whole-known .read ∙ ap answered is-decoded
+
+  -- one or two are erased
+  module _ {l : List ℕ} (known : Known) (e : erasedIndices 0 u ≡ l) (some : 1 ≤ length l) where
+    pub erased-known : ErasedWord t u l
+    erased-known =
+        record {
+          valid = of .valid;
+          long = word-long known;
+          symbols = subst (λ (p : Parameters). T (levelsOrErasures (p .q) u)) (sym (of .same)) (known .received);
+          indices = e;
+        }
+
+    is-filled : receivedReading (profile i) u ≡ decodedErased (parameters t) u
+    is-filled =
+        let (s, prime) = profiles-fit .0 i (of .known) in
+        let count : 1 ≤ erasures u = omega (arith, some, length-indices 0 u, ap length e) in
+        erased-by-filling (profile i) u count
+        ∙ sym (erased-reading (profile i) s (few-levels i (of .known)) 2 (apart (profile i) s prime) u (known .word-long) (known .received)
+        count (known .few) (le-refl 2))
+        ∙ ap (λ (p : Parameters). decodedErased p u) (sym (of .same))
+
+    pub filled-answer : decodeAnswer i u (length first) (length second) ≡ answered (decodedErased (parameters t) u)
+    filled-answer = known .read ∙ ap answered is-filled
 
 -- the answer by the sums of a word
 module _ {t : Row} (v : Valid t) (u : List ℕ) (s : Totals) (g : sumsOf t s ≡ sums (parameters t) u) where

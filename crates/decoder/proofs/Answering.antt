@@ -21,7 +21,7 @@ use Rattle.syndromes.specs.declared.checks.Verdict as verdicts
 use Rattle.syndromes.specs.declared.checks.Verdict.the-variants as told
 use Rattle.syndromes.specs.Verdict.{verdictOf}
 use Rattle.decoder.specs.declared.word.Decoded.{Decoded}
-use Rattle.decoder.specs.declared.word.Decoded.the-variants.{Clean, Corrected, Unreadable, Refused}
+use Rattle.decoder.specs.declared.word.Decoded.the-variants.{Clean, Corrected, Filled, Unreadable, Refused}
 use Rattle.decoder.specs.Sides.{isFirst}
 use Rattle.decoder.specs.Outputs.{RestoredMessages}
 use Rattle.decoder.specs.Decode.{decodedReport, Answers}
@@ -77,6 +77,7 @@ module _ (p : Parameters) (s : Sums) where
   pub judged-near : (r : Decoded) → Judged p s r → (r ≡ Unreadable → ⊥) → T (nearSyndromes p (s .first) (s .second))
   judged-near Clean d n = d .0
   judged-near (Corrected c) d n = d .0
+  judged-near (Filled cs) d n = absurd d
   judged-near Unreadable d n = absurd (n refl)
   judged-near (Refused k) d n = absurd d
 
@@ -89,6 +90,7 @@ module _ (p : Parameters) (s : Sums) where
       → Answers (answered (decodedBalanced p s v)) r first first′ second second′
   judged-read Clean d n v w = answers-read p v (d .1 v) w refl
   judged-read (Corrected c) d n v w = answers-read p v (d .1 v) w refl
+  judged-read (Filled cs) d n v w = absurd d
   judged-read Unreadable d n v w = absurd (n refl)
   judged-read (Refused k) d n v w = absurd d
 

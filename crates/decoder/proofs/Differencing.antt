@@ -21,11 +21,10 @@ use Rattle.code_theory.proofs.Columns.{q-positive}
 use Rattle.modular.proofs.Bytes.{byte-difference}
 use Rattle.profiles.specs.declared.row.Row.{Row}
 use Rattle.profiles.specs.Row.{parameters, Valid}
-use Rattle.symbols.specs.Syndromes.{part}
 use Rattle.differences.specs.Overlaid.{differencesAt, changedBy}
 use Rattle.differences.proofs.Indices.{length-held, first-held, difference-held, other-held}
 use Rattle.decoder.specs.Received.{BodyArray}
-use Rattle.decoder.specs.Totals.{ReceivedWord, Components}
+use Rattle.decoder.specs.Totals.{WholeWord, Components}
 
 difference-at : (p : Parameters) (w : List ℕ) (j : ℕ) → suc j < length w
     → getD (differences p w) j 0 ≡ neighbourDifference p (getD w j 0) (getD w (suc j) 0)
@@ -51,7 +50,7 @@ zero-array {t} v =
     let some = q-positive (parameters t) (v .sized) in
     record { valid = v; size = refl; below = λ i l. rw (getD-replicate {A = ℕ} 97 i 0 0 (omega (arith, l, short v))) some }
 
-module _ {t : Row} {u : List ℕ} (w : ReceivedWord t u) where
+module _ {t : Row} {u : List ℕ} (w : WholeWord t u) where
   q₁ : 1 ≤ t .q
   q₁ = q-positive (parameters t) (w .valid .sized)
 
@@ -90,7 +89,7 @@ module _ {t : Row} {u : List ℕ} (w : ReceivedWord t u) where
           ∙ ap₂ (neighbourDifference (parameters t)) own after))
 
 -- An array that held levels, once differences of u are put into it: it holds the components where every other difference was right before.
-module _ {t : Row} {u : List ℕ} (w : ReceivedWord t u) (asked : ℕ → Bool) {x : List ℕ} (b : BodyArray t x)
+module _ {t : Row} {u : List ℕ} (w : WholeWord t u) (asked : ℕ → Bool) {x : List ℕ} (b : BodyArray t x)
     (kept : (j : ℕ) → suc j < t .balanced → asked (suc j) ≡ false → getD x (suc j) 0 ≡ between t u j) where
   abbrev placed : List ℕ
   placed = differencesAt asked (t .q) u x
@@ -122,17 +121,17 @@ inside : {t : Row} → Valid t → (j : ℕ) → j < t .balanced → T (ltb j (m
 inside {t} v j l = lt→ltb j (min (t .balanced) 97) (rw (min-eq-left (short v)) l)
 
 -- all of them
-pub components-differenced : {t : Row} {u x y : List ℕ} → ReceivedWord t u → BodyArray t x
+pub components-differenced : {t : Row} {u x y : List ℕ} → WholeWord t u → BodyArray t x
     → y ≡ differencesAt (λ j. ltb j (min (t .balanced) 97)) (t .q) u x → Components t u y
 components-differenced {t} {u} {x} w b e =
     components-placed w (λ j. ltb j (min (t .balanced) 97)) b (λ j l f. absurd (subst T f (inside (w .valid) (suc j) l))) e
 
-word-set : {t : Row} {u : List ℕ} → ReceivedWord t u → (i : ℕ) {y : ℕ} → y < t .q → ReceivedWord t (set u i y)
+pub word-set : {t : Row} {u : List ℕ} → WholeWord t u → (i : ℕ) {y : ℕ} → y < t .q → WholeWord t (set u i y)
 word-set {t} {u} w i {y} l =
     record { valid = w .valid; long = length-set u i y ∙ w .long; below = symbols-set (t .q) u i y l (w .below) }
 
 -- those that change where the symbol at index i is corrected to s
-pub components-corrected : {t : Row} {u x y : List ℕ} (i s : ℕ) → ReceivedWord t u → s < t .q → Components t u x
+pub components-corrected : {t : Row} {u x y : List ℕ} (i s : ℕ) → WholeWord t u → s < t .q → Components t u x
     → y ≡ differencesAt (changedBy i (min (t .balanced) 97)) (t .q) (set u i s) x → Components t (set u i s) y
 components-corrected {t} {u} {x} i s w l c e =
     components-placed (word-set w i l) (changedBy i (min (t .balanced) 97)) (c .levels) kept e

@@ -25,7 +25,7 @@ use Rattle.symbols.specs.Syndromes.{rows, part}
 use Rattle.decoder.specs.declared.locate.Search.{Search}
 use Rattle.decoder.specs.Rows.{rowsOf}
 use Rattle.decoder.specs.Received.{BodyArray}
-use Rattle.decoder.specs.Totals.{ReceivedWord}
+use Rattle.decoder.specs.Totals.{WholeWord}
 use Rattle.decoder.specs.Search.{parametersOf, sumsIn, parityOf, After}
 use Rattle.decoder.specs.Locate.{Located, symbolSent}
 use Rattle.decoder.proofs.Fitting.{index-is, positions-are}

@@ -6,6 +6,10 @@ pub mod Differencing
 pub mod FourRows
 pub mod Moving
 pub mod Fitting
+pub mod Filling
+pub mod Erasing
+pub mod Completing
+pub mod Clearing
 -- The messages of the components
 pub mod Restoring
 pub mod Running

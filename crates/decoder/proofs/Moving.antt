@@ -4,7 +4,7 @@ use mathlib.Core.Path.{_≡_, refl, sym, ap, _∙_}
 use mathlib.Core.Logic.{_≢_, _⊎_, inl, inr, ⊎-elim}
 use mathlib.Core.Bool.{Bool, true, false}
 use mathlib.Core.List.{List, [], _∷_}
-use Prim.Native.Nat.{ℕ, zero, suc, _+_, _-_, _*_, _%_, _≤_, _<_, zero-le, suc-le-suc}
+use Prim.Native.Nat.{ℕ, zero, suc, _+_, _-_, _*_, _%_, _≤_, _<_, suc-le-suc}
 use native.Mathlib.Nat.{mod-lt, mod-eq-of-lt, mul-zero, add-zero, zero-mod, le-trans}
 use native.Mathlib.Omega.{arith}
 use lib.Dec.{eqb}
@@ -18,7 +18,7 @@ use Rattle.code_theory.specs.Parameters.{Parameters}
 use Rattle.code_theory.specs.Component.{checkRow}
 use Rattle.code_theory.proofs.Columns.{q-positive, last-row, digit-row}
 use Rattle.decoding_theory.specs.Syndromes.{tabulate, zeroSyndrome, columnEntry, moved}
-use Rattle.decoding_theory.proofs.Value.{tabulate-at}
+use Rattle.decoding_theory.proofs.Value.{tabulate-at, tabulate-same}
 use Rattle.profiles.specs.declared.row.Row.{Row}
 use Rattle.profiles.specs.Row.{parameters, Valid}
 use Rattle.symbols.specs.Columns.{Columns}
@@ -29,11 +29,6 @@ use Rattle.decoder.specs.Rows.{FourRows, rowIndex, rowsOf, movedRows, Mo
 use Rattle.symbols.proofs.Counting.{digit-below}
 use Rattle.symbols.proofs.Digits.{digits-same, digits-high}
 use Rattle.decoder.proofs.FourRows.{row-cases, rows-digit, rows-last, zero-same}
-
-tabulate-same : (f g : ℕ → ℕ) (k : ℕ) → ((j : ℕ) → j < k → f j ≡ g j) → tabulate f k ≡ tabulate g k
-tabulate-same f g zero e = refl
-tabulate-same f g (suc k) e =
-    rw (e 0 (suc-le-suc zero-le), tabulate-same (λ i. f (suc i)) (λ i. g (suc i)) k (λ j h. e (suc j) (suc-le-suc h)))
 
 -- a factor counts mod q
 pub moved-congruent : (p : Parameters) {f g : ℕ} (a : ℕ) (S : List ℕ) → Congruent (p .q) f g → moved p f a S ≡ moved p g a S

@@ -21,19 +21,24 @@ use Rattle.modular.specs.Remainder.{residueOfDifference}
 use Rattle.modular.proofs.Dividing.{difference-is}
 use Rattle.symbols.specs.declared.weight.Weight.{Weight}
 use Rattle.symbols.specs.declared.checks.Checks.{Checks}
-use Rattle.symbols.specs.Weight.{weightsOf, checksOf}
-use Rattle.symbols.specs.Columns.{Columns}
+use Rattle.symbols.specs.Weight.{weightsOf, checksOf, checkOf}
+use Rattle.symbols.specs.Columns.{Columns, columnsOf}
 use Rattle.symbols.specs.Syndromes.{rows, part, rowSums}
 use Rattle.symbols.proofs.CheckSymbols.{checks-are}
+use Rattle.symbols.proofs.Counting.{columns-right}
 use Rattle.symbols.proofs.Parts.{part-length}
 use Rattle.symbols.proofs.Rows.{sums-are}
 use Rattle.decoder.specs.declared.totals.Totals.{Totals}
 use Rattle.decoder.specs.Rows.{FourRows, rowsOf}
-use Rattle.decoder.specs.Totals.{ReceivedWord, Components, checkOf, sumsOf, Totalled}
+use Rattle.decoder.specs.Totals.{WholeWord, Components, sumsOf, Totalled}
 use Rattle.decoder.proofs.Levels.{symbols-take, weight-small}
 use Rattle.decoder.proofs.FourRows.{four-rows}
 use Rattle.decoder.proofs.Restoring.{four-are}
 use Rattle.decoding_theory.proofs.Outcomes.{check-below}
+
+-- the columns that are built for a row
+pub row-columns : {t : Row} → Valid t → {columns : List (List ℕ)} → columns ≡ columnsOf (t .q) (t .n) → Columns (t .q) (t .n) columns
+row-columns {t} v e = columns-right e (q-positive (parameters t) (v .sized)) (v .length)
 
 pub target-is : {t : Row} → Valid t → t .target ≡ target (parameters t)
 target-is {t} v = v .target ∙ ap (balancingValue (t .q)) (v .balanced)
@@ -46,7 +51,7 @@ target-small {t} v =
     let l : t .balanced * (t .q - 1) ≤ 1358 = mul-le-mul m q in
     omega (arith, v .target)
 
-module _ {t : Row} {word x : List ℕ} (is : ReceivedWord t word) (held : Components t word x) where
+module _ {t : Row} {word x : List ℕ} (is : WholeWord t word) (held : Components t word x) where
   q₁ : 1 ≤ t .q
   q₁ = q-positive (parameters t) (is .valid .sized)
 

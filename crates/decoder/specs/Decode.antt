@@ -2,23 +2,34 @@
 -- Assumes nothing.
 use mathlib.Core.Path.{_≡_}
 use mathlib.Core.Bool.{true, false}
-use mathlib.Core.List.{List}
+use mathlib.Core.List.{List, [], _∷_}
 use Prim.Native.Nat.{ℕ}
 use lib.ListN.{length}
-use Rattle.code_theory.specs.Reading.{Correction, clean, corrected}
+use Rattle.code_theory.specs.Reading.{Correction, Change, clean, corrected, filled}
 use Rattle.code_theory.specs.Operations.{Answer, Report, refusal, failure, success, decodeAnswer, report, decodeOutput}
 use Rattle.decoder.specs.declared.word.Correction as declared
+use Rattle.decoder.specs.declared.word.Change as declared-change
+use Rattle.decoder.specs.declared.word.Changes.{Changes}
+use Rattle.decoder.specs.declared.word.Changes.the-variants.{One, Two}
 use Rattle.decoder.specs.declared.word.Decoded.{Decoded}
-use Rattle.decoder.specs.declared.word.Decoded.the-variants.{Clean, Corrected, Unreadable, Refused}
+use Rattle.decoder.specs.declared.word.Decoded.the-variants.{Clean, Corrected, Filled, Unreadable, Refused}
 
--- the code's struct, as the model has it
+-- the code's structs, as the model has them
 abbrev pub correctionOf : declared.Correction → Correction
 correctionOf c = record { position = c .position; symbol = c .symbol }
+
+abbrev pub changeOf : declared-change.Change → Change
+changeOf c = record { position = c .position; symbol = c .symbol }
+
+abbrev pub changesIn : Changes → List Change
+changesIn (One c) = changeOf c ∷ []
+changesIn (Two c d) = changeOf c ∷ changeOf d ∷ []
 
 -- what each case of the answer says: a finding (01: kind, place and symbol), 4, or the number of another refusal
 abbrev pub decodedReport : Decoded → Report
 decodedReport Clean = success clean
 decodedReport (Corrected c) = success (corrected (correctionOf c))
+decodedReport (Filled cs) = success (filled (changesIn cs))
 decodedReport Unreadable = failure
 decodedReport (Refused k) = refusal k
 

@@ -6,5 +6,6 @@ pub mod Totals
 pub mod Search
 pub mod Locate
 pub mod Outputs
+pub mod Erased
 pub mod Decode
 pub mod Steps

@@ -9,7 +9,7 @@ use Rattle.decoding_theory.specs.Decoded.{Sums, balancingSymbol, inRange, posit
 use Rattle.decoder.specs.declared.locate.Search.{Search}
 use Rattle.decoder.specs.declared.locate.Fit.{Fit}
 use Rattle.decoder.specs.declared.locate.Fit.the-variants.{At, Nothing}
-use Rattle.decoder.specs.Totals.{ReceivedWord}
+use Rattle.decoder.specs.Totals.{WholeWord}
 use Rattle.decoder.specs.Search.{parametersOf, sumsIn, parityOf, Searches}
 
 -- the first index of the word that fits is found, or that there is none
@@ -20,7 +20,7 @@ FitFound x word Nothing = firstFit (parametersOf x) (sumsIn x) (parityOf x) word
 -- the search has found index k of the word
 pub record Located (x : Search) (word : List ℕ) (k : ℕ) : Type 0 where
   pub given : Searches x
-  pub is : ReceivedWord (x .row) word
+  pub is : WholeWord (x .row) word
   pub fit : FitFound x word (At k)
 
 -- the symbol that balances the body in place of x, and q where it is no level

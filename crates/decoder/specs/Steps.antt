@@ -16,7 +16,7 @@ use Rattle.profiles.specs.Row.{parameters}
 use Rattle.symbols.specs.Syndromes.{part}
 use Rattle.decoder.specs.declared.totals.Totals.{Totals}
 use Rattle.decoder.specs.declared.word.Decoded.{Decoded}
-use Rattle.decoder.specs.declared.word.Decoded.the-variants.{Clean, Corrected, Unreadable, Refused}
+use Rattle.decoder.specs.declared.word.Decoded.the-variants.{Clean, Corrected, Filled, Unreadable, Refused}
 use Rattle.decoder.specs.Totals.{sumsOf}
 use Rattle.decoder.specs.Decode.{correctionOf, Answers}
 
@@ -35,6 +35,7 @@ JudgedAs p s f = T (nearSyndromes p (s .first) (s .second)) × ((v : List ℕ) �
 abbrev pub Judged : Parameters → Sums → Decoded → Type 0
 Judged p s Clean = JudgedAs p s clean
 Judged p s (Corrected c) = JudgedAs p s (corrected (correctionOf c))
+Judged p s (Filled cs) = ⊥
 Judged p s Unreadable = (v : List ℕ) → decodedBalanced p s v ≡ unreadable
 Judged p s (Refused k) = ⊥
 

@@ -1,7 +1,7 @@
 -- What the decoder sums over a received word, as the definitions of crate decoding_theory have it.
 -- Assumes nothing.
 use mathlib.Core.Path.{_≡_}
-use mathlib.Core.Bool.{Bool, true, false}
+use mathlib.Core.Bool.{Bool}
 use mathlib.Core.List.{List}
 use Prim.Native.Nat.{ℕ, suc, _≤_, _<_}
 use lib.Dec.{T}
@@ -15,20 +15,15 @@ use Rattle.profiles.specs.declared.row.Row.{Row}
 use Rattle.decoder.specs.declared.totals.Totals.{Totals}
 use Rattle.profiles.specs.Row.{parameters, Valid}
 use Rattle.symbols.specs.Syndromes.{rows, part}
-use Rattle.symbols.specs.declared.checks.Checks.{Checks}
+use Rattle.symbols.specs.Weight.{checkOf}
 use Rattle.decoder.specs.Rows.{FourRows, rowsOf}
 use Rattle.decoder.specs.Received.{BodyArray}
 
--- a word that numbers 1 to 3 let through
-pub record ReceivedWord (t : Row) (word : List ℕ) : Type 0 where
+-- a word of levels that numbers 1 to 3 let through
+pub record WholeWord (t : Row) (word : List ℕ) : Type 0 where
   pub valid : Valid t
   pub long : length word ≡ codewordLength (parameters t)
   pub below : T (symbolsBelow (t .q) word)
-
--- the check symbol of a parity
-abbrev pub checkOf : Checks → Bool → ℕ
-checkOf s true = s .alpha
-checkOf s false = s .beta
 
 abbrev pub sumsOf : Row → Totals → Sums
 sumsOf t s =

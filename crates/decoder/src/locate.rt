@@ -9,7 +9,7 @@ use syndromes::near;
 ghost use mathlib.Core.Path.{_≡_};
 ghost use Prim.Native.Nat.{_≤_};
 ghost use Rattle.decoding_theory.specs.Decoded.{offByLack, nearAfter, fits};
-ghost use Rattle.decoder.specs.Totals.{ReceivedWord};
+ghost use Rattle.decoder.specs.Totals.{WholeWord};
 ghost use Rattle.decoder.specs.Search.{parametersOf, sumsIn, parityOf, Searches, Tries};
 ghost use Rattle.decoder.specs.Locate.{FitFound, symbolSent};
 
@@ -99,7 +99,7 @@ fn try_positions(
     by_second: &[u8; 16],
     word: &[u8],
 ) -> Fit
-    requires { ⌜ Tries search (now columns) (now «by_first») (now «by_second») × ReceivedWord (search .row) (now word) ⌝ }
+    requires { ⌜ Tries search (now columns) (now «by_first») (now «by_second») × WholeWord (search .row) (now word) ⌝ }
     ensures { λ r. ⌜ FitFound search (now (word .entry)) r ⌝ }
 {
     let parity = search.parity;
@@ -123,7 +123,7 @@ pub(crate) fn locate<'a>(
     by_second: &'a [u8; 16],
     word: &[u8],
 ) -> Fit
-    requires { ⌜ Tries search (now columns) (now «by_first») (now «by_second») × ReceivedWord (search .row) (now word) ⌝ }
+    requires { ⌜ Tries search (now columns) (now «by_first») (now «by_second») × WholeWord (search .row) (now word) ⌝ }
     ensures { λ r. ⌜ FitFound search (now (word .entry)) r ⌝ }
 {
     if !off_by_lack(search) {

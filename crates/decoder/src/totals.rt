@@ -12,7 +12,7 @@ ghost use Rattle.profiles.specs.Row.{parameters};
 ghost use Rattle.symbols.specs.Columns.{Columns};
 ghost use Rattle.decoding_theory.specs.Decoded.{sums};
 ghost use Rattle.decoder.specs.Received.{BodyArray};
-ghost use Rattle.decoder.specs.Totals.{ReceivedWord, sumsOf, Components, Totalled, SummedWord};
+ghost use Rattle.decoder.specs.Totals.{WholeWord, sumsOf, Components, Totalled, SummedWord};
 
 pub(crate) struct Totals {
     // The weight of the body.
@@ -29,7 +29,7 @@ pub(crate) struct Totals {
 
 // The sums over a word, of whose body x holds the differences.
 fn total(row: Row, columns: &[[u8; 3]; 48], word: &[u8], x: &[u8; 97]) -> Totals
-    requires { ⌜ ReceivedWord row (now word) × Components row (now word) (now x) × Columns (row .q) (row .n) (now columns) ⌝ }
+    requires { ⌜ WholeWord row (now word) × Components row (now word) (now x) × Columns (row .q) (row .n) (now columns) ⌝ }
     ensures { λ s. ⌜ Totalled row s × (sumsOf row s ≡ sums (parameters row) (now (word .entry))) ⌝ }
 {
     let q = row.q;
@@ -55,7 +55,7 @@ fn total(row: Row, columns: &[[u8; 3]; 48], word: &[u8], x: &[u8; 97]) -> Totals
 
 // The sums over a word, whose components are put into x, an array of levels.
 pub(crate) fn sums_of(row: Row, columns: &[[u8; 3]; 48], word: &[u8], x: &mut [u8; 97]) -> Totals
-    requires { ⌜ ReceivedWord row (now word) × Columns (row .q) (row .n) (now columns) × BodyArray row (now x) ⌝ }
+    requires { ⌜ WholeWord row (now word) × Columns (row .q) (row .n) (now columns) × BodyArray row (now x) ⌝ }
     ensures { λ s. ⌜ SummedWord row (now (word .entry)) (now (x .exit)) s ⌝ }
 {
     difference_body(row.q, row.balanced, word, x);

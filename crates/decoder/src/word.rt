@@ -1,6 +1,8 @@
 // Decoding of a received word, by its sums.
 use crate::effect::effect_of;
 use crate::effect::syndromes_after;
+use crate::erased::decode_one;
+use crate::erased::decode_two;
 use crate::locate::Fit;
 use crate::locate::Search;
 use crate::locate::balancing_symbol;
@@ -11,8 +13,9 @@ use crate::totals::sums_of;
 use differences::correct_differences;
 use profiles::Lookup;
 use profiles::Row;
-use profiles::decode_refusal;
+use profiles::Screened;
 use profiles::row_of;
+use profiles::screen;
 use symbols::Syndromes;
 use symbols::columns;
 use syndromes::Verdict;
@@ -24,7 +27,7 @@ ghost use Rattle.decoding_theory.specs.Decoded.{decodedBody, decodedUnbalanced,
 ghost use Rattle.profiles.specs.Row.{Valid, parameters};
 ghost use Rattle.symbols.specs.Columns.{Columns};
 ghost use Rattle.decoder.specs.Received.{BodyArray};
-ghost use Rattle.decoder.specs.Totals.{ReceivedWord, sumsOf, Components, Totalled};
+ghost use Rattle.decoder.specs.Totals.{WholeWord, sumsOf, Components, Totalled};
 ghost use Rattle.decoder.specs.Search.{parametersOf, sumsIn, parityOf, After};
 ghost use Rattle.decoder.specs.Locate.{Located};
 ghost use Rattle.decoder.specs.Outputs.{Outputs};
@@ -37,13 +40,27 @@ pub struct Correction {
     pub symbol: u8,
 }
 
-// What a received word is read as; the outputs hold its messages where it is clean or corrected.
+// What is said of an erased symbol that was filled: its position, from 1, and the symbol sent there.
+pub struct Change {
+    pub position: usize,
+    pub symbol: u8,
+}
+
+// What is said of one or two, in rising order.
+pub enum Changes {
+    One(Change),
+    Two(Change, Change),
+}
+
+// What a received word is read as; the outputs hold its messages where it is clean, corrected or filled.
 pub enum Decoded {
     Clean,
     Corrected(Correction),
+    // 02: the word has marks.
+    Filled(Changes),
     // 01: number 4.
     Unreadable,
-    // 01: number 1 to 3.
+    // 01: number 1 to 3; 02: number 11.
     Refused(u8),
 }
 
@@ -133,7 +150,7 @@ fn decode_unbalanced(
     second: &mut [u8],
 ) -> Decoded
     requires { ⌜
-        ReceivedWord row (now word) × Columns (row .q) (row .n) (now columns) × Totalled row s × Components row (now word) (now x)
+        WholeWord row (now word) × Columns (row .q) (row .n) (now columns) × Totalled row s × Components row (now word) (now x)
         × Outputs row (now first) (now second) ⌝ }
     ensures { λ r. ⌜
         Answers (answered (decodedUnbalanced (parameters row) (sumsOf row s) (now (word .entry)))) r
@@ -175,9 +192,9 @@ fn decode_balanced(
     found
 }
 
-// A word that numbers 1 to 3 let through, by its sums. The columns are built once.
+// A word of levels that numbers 1 to 3 let through, by its sums. The columns are built once.
 fn decode_word(row: Row, word: &[u8], first: &mut [u8], second: &mut [u8]) -> Decoded
-    requires { ⌜ ReceivedWord row (now word) × Outputs row (now first) (now second) ⌝ }
+    requires { ⌜ WholeWord row (now word) × Outputs row (now first) (now second) ⌝ }
     ensures { λ r. ⌜
         Answers (answered (decoded (parameters row) (now (word .entry)))) r
         (now (first .entry)) (now (first .exit)) (now (second .entry)) (now (second .exit)) ⌝ }
@@ -191,7 +208,8 @@ fn decode_word(row: Row, word: &[u8], first: &mut [u8], second: &mut [u8]) -> De
     decode_balanced(row, s, &mut x, first, second)
 }
 
-// 01: Read. Refused 1: no such profile; 2: a length is wrong; 3: a symbol is not a level. A refusal and `Unreadable` change no output.
+// 01: Read. Refused 1: no such profile; 2: a length is wrong; 3: a symbol is neither a level nor an erasure; 11 (02): more than two symbols
+// are erased. A refusal and `Unreadable` change no output.
 pub fn decode(profile: usize, word: &[u8], first: &mut [u8], second: &mut [u8]) -> Decoded
     ensures { λ r. ⌜
         DecodeAllows profile (now (word .entry)) r
@@ -200,9 +218,11 @@ pub fn decode(profile: usize, word: &[u8], first: &mut [u8], second: &mut [u8]) 
     let Lookup::Found(row) = row_of(profile) else {
         return Decoded::Refused(1);
     };
-    let number = decode_refusal(row, word, first.len(), second.len());
-    if number != 0 {
-        return Decoded::Refused(number);
+    let screened = screen(row, word, first.len(), second.len());
+    match screened {
+        Screened::Refused(number) => Decoded::Refused(number),
+        Screened::Whole => decode_word(row, word, first, second),
+        Screened::One(i) => decode_one(row, word, i, first, second),
+        Screened::Two(i, j) => decode_two(row, word, i, j, first, second),
     }
-    decode_word(row, word, first, second)
 }

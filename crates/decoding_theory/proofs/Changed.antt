@@ -60,7 +60,7 @@ pub check-within : (p : Parameters) (b : Bool) → checkIndex p b < codewordLeng
 check-within p true = omega arith
 check-within p false = omega arith
 
-check-past : (p : Parameters) (b : Bool) → balancedLength p ≤ checkIndex p b
+pub check-past : (p : Parameters) (b : Bool) → balancedLength p ≤ checkIndex p b
 check-past p true = omega arith
 check-past p false = omega arith
 

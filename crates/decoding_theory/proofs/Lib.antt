@@ -13,5 +13,10 @@ pub mod Answers
 pub mod Nearby
 pub mod Outcomes
 pub mod Decoded
+-- Erased symbols
+pub mod Cleared
+pub mod Effects
+pub mod Fillable
+pub mod Erased
 -- The starred cases
 pub mod Cases

@@ -31,7 +31,7 @@ pub index-even : (k : ℕ) → index false k ≡ suc (double k)
 index-even k = omega (arith, double-is k)
 
 -- e times less a column is q - e times the column
-less : (q a e : ℕ) → 1 ≤ q → e ≤ q → Congruent q ((q - 1) * a * e) ((q - e) * a)
+pub less : (q a e : ℕ) → 1 ≤ q → e ≤ q → Congruent q ((q - 1) * a * e) ((q - e) * a)
 less q a e h l =
     let f : (q - 1) * a * e + e * a ≡ 0 + a * e * q = omega (arith, times-pred q (a * e) h) in
     let k : q - e + e ≡ q = omega arith in

@@ -15,6 +15,11 @@ tabulate-at f zero j h = absurd (not-suc-le-zero h)
 tabulate-at f (suc k) zero h = refl
 tabulate-at f (suc k) (suc j) h = tabulate-at (λ i. f (suc i)) k j (le-of-suc-le-suc h)
 
+pub tabulate-same : (f g : ℕ → ℕ) (k : ℕ) → ((j : ℕ) → j < k → f j ≡ g j) → tabulate f k ≡ tabulate g k
+tabulate-same f g zero e = refl
+tabulate-same f g (suc k) e =
+    rw (e 0 (suc-le-suc zero-le), tabulate-same (λ i. f (suc i)) (λ i. g (suc i)) k (λ j h. e (suc j) (suc-le-suc h)))
+
 pub length-tabulate : (f : ℕ → ℕ) (k : ℕ) → length (tabulate f k) ≡ k
 length-tabulate f zero = refl
 length-tabulate f (suc k) = ap suc (length-tabulate (λ i. f (suc i)) k)

@@ -1,2 +1,3 @@
 pub mod Syndromes
 pub mod Decoded
+pub mod Filled

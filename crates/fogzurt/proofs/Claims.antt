@@ -8,7 +8,16 @@ use Rattle.fogzurt.proofs.Packing.{unpacks}
 -- computed
 header-bytes : HeaderBytes
 unfolding packed
-header-bytes = record { clean-word = refl; corrected-word = refl; unreadable-word = refl; wrong-symbol = refl }
+header-bytes =
+    record {
+      clean-word = refl;
+      corrected-word = refl;
+      one-filled = refl;
+      two-filled = refl;
+      unreadable-word = refl;
+      wrong-symbol = refl;
+      many-erasures = refl;
+    }
 
 pub claims : Claims
 claims = record { unpacks = unpacks; header-bytes = header-bytes }

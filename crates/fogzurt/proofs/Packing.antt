@@ -1,24 +1,53 @@
 -- Decode's answer in eight bytes: each part of it is a byte, so taking bytes out gives the parts back.
 -- Assumes nothing.
-use mathlib.Core.Path.{_≡_, refl, ap, _∙_}
+use mathlib.Core.Path.{_≡_, refl, sym, ap, _∙_}
 use mathlib.Core.List.{List, [], _∷_}
 use Prim.Native.Nat.{ℕ, zero, suc, _+_, _*_, _/_, _%_, _≤_}
 use native.Mathlib.Omega.{arith}
 use lib.Dec.{lit≤}
 use lib.ListN.{length, getD}
-use Rattle.code_theory.specs.Reading.{clean, corrected, read, unreadable}
+use Rattle.code_theory.specs.Erasures.{erasures}
+use Rattle.code_theory.specs.Reading.{Change, change, Finding, clean, corrected, filled, changesOf, read, unreadable}
 use Rattle.code_theory.specs.Operations.{Answer, refused, answered, Report, refusal, failure, success, report, decodeAnswer}
+use Rattle.lines_theory.specs.Sizes.{ChangesWithin}
 use Rattle.lines_theory.proofs.Bounds.{SmallAnswer, decode-small}
-use Rattle.fogzurt.specs.Packed.{Parts, partsOf, joined, byte, bytes, packed, unpacked, Within}
+use Rattle.fogzurt.specs.Packed.{Parts, kindNumber, refusedParts, foundParts, partsOf, joined, byte, bytes, packed, unpacked, Within}
 use Rattle.fogzurt.specs.Claims.{Tells, Unpacks}
+use Rattle.fogzurt.proofs.Filled.{FillsAll, decode-fills}
 
--- a refusal has one digit, a position two, a symbol one
+-- a position has two digits, a symbol one
+change-within : (cs : List Change) (k : ℕ) → ChangesWithin 99 9 cs
+    → (getD cs k (change 0 0) .position ≤ 255) × (getD cs k (change 0 0) .symbol ≤ 255)
+change-within [] k s = (lit≤ tt, lit≤ tt)
+change-within (c ∷ cs) zero s = (omega (arith, s .0), omega (arith, s .1))
+change-within (c ∷ cs) (suc k) s = change-within cs k (s .2)
+
+kind-within : (f : Finding) → kindNumber f ≤ 255
+kind-within clean = lit≤ tt
+kind-within (corrected c) = lit≤ tt
+kind-within (filled cs) = lit≤ tt
+
+found-within : (f : Finding) → ChangesWithin 99 9 (changesOf f) → Within (foundParts f)
+found-within f s =
+    let c = change-within (changesOf f) 0 s in
+    let d = change-within (changesOf f) 1 s in
+    record {
+      number = lit≤ tt;
+      kind = kind-within f;
+      position = c .0;
+      symbol = c .1;
+      secondPosition = d .0;
+      secondSymbol = d .1;
+    }
+
+refused-within : (n : ℕ) → n ≤ 255 → Within (refusedParts n)
+refused-within n h =
+    record { number = h; kind = lit≤ tt; position = lit≤ tt; symbol = lit≤ tt; secondPosition = lit≤ tt; secondSymbol = lit≤ tt }
+
 within : (a : Answer) → SmallAnswer a → Within (partsOf (report a))
-within (refused k) s = record { number = omega (arith, s); kind = lit≤ tt; position = lit≤ tt; symbol = lit≤ tt }
-within (answered unreadable) s = record { number = lit≤ tt; kind = lit≤ tt; position = lit≤ tt; symbol = lit≤ tt }
-within (answered (read clean a b)) s = record { number = lit≤ tt; kind = lit≤ tt; position = lit≤ tt; symbol = lit≤ tt }
-within (answered (read (corrected c) a b)) s =
-    record { number = lit≤ tt; kind = lit≤ tt; position = omega (arith, s .0); symbol = omega (arith, s .1) }
+within (refused k) s = refused-within k (omega (arith, s))
+within (answered unreadable) s = refused-within 4 (lit≤ tt)
+within (answered (read f a b)) s = found-within f (s .0)
 
 pub within-answer : (i : ℕ) (u : List ℕ) (k l : ℕ) → Within (partsOf (report (decodeAnswer i u k l)))
 within-answer i u k l = within (decodeAnswer i u k l) (decode-small i u k l)
@@ -45,15 +74,21 @@ byte-joined (suc i) (b ∷ bs) h = ap (byte i) (others b (joined bs) (h .0)) ∙
 
 parts-back : (p : Parts) → Within p → unpacked (joined (bytes p)) ≡ p
 parts-back p w =
-    let h : AllBytes (bytes p) = (w .number, (w .kind, (w .position, (w .symbol, (lit≤ tt, (lit≤ tt, (lit≤ tt, (lit≤ tt, tt)))))))) in
+    let zeros : AllBytes (0 ∷ 0 ∷ []) = (lit≤ tt, (lit≤ tt, tt)) in
+    let second : AllBytes (p .secondPosition ∷ p .secondSymbol ∷ 0 ∷ 0 ∷ []) = (w .secondPosition, (w .secondSymbol, zeros)) in
+    let h : AllBytes (bytes p) = (w .number, (w .kind, (w .position, (w .symbol, second)))) in
     let g : (i : ℕ) → byte i (joined (bytes p)) ≡ getD (bytes p) i 0 = λ i. byte-joined i (bytes p) h in
-    rw (g 0, g 1, g 2, g 3) refl
+    rw (g 0, g 1, g 2, g 3, g 4, g 5) refl
 
-tells : (a : Report) (c : Parts) → c ≡ partsOf a → Tells a c
-tells (refusal n) c e = e
-tells failure c e = e
-tells (success clean) c e = e
-tells (success (corrected x)) c e = e
+tells : (e : ℕ) (a : Report) (c : Parts) → FillsAll e a → c ≡ partsOf a → Tells e a c
+tells e (refusal n) c f t = t
+tells e failure c f t = t
+tells e (success clean) c f t = t
+tells e (success (corrected x)) c f t = t
+tells e (success (filled [])) c f t = omega (arith, f .0, f .1)
+tells e (success (filled (x ∷ []))) c f t = (sym (f .0), t)
+tells e (success (filled (x ∷ y ∷ []))) c f t = (sym (f .0), t)
+tells e (success (filled (x ∷ y ∷ z ∷ cs))) c f t = omega (arith, f .0, f .2)
 
 pub unpacks : Unpacks
 unfolding packed
@@ -62,4 +97,4 @@ unpacks i u r first first′ second second′ a =
     let l = length second in
     let told = report (decodeAnswer i u k l) in
     let back : unpacked r ≡ partsOf told = ap unpacked (a .answer) ∙ parts-back (partsOf told) (within-answer i u k l) in
-    (tells told (unpacked r) back, a .first-out, a .second-out)
+    (tells (erasures u) told (unpacked r) (decode-fills i u k l) back, a .first-out, a .second-out)

@@ -1,12 +1,12 @@
--- Decode's answer as one number of eight bytes, the lowest first: 01's number, the kind (1 clean, 2 corrected), the position, the symbol
--- sent there, and four bytes that are 0. And how C takes it apart.
+-- Decode's answer as one number of eight bytes, the lowest first: the number of 01 or 02, the kind (1 clean, 2 corrected, 3 filled), the
+-- position, the symbol sent there, those of the second filled position, and two bytes that are 0. And how C takes it apart.
 -- Assumes nothing.
 use mathlib.Core.Path.{_≡_}
 use mathlib.Core.Bool.{true, false}
 use mathlib.Core.List.{List, [], _∷_}
 use Prim.Native.Nat.{ℕ, zero, suc, _+_, _*_, _/_, _%_, _≤_}
-use lib.ListN.{length}
-use Rattle.code_theory.specs.Reading.{Finding, clean, corrected, correction}
+use lib.ListN.{length, getD}
+use Rattle.code_theory.specs.Reading.{Finding, clean, corrected, filled, Change, change, changesOf}
 use Rattle.code_theory.specs.Operations.{Report, refusal, failure, success, decodeAnswer, report, decodeOutput}
 
 -- what C sees of an answer; a part that it does not have is 0
@@ -15,19 +15,31 @@ pub record Parts : Type 0 where
   pub kind : ℕ
   pub position : ℕ
   pub symbol : ℕ
+  pub secondPosition : ℕ
+  pub secondSymbol : ℕ
 
 abbrev pub kindNumber : Finding → ℕ
 kindNumber clean = 1
 kindNumber (corrected c) = 2
+kindNumber (filled cs) = 3
 
 -- the parts of a refusal
 abbrev pub refusedParts : ℕ → Parts
-refusedParts n = record { number = n; kind = 0; position = 0; symbol = 0 }
+refusedParts n = record { number = n; kind = 0; position = 0; symbol = 0; secondPosition = 0; secondSymbol = 0 }
 
 -- the parts of what was found
 abbrev pub foundParts : Finding → Parts
 foundParts f =
-    record { number = 0; kind = kindNumber f; position = correction f .position; symbol = correction f .symbol }
+    let c : Change = getD (changesOf f) 0 (change 0 0) in
+    let d : Change = getD (changesOf f) 1 (change 0 0) in
+    record {
+      number = 0;
+      kind = kindNumber f;
+      position = c .position;
+      symbol = c .symbol;
+      secondPosition = d .position;
+      secondSymbol = d .symbol;
+    }
 
 abbrev pub partsOf : Report → Parts
 partsOf (refusal k) = refusedParts k
@@ -45,7 +57,7 @@ byte zero n = n % 256
 byte (suc i) n = byte i (n / 256)
 
 abbrev pub bytes : Parts → List ℕ
-bytes p = p .number ∷ p .kind ∷ p .position ∷ p .symbol ∷ 0 ∷ 0 ∷ 0 ∷ 0 ∷ []
+bytes p = p .number ∷ p .kind ∷ p .position ∷ p .symbol ∷ p .secondPosition ∷ p .secondSymbol ∷ 0 ∷ 0 ∷ []
 
 unfoldable pub packed : Report → ℕ
 packed a = joined (bytes (partsOf a))
@@ -59,7 +71,15 @@ pub record PackedAllows (i : ℕ) (u : List ℕ) (r : ℕ) (first first′ secon
 
 -- what the macros of include/fogzurt.h take out
 abbrev pub unpacked : ℕ → Parts
-unpacked n = record { number = byte 0 n; kind = byte 1 n; position = byte 2 n; symbol = byte 3 n }
+unpacked n =
+    record {
+      number = byte 0 n;
+      kind = byte 1 n;
+      position = byte 2 n;
+      symbol = byte 3 n;
+      secondPosition = byte 4 n;
+      secondSymbol = byte 5 n;
+    }
 
 -- each part is a byte
 pub record Within (p : Parts) : Type 0 where
@@ -67,3 +87,5 @@ pub record Within (p : Parts) : Type 0 where
   pub kind : p .kind ≤ 255
   pub position : p .position ≤ 255
   pub symbol : p .symbol ≤ 255
+  pub secondPosition : p .secondPosition ≤ 255
+  pub secondSymbol : p .secondSymbol ≤ 255

@@ -2,11 +2,13 @@
 ghost use mathlib.Core.Path.{_≡_};
 ghost use mathlib.Core.List.{[], _∷_};
 ghost use lib.ListN.{length};
-ghost use Rattle.code_theory.specs.Operations.{encodeRefusal, encodeOutput, outcomeNumber};
+ghost use Rattle.code_theory.specs.Reading.{filled};
+ghost use Rattle.code_theory.specs.Operations.{encodeRefusal, encodeOutput, outcomeNumber, success};
 ghost use Rattle.queue_theory.specs.Allowed.{FormatAllows, EnqueueAllows, PeekAllows, DequeueAllows};
 ghost use Rattle.encoder.specs.Answer.{encodedOutcome};
-ghost use Rattle.decoder.specs.Decode.{decodedReport};
+ghost use Rattle.decoder.specs.Decode.{changesIn, decodedReport};
 ghost use Rattle.fogzurt.specs.Packed.{partsOf, joined, packed, PackedAllows, Within};
+use decoder::Changes;
 use decoder::Decoded;
 use encoder::Encoded;
 use modular::wide64;
@@ -15,6 +17,8 @@ use modular::wide64;
 const CLEAN: u8 = 1;
 
 const CORRECTED: u8 = 2;
+
+const FILLED: u8 = 3;
 
 // 01: Write.
 #[no_mangle]
@@ -49,11 +53,41 @@ pub extern "C" fn fogzurt_decode(
     pack(decoder::decode(profile, word, first, second))
 }
 
-// The four lowest bytes of an answer, the number lowest.
-fn join(number: u8, kind: u8, position: u8, symbol: u8) -> u64
-    ensures { λ r. ⌜ r ≡ joined (number ∷ kind ∷ position ∷ symbol ∷ 0 ∷ 0 ∷ 0 ∷ 0 ∷ []) ⌝ }
+// The six lowest bytes of an answer, the number lowest.
+fn join(
+    number: u8,
+    kind: u8,
+    position: u8,
+    symbol: u8,
+    second_position: u8,
+    second_symbol: u8,
+) -> u64
+    ensures { λ r. ⌜ r ≡ joined (number ∷ kind ∷ position ∷ symbol ∷ «second_position» ∷ «second_symbol» ∷ 0 ∷ 0 ∷ []) ⌝ }
 {
-    wide64(number) + wide64(kind) * 256 + wide64(position) * 65536 + wide64(symbol) * 16777216
+    wide64(number)
+        + wide64(kind) * 256
+        + wide64(position) * 65536
+        + wide64(symbol) * 16777216
+        + wide64(second_position) * 4294967296
+        + wide64(second_symbol) * 1099511627776
+}
+
+// A filled word, in one number.
+fn pack_filled(changes: Changes) -> u64
+    requires { ⌜ Within (partsOf (success (filled (changesIn changes)))) ⌝ }
+    ensures { λ r. ⌜ r ≡ packed (success (filled (changesIn changes))) ⌝ }
+{
+    match changes {
+        Changes::One(c) => join(0, FILLED, c.position as u8, c.symbol, 0, 0),
+        Changes::Two(c, d) => join(
+            0,
+            FILLED,
+            c.position as u8,
+            c.symbol,
+            d.position as u8,
+            d.symbol,
+        ),
+    }
 }
 
 // Decode's answer in one number.
@@ -62,10 +96,11 @@ fn pack(answer: Decoded) -> u64
     ensures { λ r. ⌜ r ≡ packed (decodedReport answer) ⌝ }
 {
     match answer {
-        Decoded::Clean => join(0, CLEAN, 0, 0),
-        Decoded::Corrected(c) => join(0, CORRECTED, c.position as u8, c.symbol),
-        Decoded::Unreadable => join(4, 0, 0, 0),
-        Decoded::Refused(number) => join(number, 0, 0, 0),
+        Decoded::Clean => join(0, CLEAN, 0, 0, 0, 0),
+        Decoded::Corrected(c) => join(0, CORRECTED, c.position as u8, c.symbol, 0, 0),
+        Decoded::Filled(changes) => pack_filled(changes),
+        Decoded::Unreadable => join(4, 0, 0, 0, 0, 0),
+        Decoded::Refused(number) => join(number, 0, 0, 0, 0, 0),
     }
 }
 

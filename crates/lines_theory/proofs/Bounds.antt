@@ -1,24 +1,29 @@
--- What a reading prints is small: the place has at most two digits, the symbol and the symbols of the messages one.
+-- What a reading prints is small: a place has at most two digits, its symbol and the symbols of the messages one.
 -- Assumes nothing.
 use mathlib.Core.Path.{_≡_, refl, subst}
 use mathlib.Core.Bool.{Bool, true, false, _&&_}
 use mathlib.Core.List.{List, [], _∷_}
-use Prim.Native.Nat.{ℕ, zero, suc, _≤_, _<_, zero-le}
-use native.Mathlib.Nat.{le-trans}
+use Prim.Native.Nat.{ℕ, zero, suc, _+_, _^_, _≤_, _<_, zero-le}
+use native.Mathlib.Nat.{le-trans, le-of-lt}
 use native.Mathlib.Numerals.{add-one}
+use native.Mathlib.Omega.{arith}
 use lib.Dec.{lit≤, T, leb, ltb, eqb, leb→le, eqb→eq}
-use lib.ListN.{length, set, getD}
+use lib.ListN.{length, set, getD, drop}
+use lib.Seq.{getD-drop}
 use borrow.Author.Tests.{ltb-true}
 use Rattle.modular_theory.specs.Search.{allBelow}
+use Rattle.modular_theory.specs.Digits.{digits}
 use Rattle.modular_theory.proofs.Search.{and-left, and-right, least-le}
 use Rattle.modular_theory.proofs.Residue.{minus-below}
+use Rattle.modular_theory.proofs.Digits.{digits-below}
 use Rattle.code_theory.specs.Parameters.{Parameters, messageLength, codewordLength}
 use Rattle.code_theory.specs.Refusal.{Test, firstRefusal}
-use Rattle.code_theory.specs.Component.{Below, message, inCode}
+use Rattle.code_theory.specs.Component.{Below, message, inCode, erasure}
 use Rattle.code_theory.specs.Balance.{differences}
 use Rattle.code_theory.specs.Codeword.{alternate, received, restored, carried, codeword, body}
-use Rattle.code_theory.specs.Reading.{Finding, correctionAt, clean, corrected, correction}
-use Rattle.code_theory.specs.Reading.{Reading, read, unreadable, readAs, reading, nearReading}
+use Rattle.code_theory.specs.Erasures.{erasures, fill, filling, firstFilling}
+use Rattle.code_theory.specs.Reading.{Change, Finding, correctionAt, clean, corrected, filled, changesOf, changesAt}
+use Rattle.code_theory.specs.Reading.{Reading, read, unreadable, readAs, reading, nearReading, filledReading, receivedReading}
 use Rattle.code_theory.specs.Reading.{mends, changedAt, sentAt}
 use Rattle.code_theory.specs.Profiles.{profiles, isProfile, profile}
 use Rattle.code_theory.specs.Operations.{Answer, refused, answered, decodeTests, readUnless, decodeAnswer}
@@ -26,6 +31,7 @@ use Rattle.code_theory.proofs.Refusal.{AllPass, passed-every, number-most}
 use Rattle.code_theory.proofs.Weights.{differences-below}
 use Rattle.code_theory.proofs.Merge.{cases, below-keep}
 use Rattle.code_theory.proofs.Profiles.{every-profile}
+use Rattle.lines_theory.specs.Sizes.{ChangesWithin}
 
 -- The symbols of a message are below q.
 
@@ -57,13 +63,13 @@ below-carried p h b u =
 -- A reading.
 
 SmallReading : ℕ → ℕ → Reading → Type 0
-SmallReading n q (read f a b) = (correction f .position ≤ n) × (correction f .symbol ≤ q) × Below q a × Below q b
+SmallReading n q (read f a b) = ChangesWithin n q (changesOf f) × Below q a × Below q b
 SmallReading n q unreadable = Unit {0}
 
-read-as : (p : Parameters) → 1 ≤ p .q → (f : Finding) (n : ℕ) (u : List ℕ) → correction f .position ≤ n → correction f .symbol ≤ p .q
+read-as : (p : Parameters) → 1 ≤ p .q → (f : Finding) (n : ℕ) (u : List ℕ) → ChangesWithin n (p .q) (changesOf f)
     → SmallReading n (p .q) (readAs p f u)
 unfolding SmallReading
-read-as p h f n u a b = (a, b, below-carried p h true u, below-carried p h false u)
+read-as p h f n u s = (s, below-carried p h true u, below-carried p h false u)
 
 near-small : (p : Parameters) → 1 ≤ p .q → (u : List ℕ) → SmallReading (length u) (p .q) (nearReading p u)
 unfolding nearReading SmallReading sentAt
@@ -73,20 +79,40 @@ near-small p h u =
     cases (ltb i (length u))
     (λ e.
     rw (e, nearReading)
-    (read-as p h found (length u) _ (rw add-one (ltb-true i (length u) e)) (least-le (mends p u i) (p .q))))
+    (read-as p h found (length u) _ (rw add-one (ltb-true i (length u) e), least-le (mends p u i) (p .q), tt)))
     (λ e. rw (e, nearReading) tt)
 
 reading-small : (p : Parameters) → 1 ≤ p .q → (u : List ℕ) → SmallReading (length u) (p .q) (reading p u)
 unfolding reading
 reading-small p h u =
-    cases (codeword p u) (λ e. rw (e, reading) (read-as p h clean (length u) u zero-le zero-le)) (λ e. rw (e, reading) (near-small p h u))
+    cases (codeword p u) (λ e. rw (e, reading) (read-as p h clean (length u) u (zero-le, zero-le, tt)))
+    (λ e. rw (e, reading) (near-small p h u))
+
+-- the symbols at erased positions are those that fill them, whatever the others are
+changes-within : (n q i : ℕ) (v ys : List ℕ) → i + length v ≤ suc n → Below q ys → ChangesWithin n q (changesAt i v (fill v ys))
+changes-within n q i [] ys h b = tt
+changes-within n q i (x ∷ v) ys h b =
+    cases (eqb x erasure)
+    (λ e.
+    rw (e, fill, e, changesAt)
+    (omega arith, le-of-lt (b 0), changes-within n q (suc i) v (drop 1 ys) (omega arith) (λ j. rw getD-drop (b (1 + j)))))
+    (λ e. rw (e, fill, e, changesAt) (changes-within n q (suc i) v ys (omega arith) b))
+
+filled-small : (p : Parameters) → 1 ≤ p .q → (v : List ℕ) → SmallReading (length v) (p .q) (filledReading p v)
+unfolding filledReading filling SmallReading
+filled-small p h v =
+    let e = firstFilling p v in
+    let ys = digits (p .q) (erasures v) e in
+    let small = changes-within (length v) (p .q) 1 v ys (omega arith) (λ j. digits-below (p .q) (erasures v) e j h) in
+    cases (ltb e (p .q ^ erasures v)) (λ t. rw (t, filledReading) (read-as p h (filled (changesAt 1 v (fill v ys))) (length v) _ small))
+    (λ t. rw (t, filledReading) tt)
+
+received-small : (p : Parameters) → 1 ≤ p .q → (v : List ℕ) → SmallReading (length v) (p .q) (receivedReading p v)
+unfolding receivedReading
+received-small p h v =
+    cases (eqb (erasures v) 0) (λ e. rw (e, receivedReading) (reading-small p h v)) (λ e. rw (e, receivedReading) (filled-small p h v))
 
 -- An answer.
-
-abbrev pub SmallAnswer : Answer → Type 0
-SmallAnswer (refused n) = n ≤ 9
-SmallAnswer (answered unreadable) = Unit {0}
-SmallAnswer (answered (read f a b)) = (correction f .position ≤ 99) × (correction f .symbol ≤ 9) × Below 10 a × Below 10 b
 
 -- the numbers of a profile
 smallRow : ℕ → Bool
@@ -106,10 +132,23 @@ small-row i h =
       leb→le _ _ (and-right (leb 1 (profile i .q)) _ g),
     )
 
+small-changes : (n q : ℕ) (cs : List Change) → n ≤ 99 → q ≤ 9 → ChangesWithin n q cs → ChangesWithin 99 9 cs
+small-changes n q [] h g s = tt
+small-changes n q (c ∷ cs) h g s = (le-trans (s .0) h, le-trans (s .1) g, small-changes n q cs h g (s .2))
+
+-- at most two digits for a refusal's number and for a position, one for a symbol
+abbrev pub SmallAnswer : Answer → Type 0
+SmallAnswer (refused n) = n ≤ 99
+SmallAnswer (answered unreadable) = Unit {0}
+SmallAnswer (answered (read f a b)) = ChangesWithin 99 9 (changesOf f) × Below 10 a × Below 10 b
+
 small-reading : (n q : ℕ) (r : Reading) → n ≤ 99 → q ≤ 9 → SmallReading n q r → SmallAnswer (answered r)
 unfolding SmallReading
-small-reading n q (read f a b) h g s =
-    (le-trans (s .0) h, le-trans (s .1) g, (λ i. le-trans (s .2 i) (le-trans g (lit≤ tt))), (λ i. le-trans (s .3 i) (le-trans g (lit≤ tt))))
+small-reading n q (read f a b) h g s = (
+  small-changes n q (changesOf f) h g (s .0),
+  (λ i. le-trans (s .1 i) (le-trans g (lit≤ tt))),
+  (λ i. le-trans (s .2 i) (le-trans g (lit≤ tt))),
+)
 small-reading n q unreadable h g s = tt
 
 pub decode-small : (i : ℕ) (u : List ℕ) (k l : ℕ) → SmallAnswer (decodeAnswer i u k l)
@@ -119,14 +158,14 @@ decode-small i u k l = go (firstRefusal tests) refl
     tests : List Test
     tests = decodeTests i u k l
 
-    full : AllPass (decodeTests i u k l) → SmallAnswer (answered (reading (profile i) u))
+    full : AllPass (decodeTests i u k l) → SmallAnswer (answered (receivedReading (profile i) u))
     full (known, (lengths, rest)) =
         let n = codewordLength (profile i) in
         let (few, some, low) = small-row i known in
         let two = eqb (length u) n && eqb k (messageLength (profile i)) in
         let long : length u ≡ n = eqb→eq _ _ (and-left (eqb (length u) n) _ (and-left two _ lengths)) in
-        small-reading (length u) (profile i .q) (reading (profile i) u) (rw long few) low (reading-small (profile i) some u)
+        small-reading (length u) (profile i .q) (receivedReading (profile i) u) (rw long few) low (received-small (profile i) some u)
 
-    go : (n : ℕ) → firstRefusal tests ≡ n → SmallAnswer (readUnless n (reading (profile i) u))
+    go : (n : ℕ) → firstRefusal tests ≡ n → SmallAnswer (readUnless n (receivedReading (profile i) u))
     go zero e = full (passed-every tests tt e)
-    go (suc n) e = subst (λ (m : ℕ). m ≤ 9) e (number-most 9 tests tt)
+    go (suc n) e = subst (λ (m : ℕ). m ≤ 99) e (number-most 99 tests tt)

@@ -1,12 +1,13 @@
--- 01's example and short inputs, computed.
+-- 01's example, words with question marks and short inputs, computed.
 -- Assumes nothing.
 use mathlib.Core.Path.{refl}
 use Rattle.modular_theory.specs.Residue.{minus}
 use Rattle.code_theory.specs.Parameters.{balancingValue, delta}
 use Rattle.code_theory.specs.Component.{syndrome, inCode, message, isCheck}
+use Rattle.code_theory.specs.Erasures.{filling, firstFilling}
 use Rattle.code_theory.specs.Codeword.{alpha, beta, body, received, nearCode, restored, isBalanced}
 use Rattle.code_theory.specs.Codeword.{hasChecks, nearComponents, hasComponents, codeword, carried}
-use Rattle.code_theory.specs.Reading.{mends, changedAt, sentAt, nearReading, reading}
+use Rattle.code_theory.specs.Reading.{mends, changedAt, sentAt, nearReading, reading, filledReading, receivedReading}
 use Rattle.code_theory.specs.Profiles.{profile}
 use Rattle.code_theory.specs.Operations.{decodeAnswer}
 use Rattle.lines_theory.specs.Line.{hasForm, decimal, refusalLine, readingLine, readAnswer, lineAnswer}
@@ -15,6 +16,6 @@ use Rattle.lines_theory.specs.Examples.{AllPrint, examples}
 
 pub examples-print : AllPrint examples
 unfolding minus balancingValue delta syndrome inCode isCheck message alpha beta body received nearCode restored isBalanced hasChecks
-    nearComponents hasComponents codeword carried mends changedAt sentAt nearReading reading profile decodeAnswer hasForm decimal
-    refusalLine readingLine readAnswer lineAnswer streamOutput
-examples-print = (refl, (refl, (refl, (refl, (refl, (refl, (refl, (refl, (refl, tt)))))))))
+    nearComponents hasComponents codeword carried mends changedAt sentAt nearReading reading filling firstFilling filledReading
+    receivedReading profile decodeAnswer hasForm decimal refusalLine readingLine readAnswer lineAnswer streamOutput
+examples-print = (refl, (refl, (refl, (refl, (refl, (refl, (refl, (refl, (refl, (refl, tt))))))))))

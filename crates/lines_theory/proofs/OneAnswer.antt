@@ -7,13 +7,13 @@ use Prim.Native.Nat.{ℕ, zero, suc, _+_, _/_, _%_}
 use native.Mathlib.Omega.{arith}
 use lib.Dec.{eqb, ltb}
 use borrow.Author.Tests.{ne-eqb}
-use Rattle.code_theory.specs.Reading.{Finding, clean, corrected, correction, read, unreadable, reading}
+use Rattle.code_theory.specs.Reading.{Change, Finding, clean, corrected, filled, changesOf, read, unreadable, receivedReading}
 use Rattle.code_theory.specs.Profiles.{profile}
 use Rattle.code_theory.specs.Refusal.{firstRefusal}
 use Rattle.code_theory.specs.Operations.{Answer, refused, answered, readUnless}
 use Rattle.code_theory.proofs.Merge.{cases}
 use Rattle.lines_theory.specs.Line.{digitByte, decimalBefore, decimal, letter, refusalLine}
-use Rattle.lines_theory.specs.Line.{readingLine, answerLine, profileOf, symbolsOf}
+use Rattle.lines_theory.specs.Line.{changesBefore, readingLine, answerLine, profileOf, symbolsOf}
 use Rattle.lines_theory.specs.Line.{lineTests, lineAnswer}
 use Rattle.lines_theory.specs.Feed.{Partial, held, tooLong, answerTo, answerAtEnd, lineAfterAll, lineEnds, lastLines}
 use Rattle.lines_theory.specs.Claims.{OneAnswerEach}
@@ -50,26 +50,29 @@ ends-words a b = ends-digits a (32 ∷ (map digitByte b ++ 10 ∷ [])) ∙ ends-
 ends-letter : (f : Finding) (t : List ℕ) → lineEnds (letter f ∷ t) ≡ lineEnds t
 ends-letter clean t = refl
 ends-letter (corrected c) t = refl
+ends-letter (filled cs) t = refl
 
-ends-reading : (i : ℕ) (k : Finding) (position y : ℕ) (a b : List ℕ) → lineEnds (readingLine i (letter k) position y a b) ≡ 1
+ends-changes : (cs : List Change) (t : List ℕ) → lineEnds (changesBefore cs t) ≡ lineEnds t
+ends-changes [] t = refl
+ends-changes (c ∷ cs) t =
+    let rest : List ℕ = 32 ∷ changesBefore cs t in
+    ends-decimal (c .position) (32 ∷ decimal (c .symbol) rest) ∙ ends-decimal (c .symbol) rest ∙ ends-changes cs t
+
+ends-reading : (i : ℕ) (f : Finding) (cs : List Change) (a b : List ℕ) → lineEnds (readingLine i (letter f) cs a b) ≡ 1
 unfolding readingLine
-ends-reading i k position y a b =
-    let words : List ℕ = 32 ∷ (map digitByte a ++ 32 ∷ (map digitByte b ++ 10 ∷ [])) in
-    let rest : List ℕ = 32 ∷ decimal y words in
-    ends-digit i (32 ∷ letter k ∷ 32 ∷ decimal position rest)
-    ∙ ends-letter k (32 ∷ decimal position rest)
-    ∙ ends-decimal position rest
-    ∙ ends-decimal y words
-    ∙ ends-words a b
+ends-reading i f cs a b =
+    let words : List ℕ = map digitByte a ++ 32 ∷ (map digitByte b ++ 10 ∷ []) in
+    let rest : List ℕ = 32 ∷ changesBefore cs words in
+    ends-digit i (32 ∷ letter f ∷ rest) ∙ ends-letter f rest ∙ ends-changes cs words ∙ ends-words a b
 
 ends-answer : (i : ℕ) (a : Answer) → lineEnds (answerLine i a) ≡ 1
 ends-answer i (refused n) = ends-refusal n
 ends-answer i (answered unreadable) = ends-refusal 4
-ends-answer i (answered (read f a b)) = ends-reading i f (correction f .position) (correction f .symbol) a b
+ends-answer i (answered (read f a b)) = ends-reading i f (changesOf f) a b
 
 ends-line : (l : List ℕ) → lineEnds (lineAnswer l) ≡ 1
 unfolding lineAnswer
-ends-line l = ends-answer (profileOf l) (readUnless (firstRefusal (lineTests l)) (reading (profile (profileOf l)) (symbolsOf l)))
+ends-line l = ends-answer (profileOf l) (readUnless (firstRefusal (lineTests l)) (receivedReading (profile (profileOf l)) (symbolsOf l)))
 
 -- where byte 10 ends the line, and where the input does
 

@@ -1,4 +1,4 @@
--- Document 01's example of the line program, byte for byte, and short inputs that end in every way.
+-- Document 01's example of the line program, byte for byte, words with 02's question marks, and short inputs that end in every way.
 -- Assumes nothing.
 use mathlib.Core.Path.{_≡_}
 use mathlib.Core.List.{List, [], _∷_, _++_}
@@ -28,6 +28,29 @@ exampleOutput =
     ++ (82 ∷ 32 ∷ 50 ∷ 10 ∷ [])
     ++ (82 ∷ 32 ∷ 57 ∷ 10 ∷ [])
 
+-- 02's question marks in a word: one, two, one where another symbol is wrong, three, and nothing else; then one for the profile, and
+-- byte 47, which less 48 would be 255 in a byte
+abbrev pub erasedInput : List ℕ
+erasedInput =
+    (49 ∷ 32 ∷ 49 ∷ 50 ∷ 48 ∷ 48 ∷ 48 ∷ 63 ∷ 49 ∷ 49 ∷ 49 ∷ 49 ∷ 49 ∷ 49 ∷ 49 ∷ 49 ∷ 49 ∷ 50 ∷ 50 ∷ 50 ∷ 48 ∷ 10 ∷ [])
+    ++ (49 ∷ 32 ∷ 63 ∷ 50 ∷ 63 ∷ 48 ∷ 48 ∷ 49 ∷ 49 ∷ 49 ∷ 49 ∷ 49 ∷ 49 ∷ 49 ∷ 49 ∷ 49 ∷ 49 ∷ 50 ∷ 50 ∷ 50 ∷ 48 ∷ 10 ∷ [])
+    ++ (49 ∷ 32 ∷ 63 ∷ 50 ∷ 48 ∷ 48 ∷ 48 ∷ 50 ∷ 49 ∷ 49 ∷ 49 ∷ 49 ∷ 49 ∷ 49 ∷ 49 ∷ 49 ∷ 49 ∷ 50 ∷ 50 ∷ 50 ∷ 48 ∷ 10 ∷ [])
+    ++ (49 ∷ 32 ∷ 63 ∷ 63 ∷ 63 ∷ 48 ∷ 48 ∷ 49 ∷ 49 ∷ 49 ∷ 49 ∷ 49 ∷ 49 ∷ 49 ∷ 49 ∷ 49 ∷ 49 ∷ 50 ∷ 50 ∷ 50 ∷ 48 ∷ 10 ∷ [])
+    ++ (49 ∷ 32 ∷ 63 ∷ 10 ∷ [])
+    ++ (63 ∷ 32 ∷ 49 ∷ 10 ∷ [])
+    ++ (49 ∷ 32 ∷ 47 ∷ 10 ∷ [])
+
+-- and what is printed for each
+abbrev pub erasedOutput : List ℕ
+erasedOutput =
+    (49 ∷ 32 ∷ 70 ∷ 32 ∷ 54 ∷ 32 ∷ 49 ∷ 32 ∷ 48 ∷ 48 ∷ 48 ∷ 48 ∷ 49 ∷ 32 ∷ 48 ∷ 48 ∷ 48 ∷ 48 ∷ 48 ∷ 10 ∷ [])
+    ++ (49 ∷ 32 ∷ 70 ∷ 32 ∷ 49 ∷ 32 ∷ 49 ∷ 32 ∷ 51 ∷ 32 ∷ 48 ∷ 32 ∷ 48 ∷ 48 ∷ 48 ∷ 48 ∷ 49 ∷ 32 ∷ 48 ∷ 48 ∷ 48 ∷ 48 ∷ 48 ∷ 10 ∷ [])
+    ++ (82 ∷ 32 ∷ 52 ∷ 10 ∷ [])
+    ++ (82 ∷ 32 ∷ 49 ∷ 49 ∷ 10 ∷ [])
+    ++ (82 ∷ 32 ∷ 50 ∷ 10 ∷ [])
+    ++ (82 ∷ 32 ∷ 57 ∷ 10 ∷ [])
+    ++ (82 ∷ 32 ∷ 57 ∷ 10 ∷ [])
+
 -- "R 9" and byte 10
 abbrev pub nine : List ℕ
 nine = 82 ∷ 32 ∷ 57 ∷ 10 ∷ []
@@ -44,10 +67,12 @@ AllPrint (c ∷ cs) = (streamOutput (c .input) ≡ c .output) × AllPrint cs
 abbrev example : List ℕ → List ℕ → Example
 example s o = record { input = s; output = o }
 
--- 01's example; no input; one byte 10 and two; an unended line; a line of 101 bytes (refused by 4) and lines of 102, ended and not
+-- 01's example; question marks; no input; one byte 10 and two; an unended line; a line of 101 bytes (refused by 4) and lines of 102, ended
+-- and not
 abbrev pub examples : List Example
 examples =
     example exampleInput exampleOutput
+    ∷ example erasedInput erasedOutput
     ∷ example [] []
     ∷ example (10 ∷ []) nine
     ∷ example (10 ∷ 10 ∷ []) (nine ++ nine)

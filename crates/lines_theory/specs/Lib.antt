@@ -1,4 +1,5 @@
 pub mod Line
+pub mod Sizes
 pub mod Stream
 pub mod Feed
 pub mod Examples

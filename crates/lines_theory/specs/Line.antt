@@ -1,14 +1,15 @@
 -- The answer to one line (01: The line program), as bytes.
 -- Assumes nothing.
-use mathlib.Core.Bool.{Bool, true, false, _&&_}
+use mathlib.Core.Bool.{Bool, true, false, _&&_, _||_}
 use mathlib.Core.List.{List, [], _∷_, _++_, map}
 use Prim.Native.Nat.{ℕ, zero, suc, _+_, _-_, _/_, _%_}
 use lib.Dec.{leb, ltb, eqb}
 use lib.ListN.{length, getD, drop}
 use Rattle.code_theory.specs.Parameters.{messageLength}
 use Rattle.code_theory.specs.Profiles.{profile}
+use Rattle.code_theory.specs.Component.{erasure}
 use Rattle.code_theory.specs.Refusal.{Test, asks, firstRefusal}
-use Rattle.code_theory.specs.Reading.{Finding, clean, corrected, correction, read, unreadable, reading}
+use Rattle.code_theory.specs.Reading.{Change, Finding, clean, corrected, filled, changesOf, read, unreadable, receivedReading}
 use Rattle.code_theory.specs.Operations.{Answer, refused, answered, decodeTests, readUnless, decodeAnswer}
 
 -- What goes in. A line is the list of its bytes, without the byte 10 that ends it.
@@ -17,13 +18,20 @@ use Rattle.code_theory.specs.Operations.{Answer, refused, answered, decodeTests
 abbrev pub isDigit : ℕ → Bool
 isDigit b = leb 48 b && leb b 57
 
-abbrev pub digitsOnly : List ℕ → Bool
-digitsOnly [] = true
-digitsOnly (b ∷ bs) = isDigit b && digitsOnly bs
+-- 02: "In boxlines a mark is a question mark"; a mark is an erasure
+abbrev pub isQuestionMark : ℕ → Bool
+isQuestionMark b = eqb b 63
 
--- 01: a digit, one space, one or more digits
+abbrev pub isSymbol : ℕ → Bool
+isSymbol b = isDigit b || isQuestionMark b
+
+abbrev pub symbolsOnly : List ℕ → Bool
+symbolsOnly [] = true
+symbolsOnly (b ∷ bs) = isSymbol b && symbolsOnly bs
+
+-- 01: a digit, one space, one or more digits; 02: question marks among the latter
 unfoldable pub hasForm : List ℕ → Bool
-hasForm l = leb 3 (length l) && isDigit (getD l 0 0) && eqb (getD l 1 0) 32 && digitsOnly (drop 2 l)
+hasForm l = leb 3 (length l) && isDigit (getD l 0 0) && eqb (getD l 1 0) 32 && symbolsOnly (drop 2 l)
 
 -- 01: "a line of at most 101 bytes"
 abbrev pub isShort : List ℕ → Bool
@@ -33,12 +41,16 @@ isShort l = leb (length l) 101
 abbrev pub digitValue : ℕ → ℕ
 digitValue b = b - 48
 
+-- the symbol that a byte stands for
+abbrev pub symbolValue : ℕ → ℕ
+symbolValue b = elim (isQuestionMark b) [ true ↦ erasure | false ↦ digitValue b ]
+
 -- the profile of a line, and its symbols
 abbrev pub profileOf : List ℕ → ℕ
 profileOf l = digitValue (getD l 0 0)
 
 abbrev pub symbolsOf : List ℕ → List ℕ
-symbolsOf l = map digitValue (drop 2 l)
+symbolsOf l = map symbolValue (drop 2 l)
 
 -- What comes out.
 
@@ -55,25 +67,31 @@ decimalBefore (suc k) n after =
 unfoldable pub decimal : ℕ → List ℕ → List ℕ
 decimal n after = decimalBefore 20 n after
 
--- the letter of a kind, C or M (01: clean, mended)
+-- the letter of a kind, C or M (01: clean, mended); 02: "The kind is F"
 abbrev pub letter : Finding → ℕ
 letter clean = 67
 letter (corrected c) = 77
+letter (filled cs) = 70
 
 -- R, a space, the number
 unfoldable pub refusalLine : ℕ → List ℕ
 refusalLine n = 82 ∷ 32 ∷ decimal n (10 ∷ [])
 
--- profile, the kind's letter, place, sent symbol, first word, second word
-unfoldable pub readingLine : ℕ → ℕ → ℕ → ℕ → List ℕ → List ℕ → List ℕ
-readingLine i c position y a b =
-    digitByte i ∷ 32 ∷ c ∷ 32 ∷ decimal position (32 ∷ decimal y (32 ∷ (map digitByte a ++ 32 ∷ (map digitByte b ++ 10 ∷ []))))
+-- 02: "for each marked place, in rising order, by the place and the symbol sent", before what follows; 01 has one of each
+abbrev pub changesBefore : List Change → List ℕ → List ℕ
+changesBefore [] after = after
+changesBefore (c ∷ cs) after = decimal (c .position) (32 ∷ decimal (c .symbol) (32 ∷ changesBefore cs after))
+
+-- profile, the kind's letter, place and sent symbol of each change, first word, second word
+unfoldable pub readingLine : ℕ → ℕ → List Change → List ℕ → List ℕ → List ℕ
+readingLine i c cs a b =
+    digitByte i ∷ 32 ∷ c ∷ 32 ∷ changesBefore cs (map digitByte a ++ 32 ∷ (map digitByte b ++ 10 ∷ []))
 
 -- the output for what Read answers of a word of profile i
 abbrev pub answerLine : ℕ → Answer → List ℕ
 answerLine i (refused n) = refusalLine n
 answerLine i (answered unreadable) = refusalLine 4
-answerLine i (answered (read f a b)) = readingLine i (letter f) (correction f .position) (correction f .symbol) a b
+answerLine i (answered (read f a b)) = readingLine i (letter f) (changesOf f) a b
 
 -- Read, with outputs of the profile's length: what is tested, and what is answered
 abbrev pub readTests : ℕ → List ℕ → List Test
@@ -88,7 +106,7 @@ lineTests l = asks (isShort l && hasForm l) 9 ∷ readTests (profileOf l) (symbo
 
 -- the output for a line: the number n that refuses it, or what is read where n is 0
 abbrev pub lineUnless : ℕ → List ℕ → List ℕ
-lineUnless n l = answerLine (profileOf l) (readUnless n (reading (profile (profileOf l)) (symbolsOf l)))
+lineUnless n l = answerLine (profileOf l) (readUnless n (receivedReading (profile (profileOf l)) (symbolsOf l)))
 
 -- 01: the answer to a line
 unfoldable pub lineAnswer : List ℕ → List ℕ

@@ -1,6 +1,8 @@
 -- The table of profiles
 pub mod Table
--- The levels of a word
+-- The symbols of a word
 pub mod Highest
+pub mod Received
 -- The refusals
 pub mod Refusing
+pub mod Screening

@@ -1,57 +1,70 @@
--- By which of 01's numbers 1 to 3 a call is refused: 1 where the number is no profile's, and by a profile's row 2 and 3, by a test of the
--- lengths and one of the symbols. And what is known of a call that no number refuses.
+-- By which of 01's numbers 1 to 3, and 02's 11, a call is refused: 1 where the number is no profile's, and by a profile's row 2 and 3, by a
+-- test of the lengths and one of the symbols, and then 11. And what is known of a call that no number refuses.
 -- Assumes nothing.
 use mathlib.Core.Path.{_≡_, refl, sym, ap, _∙_}
 use mathlib.Core.Logic.{_≢_}
 use mathlib.Core.Bool.{Bool, true, false, _&&_}
 use mathlib.Core.List.{List, [], _∷_}
-use Prim.Native.Nat.{ℕ}
+use Prim.Native.Nat.{ℕ, zero, suc, _≤_}
 use native.Mathlib.Omega.{arith}
-use lib.Dec.{T, eqb, eqb→eq}
+use lib.Dec.{T, eqb, leb, eqb→eq}
 use lib.ListN.{length}
+use borrow.Author.Tests.{leb-true}
 use Rattle.modular_theory.proofs.Search.{eq-test, and-intro, and-left, and-right, passes}
 use Rattle.code_theory.specs.Parameters.{messageLength, codewordLength}
-use Rattle.code_theory.specs.Component.{symbolsBelow, isWord}
+use Rattle.code_theory.specs.Component.{symbolsBelow, levelsOrErasures, isWord}
+use Rattle.code_theory.specs.Erasures.{erasures, mostErasures}
 use Rattle.code_theory.specs.Profiles.{isProfile, profile}
-use Rattle.code_theory.specs.Reading.{Reading, reading}
-use Rattle.code_theory.specs.Refusal.{asks, firstRefusal}
+use Rattle.code_theory.specs.Reading.{Reading, receivedReading}
+use Rattle.code_theory.specs.Refusal.{Test, asks, firstRefusal}
 use Rattle.code_theory.specs.Operations.{Answer, refused, answered, encodeRefusal, readUnless, decodeAnswer}
+use Rattle.code_theory.proofs.Merge.{cases}
 use Rattle.profiles.specs.declared.row.Row.{Row}
-use Rattle.profiles.specs.Row.{RowOf}
-use Rattle.profiles.specs.Refusal.{numberBy, encodeNumber, decodeNumber}
+use Rattle.profiles.specs.Row.{parameters, RowOf}
+use Rattle.profiles.specs.Refusal.{encodeNumber, decodeNumber, erasureNumber}
 use Rattle.profiles.proofs.Table.{levels-are, message-is, codeword-is}
 
--- The number by the two tests.
+-- The number by the two tests and those after them.
 
--- n is the number by the tests of the lengths and of the symbols
-pub record Tested (n : ℕ) (e s : Bool) : Type 0 where
-  is : n ≡ numberBy e s
+-- 2 where a length is wrong, then 3 where a symbol is, then what other tests say; 0 where all pass
+abbrev numberBy : Bool → Bool → List Test → ℕ
+numberBy lengths symbols others = firstRefusal (asks lengths 2 ∷ asks symbols 3 ∷ others)
 
-module _ {n : ℕ} {e s : Bool} (h : Tested n e s) where
+-- 11 where more than `most` symbols are erased
+abbrev erasureTests : ℕ → List ℕ → List Test
+erasureTests most u = asks (leb (erasures u) most) 11 ∷ []
+
+-- n is the number by these tests
+pub record Tested (n : ℕ) (e s : Bool) (others : List Test) : Type 0 where
+  is : n ≡ numberBy e s others
+
+module _ {n : ℕ} {e s : Bool} {others : List Test} (h : Tested n e s others) where
   pub refuses-length : e ≡ false → 2 ≡ n
   refuses-length f = rw (h .is, f)
 
   pub refuses-symbol : e ≡ true → s ≡ false → 3 ≡ n
   refuses-symbol f g = rw (h .is, f, g)
 
-  pub refuses-nothing : e ≡ true → s ≡ true → 0 ≡ n
-  refuses-nothing f g = rw (h .is, f, g)
+  pub tests-others : e ≡ true → s ≡ true → firstRefusal others ≡ n
+  tests-others f g = rw (h .is, f, g)
 
 pub encode-tests : (t : Row) (a b : List ℕ) (l : ℕ)
     → Tested (encodeNumber t a b l) (eqb (length a) (t .message) && eqb (length b) (t .message) && eqb l (t .codeword))
     (symbolsBelow (t .q) a && symbolsBelow (t .q) b)
+    []
 unfolding encodeNumber
 encode-tests t a b l = record { is = refl }
 
 pub decode-tests : (t : Row) (u : List ℕ) (k l : ℕ)
-    → Tested (decodeNumber t u k l) (eqb (length u) (t .codeword) && eqb k (t .message) && eqb l (t .message)) (symbolsBelow (t .q) u)
+    → Tested (decodeNumber t u k l) (eqb (length u) (t .codeword) && eqb k (t .message) && eqb l (t .message)) (levelsOrErasures (t .q) u)
+    (erasureTests (mostErasures (parameters t)) u)
 unfolding decodeNumber
 decode-tests t u k l = record { is = refl }
 
-both-pass : (e s : Bool) → numberBy e s ≡ 0 → T e × T s
-both-pass true true h = (tt, tt)
-both-pass true false h = absurd (omega arith)
-both-pass false s h = absurd (omega arith)
+all-pass : (e s : Bool) (others : List Test) → numberBy e s others ≡ 0 → T e × T s × (firstRefusal others ≡ 0)
+all-pass true true others h = (tt, tt, h)
+all-pass true false others h = absurd (omega arith)
+all-pass false s others h = absurd (omega arith)
 
 -- the lengths of three words, by one test
 pub three-lengths : (x y z a b c : ℕ) → T (eqb x a && eqb y b && eqb z c) → (x ≡ a) × (y ≡ b) × (z ≡ c)
@@ -95,7 +108,7 @@ module _ (i : ℕ) (a b : List ℕ) (l : ℕ) where
       }
 
   module _ {t : Row} (of : RowOf i t) where
-    by-profile : encodeNumber t a b l ≡ numberBy messages levels
+    by-profile : encodeNumber t a b l ≡ numberBy messages levels []
     unfolding encodeNumber
     by-profile = rw (message-is of, codeword-is of, levels-are of)
 
@@ -104,70 +117,69 @@ module _ (i : ℕ) (a b : List ℕ) (l : ℕ) where
     encode-by-row = by-profile ∙ ap encodeBy (sym (passes {b = isProfile i} (of .known)))
 
     pub accepted : encodeNumber t a b l ≡ 0 → Accepted i a b l
-    accepted z = let (fits, below) = both-pass messages levels (sym by-profile ∙ z) in accepted-by fits below
+    accepted z = let (fits, below, none) = all-pass messages levels [] (sym by-profile ∙ z) in accepted-by fits below
 
 -- Decoding: the received word u, and outputs of k and l symbols.
-
--- the answer by the two tests, where the word is read as d
-abbrev chosen : Reading → Bool → Bool → Answer
-chosen d e s = readUnless (numberBy e s) d
-
-chosen-refused : (d : Reading) (e s : Bool) → numberBy e s ≢ 0 → chosen d e s ≡ refused (numberBy e s)
-chosen-refused d true true h = absurd (h refl)
-chosen-refused d true false h = refl
-chosen-refused d false s h = refl
-
-chosen-read : (d : Reading) (e s : Bool) → T e × T s → chosen d e s ≡ answered d
-chosen-read d true true h = refl
-chosen-read d true false h = absurd (h .1)
-chosen-read d false s h = absurd (h .0)
 
 -- a call of decode that no number refuses: the word is read
 pub record Admitted (i : ℕ) (u : List ℕ) (k l : ℕ) : Type 0 where
   pub word-long : length u ≡ codewordLength (profile i)
   pub first-long : k ≡ messageLength (profile i)
   pub second-long : l ≡ messageLength (profile i)
-  pub below : T (symbolsBelow (profile i .q) u)
-  pub read : decodeAnswer i u k l ≡ answered (reading (profile i) u)
+  pub received : T (levelsOrErasures (profile i .q) u)
+  pub few : erasures u ≤ mostErasures (profile i)
+  pub read : decodeAnswer i u k l ≡ answered (receivedReading (profile i) u)
+
+unless-refused : (n : ℕ) (d : Reading) → n ≢ 0 → readUnless n d ≡ refused n
+unless-refused zero d h = absurd (h refl)
+unless-refused (suc n) d h = refl
+
+few-erased : (most : ℕ) (u : List ℕ) → erasureNumber most u ≡ 0 → erasures u ≤ most
+few-erased most u z =
+    cases (leb (erasures u) most) (leb-true (erasures u) most)
+    (λ (f : leb (erasures u) most ≡ false). absurd (omega (arith, rw f at z)))
 
 module _ (i : ℕ) (u : List ℕ) (k l : ℕ) where
   abbrev lengths : Bool
   lengths = eqb (length u) (codewordLength (profile i)) && eqb k (messageLength (profile i)) && eqb l (messageLength (profile i))
 
   abbrev symbols : Bool
-  symbols = symbolsBelow (profile i .q) u
+  symbols = levelsOrErasures (profile i .q) u
+
+  abbrev erasing : List Test
+  erasing = erasureTests (mostErasures (profile i)) u
 
   -- the answer by the test of the profile
   abbrev decodeBy : Bool → Answer
-  decodeBy p = readUnless (firstRefusal (asks p 1 ∷ asks lengths 2 ∷ asks symbols 3 ∷ [])) (reading (profile i) u)
+  decodeBy p = readUnless (firstRefusal (asks p 1 ∷ asks lengths 2 ∷ asks symbols 3 ∷ erasing)) (receivedReading (profile i) u)
 
   pub decode-refused : isProfile i ≡ false → decodeAnswer i u k l ≡ refused 1
   unfolding decodeAnswer
   decode-refused e = ap decodeBy e
 
   module _ {t : Row} (of : RowOf i t) where
-    number-is : decodeNumber t u k l ≡ numberBy lengths symbols
+    number-is : decodeNumber t u k l ≡ numberBy lengths symbols erasing
     unfolding decodeNumber
     number-is = rw (message-is of, codeword-is of, levels-are of)
 
-    answer-is : decodeAnswer i u k l ≡ chosen (reading (profile i) u) lengths symbols
+    answer-is : decodeAnswer i u k l ≡ readUnless (decodeNumber t u k l) (receivedReading (profile i) u)
     unfolding decodeAnswer
-    answer-is = ap decodeBy (passes {b = isProfile i} (of .known))
+    answer-is =
+        ap decodeBy (passes {b = isProfile i} (of .known)) ∙ ap (λ (n : ℕ). readUnless n (receivedReading (profile i) u)) (sym number-is)
 
     -- the number of a call that is refused
     pub refused-number : {n : ℕ} → n ≡ decodeNumber t u k l → n ≢ 0 → decodeAnswer i u k l ≡ refused n
-    refused-number {n} e h =
-        let is : n ≡ numberBy lengths symbols = e ∙ number-is in
-        rw is (answer-is ∙ chosen-refused (reading (profile i) u) lengths symbols (λ z. h (is ∙ z)))
+    refused-number {n} e h = answer-is ∙ rw (sym e) (unless-refused n (receivedReading (profile i) u) h)
 
     pub admitted : decodeNumber t u k l ≡ 0 → Admitted i u k l
     admitted z =
-        let passed = both-pass lengths symbols (sym number-is ∙ z) in
-        let (word, first, second) = three-lengths (length u) k l _ _ _ (passed .0) in
+        let (long, good, few) = all-pass lengths symbols erasing (sym number-is ∙ z) in
+        let (word, first, second) = three-lengths (length u) k l _ _ _ long in
         record {
           word-long = word;
           first-long = first;
           second-long = second;
-          below = passed .1;
-          read = answer-is ∙ chosen-read (reading (profile i) u) lengths symbols passed;
+          received = good;
+          few = few-erased (mostErasures (profile i)) u few;
+          read = answer-is ∙ ap (λ (n : ℕ). readUnless n (receivedReading (profile i) u)) z;
         }

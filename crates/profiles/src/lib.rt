@@ -1,11 +1,15 @@
-// The four profiles, the levels of their words, and what they refuse. Each function is total: it answers for any arguments, and says what.
+// The four profiles, the symbols of their words, and what they refuse. Each function is total: it answers for any arguments, and says what.
+mod erased;
 mod levels;
 mod refusals;
 mod row;
 
+pub use erased::ERASURE;
+pub use levels::is_received;
 pub use levels::symbols_below;
-pub use refusals::decode_refusal;
+pub use refusals::Screened;
 pub use refusals::encode_refusal;
+pub use refusals::screen;
 pub use row::Lookup;
 pub use row::Row;
 pub use row::row_of;

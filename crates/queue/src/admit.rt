@@ -1,8 +1,8 @@
 // What the operations refuse, in 01's order.
 use crate::Answer;
 use profiles::Lookup;
+use profiles::is_received;
 use profiles::row_of;
-use profiles::symbols_below;
 use soundness::Checked;
 ghost use mathlib.Core.Path.{_≡_};
 ghost use Rattle.code_theory.specs.Refusal.{firstRefusal};
@@ -34,7 +34,7 @@ pub(crate) fn admit(boxno: usize, profile: usize, word: &[u8]) -> Answer
     if word.len() != row.codeword {
         return Answer::Length;
     }
-    if !symbols_below(word, row.q) {
+    if !is_received(word, row.q) {
         return Answer::Symbol;
     }
     Answer::Done

@@ -17,7 +17,7 @@ pub enum Answer {
     NoProfile,
     // 2: the word or the output has the wrong length
     Length,
-    // 3: a symbol is not below the profile's levels
+    // 3: a symbol is neither one of the profile's levels nor an erasure
     Symbol,
     // 5: the bytes are not 104 times a number from 2 to 256
     QueueLength,

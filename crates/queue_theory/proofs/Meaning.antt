@@ -12,6 +12,7 @@ use Rattle.modular_theory.proofs.Search.{and-left, and-right, and-intro}
 use Rattle.code_theory.specs.Parameters.{codewordLength}
 use Rattle.code_theory.specs.Component.{isReceived}
 use Rattle.code_theory.specs.Profiles.{isProfile, profile}
+use Rattle.code_theory.proofs.Whole.{received-symbols}
 use Rattle.queue_theory.specs.Lists.{allZero, zeros}
 use Rattle.queue_theory.specs.Layout.{paddedSize, Size, bodySize, headerSize, capacity, cellBody, header}
 use Rattle.queue_theory.specs.Chains.{used, free}
@@ -76,7 +77,7 @@ module _ (b p : ℕ) (l : List ℕ) (long : length l ≡ paddedSize) (h : T (isR
         box-most = let h = leb→le b _ (and-right (leb 1 b) _ box-good) in omega arith;
         profiled = profile-good;
         long = word-long;
-        symbols = and-left (isReceived (profile p) word) (allZero rest) past-profile;
+        symbols = received-symbols (profile p) word .0 (and-left (isReceived (profile p) word) (allZero rest) past-profile);
         bytes = ap (λ (m : List ℕ). b ∷ p ∷ m) cut;
       }
 
@@ -93,7 +94,8 @@ module _ (r : List ℕ) (w : Record r) where
   from-record =
       rw (w .bytes) (
         length-record (w .box) (w .number) (w .word) (omega (arith, w .long, word-fits (w .number) (w .profiled))),
-        record-good (w .box) (w .number) (w .word) box-is (w .profiled) (w .long) (w .symbols),
+        record-good (w .box) (w .number) (w .word) box-is (w .profiled) (w .long)
+            (received-symbols (profile (w .number)) (w .word) .1 (w .symbols)),
       )
 
 pub record-law : RecordLaw

@@ -1,19 +1,20 @@
 -- What a record and a sound queue are, in 01's words. The tests of Sound.antt decide just these (Claims.antt: RecordLaw, SoundLaw).
 -- Assumes nothing.
 use mathlib.Core.Path.{_≡_}
+use mathlib.Core.Logic.{_⊎_}
 use mathlib.Core.List.{List}
-use Prim.Native.Nat.{ℕ, _+_, _≤_}
+use Prim.Native.Nat.{ℕ, _+_, _≤_, _<_}
 use lib.Dec.{T}
-use lib.ListN.{length}
+use lib.ListN.{length, getD}
 use Rattle.code_theory.specs.Parameters.{codewordLength}
-use Rattle.code_theory.specs.Component.{isReceived}
 use Rattle.code_theory.specs.Profiles.{isProfile, profile}
 use Rattle.queue_theory.specs.Lists.{zeros, count}
 use Rattle.queue_theory.specs.Layout.{bodySize, headerSize, capacity, nextCell, firstFree, cellBody, header}
 use Rattle.queue_theory.specs.Chains.{From}
 use Rattle.queue_theory.specs.Sound.{recordOf}
 
--- the bytes are the record of a box number, a profile's number and a received word, which has the length and the levels of the profile
+-- the bytes are the record of a box number, a profile's number and a received word, which has the profile's length and its levels or
+-- erasures
 pub record Record (r : List ℕ) : Type 0 where
   pub box : ℕ
   pub number : ℕ
@@ -22,7 +23,7 @@ pub record Record (r : List ℕ) : Type 0 where
   pub box-most : box ≤ 40
   pub profiled : T (isProfile number)
   pub long : length word ≡ codewordLength (profile number)
-  pub symbols : T (isReceived (profile number) word)
+  pub symbols : (i : ℕ) → i < length word → (getD word i 0 < profile number .q) ⊎ (getD word i 0 ≡ 255)
   pub bytes : r ≡ recordOf box number word
 
 -- cell 0 besides the first cells of both lists: the rest zero

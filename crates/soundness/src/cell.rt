@@ -4,15 +4,15 @@ use cells::CELL_SIZE;
 use cells::all_zero;
 use cells::capacity;
 use profiles::Lookup;
+use profiles::is_received;
 use profiles::row_of;
-use profiles::symbols_below;
 ghost use mathlib.Core.Path.{_≡_};
 ghost use lib.Dec.{T};
 ghost use lib.ListN.{length};
 ghost use Rattle.queue_theory.specs.Layout.{bodySize, paddedSize, isQueueLength, header};
 ghost use Rattle.queue_theory.specs.Sound.{isPadded, isRecord, isHeader, isCell};
 
-// Whether the bytes after box and profile are a word of the profile, and then zeros.
+// Whether the bytes after box and profile are a word as the profile receives it, of levels or erasures, and then zeros.
 fn is_padded(bytes: &[u8], profile: usize) -> bool
     requires { ⌜ length (now bytes) ≡ paddedSize ⌝ }
     ensures { λ r. ⌜ r ≡ isPadded profile (now (bytes .entry)) ⌝ }
@@ -22,7 +22,7 @@ fn is_padded(bytes: &[u8], profile: usize) -> bool
     };
     let q = row.q;
     let n = row.codeword;
-    symbols_below(&bytes[..n], q) & all_zero(&bytes[n..])
+    is_received(&bytes[..n], q) & all_zero(&bytes[n..])
 }
 
 // The same. Each profile has an arm of its own, so that the compiler knows the loops' lengths: without the arms a look at a full queue of

@@ -1,6 +1,6 @@
 -- The weights of a word and the check symbols that they ask for.
 -- Assumes nothing.
-use mathlib.Core.Bool.{true, false}
+use mathlib.Core.Bool.{Bool, true, false}
 use mathlib.Core.List.{List}
 use Prim.Native.Nat.{ℕ, _+_}
 use Rattle.modular_theory.specs.Sum.{weight}
@@ -16,3 +16,8 @@ weightsOf w = record { odd = weight (alternate true w); even = weight (alternate
 -- 01: α and β of a word with these weights
 unfoldable pub checksOf : ℕ → ℕ → Weight → Checks
 checksOf q delta w = record { alpha = residue q (w .odd + delta); beta = residue q (w .even) }
+
+-- the one of a parity: α, over the odd positions (true), and β
+abbrev pub checkOf : Checks → Bool → ℕ
+checkOf c true = c .alpha
+checkOf c false = c .beta

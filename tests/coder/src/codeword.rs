@@ -71,7 +71,7 @@ fn restore(profile: &Profile, components: [Vec<u8>; 2]) -> Option<[Vec<u8>; 2]> 
 /// "Lawful word: N symbols below q, with w of weight middle, α and β as in step 6, and halves ..
 /// It carries the user words of the halves so restored." The pair carried, if the word is lawful.
 pub fn messages_of(profile: &Profile, word: &[u8]) -> Option<Messages> {
-    if word.len() != profile.word_length() || profile.require_symbols(word).is_err() {
+    if word.len() != profile.word_length() || profile.require_levels(word).is_err() {
         return None;
     }
     let (w, checks) = word.split_at(profile.m());

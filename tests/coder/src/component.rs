@@ -1,13 +1,8 @@
 //! The component code (01: halves; "How a word is made", steps 1 and 2; 002, section IV).
 
 use crate::balance::subtract;
+use crate::fillings::{digits, fillings};
 use crate::profile::Profile;
-
-/// The lowest `count` digits of a number in base q, the highest of them first.
-fn digits(q: u8, count: usize, number: usize) -> Vec<u8> {
-    let q = usize::from(q);
-    (0..count).rev().map(|power| (number / q.pow(power as u32) % q) as u8).collect()
-}
 
 /// "Column i holds the digits of i in base q, i from 1 to n, r−1 digits, with a 1 added as a last
 /// row."
@@ -61,15 +56,8 @@ pub fn component_with_syndrome(profile: &Profile, message: &[u8], target: &[u8])
         component[position - 1] = symbol;
     }
     let checks = check_positions(profile);
-    let fillings = usize::from(profile.q).pow(profile.r as u32);
-    (0..fillings)
-        .map(|filling| {
-            let symbols = digits(profile.q, profile.r, filling);
-            for (position, symbol) in checks.iter().zip(symbols) {
-                component[position - 1] = symbol;
-            }
-            component.clone()
-        })
+    let mut tried = fillings(profile.q, &component, &checks);
+    tried
         .find(|component| syndrome(profile, component) == target)
         .expect("01: the message fixes the check symbols")
 }

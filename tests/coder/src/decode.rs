@@ -1,9 +1,19 @@
-//! Decoding (01: read), by looking at the received word and at all its neighbours.
+//! Decoding (01: read), by looking at the received word and at all its neighbours or, where it has
+//! erasures (02, T-01: marks), at all its fillings.
 
 use crate::codeword::{messages_of, Messages};
+use crate::erasure::{erased_positions, MOST_ERASURES};
+use crate::fillings::fillings;
 use crate::profile::Profile;
 use crate::refusal::{require, Refusal};
 use crate::text::digits;
+
+/// A position, and the symbol sent there.
+#[derive(Debug, Clone, Copy, PartialEq, Eq)]
+pub struct Sent {
+    pub position: usize,
+    pub symbol: u8,
+}
 
 /// "a kind (clean or mended), the place (0 if clean) and the symbol sent there (0 if clean)".
 #[derive(Debug, Clone, Copy, PartialEq, Eq)]
@@ -14,17 +24,43 @@ pub enum Decoded {
         position: usize,
         symbol: u8,
     },
+    /// T-01: "The kind is F, followed for each marked place, in rising order, by the place and the
+    /// symbol sent." There are one or two.
+    Filled(Sent, Option<Sent>),
 }
 
 impl Decoded {
-    /// "kind C or M, place, sent symbol, first word, second word (the digits of a word run
-    /// together), single spaces between".
-    pub fn answer(self, first: &[u8], second: &[u8]) -> String {
-        let (kind, place, symbol) = match self {
-            Decoded::Clean => ('C', 0, 0),
-            Decoded::Corrected { position, symbol } => ('M', position, symbol),
+    /// A word with these erased positions, of which this codeword was sent.
+    pub fn filled(codeword: &[u8], erased: &[usize]) -> Decoded {
+        let sent = |&position: &usize| Sent { position, symbol: codeword[position - 1] };
+        Decoded::Filled(sent(&erased[0]), erased.get(1).map(sent))
+    }
+
+    /// Where the codeword has another symbol than the received word, in rising order.
+    pub fn sent(self) -> impl Iterator<Item = Sent> {
+        let (one, other) = match self {
+            Decoded::Clean => (None, None),
+            Decoded::Corrected { position, symbol } => (Some(Sent { position, symbol }), None),
+            Decoded::Filled(one, other) => (Some(one), other),
         };
-        format!("{kind} {place} {symbol} {} {}", digits(first), digits(second))
+        one.into_iter().chain(other)
+    }
+
+    /// The codeword that was found for this word.
+    pub fn codeword(self, word: &[u8]) -> Vec<u8> {
+        self.sent().fold(word.to_vec(), |word, sent| replaced(&word, sent.position, sent.symbol))
+    }
+
+    /// "kind C or M, place, sent symbol, first word, second word (the digits of a word run
+    /// together), single spaces between"; T-01 has kind F with one or two places.
+    pub fn answer(self, first: &[u8], second: &[u8]) -> String {
+        let kind = match self {
+            Decoded::Clean => "C 0 0",
+            Decoded::Corrected { .. } => "M",
+            Decoded::Filled(..) => "F",
+        };
+        let sent = self.sent().map(|sent| format!(" {} {}", sent.position, sent.symbol));
+        format!("{kind}{} {} {}", sent.collect::<String>(), digits(first), digits(second))
     }
 }
 
@@ -50,19 +86,43 @@ pub fn within_one<'a>(
     [(Decoded::Clean, word.to_vec())].into_iter().chain(neighbours)
 }
 
-/// "if a lawful word differs from the received word in at most one place, the answer is its pair"
-/// and how it was found. The text speaks of one such word; a second one would be a fault.
-pub fn search(profile: &Profile, word: &[u8]) -> Option<(Decoded, Messages)> {
-    let mut found = within_one(profile, word).filter_map(|(decoded, sent)| {
+/// The pair of the one word tried that is a codeword, and how it was found. Both texts speak of one
+/// such word; a second one would be a fault.
+fn only_codeword(
+    profile: &Profile,
+    tried: impl Iterator<Item = (Decoded, Vec<u8>)>,
+) -> Option<(Decoded, Messages)> {
+    let mut found = tried.filter_map(|(decoded, sent)| {
         messages_of(profile, &sent).map(|messages| (decoded, messages))
     });
     let answer = found.next();
-    assert!(found.next().is_none(), "two codewords within one position of {word:?}");
+    let other = found.next();
+    assert!(other.is_none(), "two codewords for one received word: {answer:?}, {other:?}");
     answer
 }
 
-/// "Read. 1 as above; 2 if the word is not N long or either output not k; 3 if a symbol is not
-/// below q; 4 if no lawful word is within one place."
+/// "if a lawful word differs from the received word in at most one place, the answer is its pair"
+/// and how it was found. T-01: "A word with one or two marks is read if some lawful word agrees
+/// with it at every unmarked place, and that word is then the only one. .. in a marked word no
+/// unmarked symbol is ever mended."
+pub fn search(profile: &Profile, word: &[u8]) -> Option<(Decoded, Messages)> {
+    let erased = erased_positions(word);
+    if erased.is_empty() {
+        return only_codeword(profile, within_one(profile, word));
+    }
+    let agreeing = fillings(profile.q, word, &erased);
+    only_codeword(profile, agreeing.map(|sent| (Decoded::filled(&sent, &erased), sent)))
+}
+
+/// Decodes a word of N symbols: "3 if a symbol is not below q" and no mark, "11, more than two marks,
+/// after 3 and before 4", 4 if nothing is found.
+pub fn decode_word(profile: &Profile, word: &[u8]) -> Result<(Decoded, Messages), Refusal> {
+    profile.require_received(word)?;
+    require(erased_positions(word).len() <= MOST_ERASURES, Refusal::Erasures)?;
+    search(profile, word).ok_or(Refusal::Unreadable)
+}
+
+/// "Read. 1 as above; 2 if the word is not N long or either output not k", then 3, 11 and 4.
 pub fn decode(
     profile: u8,
     word: &[u8],
@@ -73,8 +133,7 @@ pub fn decode(
     require(word.len() == profile.word_length(), Refusal::Length)?;
     require(first.len() == profile.k(), Refusal::Length)?;
     require(second.len() == profile.k(), Refusal::Length)?;
-    profile.require_symbols(word)?;
-    let (decoded, messages) = search(profile, word).ok_or(Refusal::Unreadable)?;
+    let (decoded, messages) = decode_word(profile, word)?;
     first.copy_from_slice(&messages[0]);
     second.copy_from_slice(&messages[1]);
     Ok(decoded)

@@ -19,8 +19,8 @@ pub fn encode(profile: u8, first: &[u8], second: &[u8], output: &mut [u8]) -> Re
     require(first.len() == profile.k(), Refusal::Length)?;
     require(second.len() == profile.k(), Refusal::Length)?;
     require(output.len() == profile.word_length(), Refusal::Length)?;
-    profile.require_symbols(first)?;
-    profile.require_symbols(second)?;
+    profile.require_levels(first)?;
+    profile.require_levels(second)?;
     output.copy_from_slice(&encoded_word(profile, &[first.to_vec(), second.to_vec()]));
     Ok(())
 }

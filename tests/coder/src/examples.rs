@@ -48,6 +48,25 @@ pub const DECODED: [(&str, &str); 5] = [
     ("2211111111111111102", "R 4"),
 ];
 
+/// Received words of profile 1 with erasures, and what T-01 makes of them. 02 has no cases: these
+/// are 01's words with symbols erased, which are then the only ones that agree; and words that no
+/// filling balances, or whose unerased check symbols the only balanced filling contradicts.
+pub const ERASED: [(&str, &str); 13] = [
+    ("?111111111111111102", "F 1 1 00000 00000"),
+    ("11111111111111111?2", "F 18 0 00000 00000"),
+    ("111111111111111110?", "F 19 2 00000 00000"),
+    ("?1?1111111111111102", "F 1 1 3 1 00000 00000"),
+    ("?11111111111111110?", "F 1 1 19 2 00000 00000"),
+    ("11111111111111111??", "F 18 0 19 2 00000 00000"),
+    ("1200?1111111111222?", "F 5 0 19 0 00001 00000"),
+    ("1200?2111111111222?", "R 4"),
+    ("2?11111111111111102", "R 4"),
+    ("?111111111111111101", "R 4"),
+    ("11111111111111111?1", "R 4"),
+    ("???1111111111111102", "R 11"),
+    ("???3111111111111102", "R 3"),
+];
+
 /// "Checked by hand": user words of profile 1 and their halves.
 pub const COMPONENTS: [(&str, &str); 2] = [("10000", "12210000"), ("00001", "10100001")];
 

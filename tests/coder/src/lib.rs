@@ -1,18 +1,23 @@
-//! A coder written from documents 01 and 002 alone. It shares nothing with the crates that it is
+//! A coder written from documents 01, 02 and 002 alone. It shares nothing with the crates that it is
 //! used to test: what 01 says exists is looked for by trying everything, and what 01 calls right
 //! is tested condition by condition. Clarity comes before speed throughout.
 //!
-//! Quoted sentences are document 01's. Positions count from 1, as there.
+//! Quoted sentences are document 01's or, of requests (T-01), document 02's. Positions count from 1,
+//! as there.
 
 pub mod balance;
 pub mod codeword;
 pub mod component;
 pub mod decode;
 pub mod encode;
+pub mod erased_words;
+pub mod erasure;
 pub mod examples;
+pub mod fillings;
 pub mod lines;
 pub mod list;
 pub mod near_miss;
+mod near_miss_erasures;
 mod near_miss_words;
 pub mod near_misses;
 pub mod profile;
@@ -20,4 +25,5 @@ pub mod queue;
 pub mod random_words;
 pub mod refusal;
 pub mod rng;
+mod slip;
 pub mod text;

@@ -3,6 +3,7 @@
 use crate::decode::decode;
 use crate::profile::Profile;
 use crate::refusal::{require, Refusal};
+use crate::text::symbol;
 
 /// "a line of at most 101 bytes", the byte 10 that ends it not counted.
 pub const LONGEST_LINE: usize = 101;
@@ -14,12 +15,13 @@ fn digit(byte: u8) -> Result<u8, Refusal> {
 }
 
 /// "A line is a decimal digit (the profile), one space and one or more decimal digits (symbols);
-/// a line of at most 101 bytes .. A line not of this form gives 9". The profile and the word.
+/// a line of at most 101 bytes .. A line not of this form gives 9". The profile and the word, of
+/// which a symbol may be a mark (T-01).
 fn parse(line: &[u8]) -> Result<(u8, Vec<u8>), Refusal> {
     require((3..=LONGEST_LINE).contains(&line.len()), Refusal::LineForm)?;
     require(line[1] == b' ', Refusal::LineForm)?;
-    let word: Result<Vec<u8>, Refusal> = line[2..].iter().map(|&byte| digit(byte)).collect();
-    Ok((digit(line[0])?, word?))
+    let word: Option<Vec<u8>> = line[2..].iter().map(|&byte| symbol(byte)).collect();
+    Ok((digit(line[0])?, word.ok_or(Refusal::LineForm)?))
 }
 
 /// "Output for a good line: profile", and what its word is answered. A bad line "gives 9 .. then the order of Read".

@@ -21,12 +21,12 @@ pub struct Record {
 
 impl Record {
     /// "7 if the box is not 1 to 40, then 1, then 2 if the word is not N long, then 3". "Any box
-    /// number may come with any profile."
+    /// number may come with any profile." T-01: "Sheets may keep any number of marks."
     pub fn new(box_number: u8, profile: u8, word: &[u8]) -> Result<Record, Refusal> {
         require((1..=LAST_BOX).contains(&box_number), Refusal::BoxNumber)?;
         let row = Profile::lookup(profile)?;
         require(word.len() == row.word_length(), Refusal::Length)?;
-        row.require_symbols(word)?;
+        row.require_received(word)?;
         Ok(Record { box_number, profile, word: word.to_vec() })
     }
 

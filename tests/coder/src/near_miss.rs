@@ -1,6 +1,7 @@
 //! A second decoder, by 002's steps (section IV-B) as 01 corrects them, in which one step can be
 //! got wrong on purpose. Without a slip it must answer as the search in `decode` does; with one it
-//! shows that a test word tells the right decoder from that near miss.
+//! shows that a test word tells the right decoder from that near miss. What it does with erasures
+//! stands in `near_miss_erasures`.
 
 use crate::balance::{subtract, weight};
 use crate::codeword::{components_of, Messages};
@@ -8,49 +9,22 @@ use crate::component::{message_in, syndrome};
 use crate::decode::{replaced, Decoded};
 use crate::encode::encoded_word;
 use crate::profile::Profile;
+use crate::refusal::{require, Refusal};
 
-/// One step got wrong: 01's "Wrong turns seen in drafts", and others of their kind.
-#[derive(Debug, Clone, Copy, PartialEq, Eq)]
-pub enum Slip {
-    /// δ is 002's printed 2(q−1)(2−m).
-    PrintedDelta,
-    /// The received check symbols are added, as 002 prints it, and not subtracted.
-    CheckSymbolsAdded,
-    /// A balanced word is clean, whatever its check symbols say.
-    BalanceIsClean,
-    /// An excess of weight of q or more is reduced mod q.
-    ExcessReduced,
-    /// A check sum may be off by any amount, and not only by the excess of weight mod q.
-    CheckSumOffByAny,
-    /// The error is removed mod q, and not by plain subtraction.
-    RemovedModQ,
-    /// The first position whose symbol stays in range is taken, whatever the components say.
-    FirstInRange,
-    /// A syndrome of zeros with a last 1 names no position, and is taken as nothing to undo.
-    PositionZero,
-    /// The last row is not looked at, so any amount at one position passes for a 1.
-    LastRowIgnored,
-    /// Both components may have a 1 to be taken away.
-    BothTaken,
-    /// Only the first component is tested.
-    FirstComponentOnly,
-    /// Only the second component is tested.
-    SecondComponentOnly,
-    /// Only the word that the encoder makes is accepted, and no other codeword of the pair.
-    EncodedWordOnly,
-}
+pub use crate::slip::Slip;
 
-/// What the decoder answers with this slip, or with none.
-pub fn decode(profile: &Profile, word: &[u8], slip: Option<Slip>) -> Option<(Decoded, Messages)> {
+/// What the decoder answers to a word of N symbols with this slip, or with none.
+pub fn decode(
+    profile: &Profile,
+    word: &[u8],
+    slip: Option<Slip>,
+) -> Result<(Decoded, Messages), Refusal> {
     let answer = Decoder { profile, slip }.decode(word)?;
     if slip == Some(Slip::EncodedWordOnly) {
-        let sent = match answer.0 {
-            Decoded::Clean => word.to_vec(),
-            Decoded::Corrected { position, symbol } => replaced(word, position, symbol),
-        };
-        return (sent == encoded_word(profile, &answer.1)).then_some(answer);
+        let is_encoded = answer.0.codeword(word) == encoded_word(profile, &answer.1);
+        require(is_encoded, Refusal::Unreadable)?;
     }
-    Some(answer)
+    Ok(answer)
 }
 
 /// 002's printed δ, 2(q−1)(2−m) mod q, "which among these profiles agrees for q = 3 only".
@@ -59,27 +33,27 @@ pub fn printed_delta(profile: &Profile) -> u8 {
     (2 * (q - 1) * (2 - m)).rem_euclid(q) as u8
 }
 
-struct Decoder<'a> {
-    profile: &'a Profile,
-    slip: Option<Slip>,
+pub(crate) struct Decoder<'a> {
+    pub profile: &'a Profile,
+    pub slip: Option<Slip>,
 }
 
 impl Decoder<'_> {
-    fn slips(&self, slip: Slip) -> bool {
+    pub fn slips(&self, slip: Slip) -> bool {
         self.slip == Some(slip)
     }
 
-    fn q(&self) -> i64 {
+    pub fn q(&self) -> i64 {
         i64::from(self.profile.q)
     }
 
     /// A number mod q.
-    fn reduce(&self, number: i64) -> u8 {
+    pub fn reduce(&self, number: i64) -> u8 {
         number.rem_euclid(self.q()) as u8
     }
 
     /// Steps 1 and 2: the excess of weight, and how far each check sum is off.
-    fn decode(&self, word: &[u8]) -> Option<(Decoded, Messages)> {
+    pub fn decode_levels(&self, word: &[u8]) -> Option<(Decoded, Messages)> {
         let (w, received) = word.split_at(self.profile.m());
         let mut excess = i64::from(weight(w)) - i64::from(self.profile.balancing_value());
         if self.slips(Slip::ExcessReduced) {
@@ -161,7 +135,7 @@ impl Decoder<'_> {
     }
 
     /// Step 4: the messages of the components, if their syndromes are as equation (4) asks.
-    fn undo(&self, w: &[u8]) -> Option<Messages> {
+    pub fn undo(&self, w: &[u8]) -> Option<Messages> {
         let components = components_of(self.profile, w);
         let [first, second] = components.each_ref().map(|component| self.added_at(component));
         let positions = match self.slip {

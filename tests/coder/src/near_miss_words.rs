@@ -1,33 +1,35 @@
 //! How the words of each near miss are built at random. An attempt may give none, or a word that
 //! the near miss gets right after all.
 
-use crate::balance::{add, balanced_words, choices, subtract};
+use crate::balance::{add, balanced_words, subtract};
 use crate::codeword::{check_symbols, interleave, with_check_symbols};
 use crate::component::component_with_syndrome;
 use crate::decode::replaced;
+use crate::erased_words::Draw;
+use crate::erasure::erased_at;
 use crate::near_miss::printed_delta;
 use crate::profile::Profile;
-use crate::random_words::{changed_at, codeword, components, excess};
+use crate::random_words::{changed_at, codeword, components, excess, off_by_q, Receive};
 use crate::rng::Rng;
 
 /// A word with right check symbols whose weight is off by q, with one more symbol changed: away
 /// from the balancing value or back toward it.
 pub fn off_balance(profile: &Profile, rng: &mut Rng, away: bool) -> Option<Vec<u8>> {
     let x = interleave(&components(profile, rng));
-    let unbalanced: Vec<Vec<u8>> = choices(profile.q, x.len())
-        .map(|choice| choice.apply(profile.q, &x))
-        .filter(|w| excess(profile, w).abs() == i64::from(profile.q))
-        .collect();
-    if unbalanced.is_empty() {
-        return None;
-    }
-    let w = rng.pick(&unbalanced);
+    let w = &off_by_q(profile, &x, rng)?;
     let position = rng.from_one_to(w.len());
     let symbol = rng.other_level(profile.q, w[position - 1]);
     let raised = symbol > w[position - 1];
     let heavy = excess(profile, w) > 0;
     let word = with_check_symbols(profile, w);
     ((raised == heavy) == away).then(|| replaced(&word, position, symbol))
+}
+
+/// A word with right check symbols whose weight is off by q, erased at positions that are drawn.
+pub fn off_balance_erased(profile: &Profile, rng: &mut Rng, draw: Draw) -> Option<Vec<u8>> {
+    let x = interleave(&components(profile, rng));
+    let word = with_check_symbols(profile, &off_by_q(profile, &x, rng)?);
+    Some(erased_at(&word, &draw(profile, rng)))
 }
 
 /// A codeword with one symbol of w changed, and the check symbol of that parity too.
@@ -99,4 +101,10 @@ pub fn more_than_one_added(profile: &Profile, rng: &mut Rng) -> Option<Vec<u8>> 
     let [in_code, other] = components(profile, rng);
     let off = with_added(profile, &other, amount, rng);
     with_components(profile, &in_either_order([in_code, off], rng))
+}
+
+/// A codeword by any choice, received so.
+pub fn of_codeword(profile: &Profile, rng: &mut Rng, receive: Receive) -> Option<Vec<u8>> {
+    let word = codeword(profile, rng);
+    Some(receive(profile, &word, rng))
 }

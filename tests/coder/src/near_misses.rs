@@ -2,7 +2,11 @@
 //! built at random in the way its row says until the slip answers one of them differently.
 
 use crate::codeword::with_check_symbols;
-use crate::decode::search;
+use crate::decode::decode_word;
+use crate::erased_words::{
+    both_checks, erased, like_parity, one_check_changed, one_check_erased, one_of_w,
+    spoiled_and_erased, with_erasures, with_erasures_at,
+};
 use crate::examples::POSITION_ZERO_W;
 use crate::near_miss::{self, Slip};
 use crate::profile::{Profile, PROFILES};
@@ -59,6 +63,45 @@ pub const NEAR_MISSES: [NearMiss; 13] = [
         "codeword whose check symbols must be subtracted, not added"),
 ];
 
+/// Those of T-01, the request for erasures.
+#[rustfmt::skip]
+pub const ERASURE_NEAR_MISSES: [NearMiss; 15] = [
+    decodes(Slip::ErasureSpoils, |profile, rng| Some(with_erasures(profile, [1, 0], rng)),
+        "codeword with one erasure, which 01 alone refuses with 3"),
+    decodes(Slip::ErasureIsZero, |profile, rng| Some(with_erasures(profile, [2, 0], rng)),
+        "codeword with two erasures, which are not two zeros"),
+    refuses(Slip::UnerasedCorrected, |profile, rng| {
+        let erasures = rng.from_one_to(2);
+        Some(with_erasures(profile, [erasures, 1], rng))
+    }, "one or two erasures and another symbol wrong, which would have to be corrected"),
+    refuses(Slip::LackReduced, |profile, rng| off_balance_erased(profile, rng, one_of_w),
+        "erasure that would be filled if what the weight lacks were reduced mod q"),
+    decodes(Slip::ComponentsUntested, |profile, rng| Some(with_erasures_at(profile, like_parity, rng)),
+        "two erasures of like parity, of which the components know more than the sums"),
+    decodes(Slip::OneFillingTried, |profile, rng| Some(with_erasures_at(profile, like_parity, rng)),
+        "two erasures of like parity, and the first filling with right sums is not the one"),
+    refuses(Slip::OtherCheckUntested, |profile, rng| of_codeword(profile, rng, one_check_erased),
+        "one check symbol erased and the other wrong"),
+    refuses(Slip::CheckSymbolsUntested, |profile, rng| of_codeword(profile, rng, one_check_changed),
+        "an erasure in w and a wrong check symbol"),
+    refuses(Slip::BalanceUntested, |profile, rng| off_balance_erased(profile, rng, both_checks),
+        "both check symbols erased on a word that is not balanced"),
+    decodes(Slip::FirstReported, |profile, rng| Some(with_erasures(profile, [2, 0], rng)),
+        "two erasures, of which both are reported"),
+    decodes(Slip::FallingOrder, |profile, rng| Some(with_erasures(profile, [2, 0], rng)),
+        "two erasures, the first reported first"),
+    refuses(Slip::ErasuresBeforeSymbols, |profile, rng| {
+        of_codeword(profile, rng, |profile, word, rng| spoiled_and_erased(profile, word, 3, rng))
+    }, "three erasures and a symbol out of range, which counts"),
+    refuses(Slip::UnreadableBeforeErasures, |profile, rng| {
+        Some(erased(&rng.word(profile.q, profile.word_length()), 3, rng))
+    }, "three erasures in noise that no filling makes a codeword"),
+    refuses(Slip::ManyFilled, |profile, rng| Some(with_erasures(profile, [4, 0], rng)),
+        "codeword with four erasures"),
+    refuses(Slip::ThreeAllowed, |profile, rng| Some(with_erasures(profile, [3, 0], rng)),
+        "codeword with three erasures"),
+];
+
 /// How many words are built before a slip is taken to do no harm in a profile.
 const ATTEMPTS: usize = 4000;
 
@@ -75,9 +118,8 @@ impl NearMiss {
 
     /// Whether the slip answers the word otherwise than the right decoder, which does as named.
     fn gets_wrong(&self, profile: &Profile, word: &[u8]) -> bool {
-        let right = search(profile, word);
-        right.is_some() == self.decodes
-            && near_miss::decode(profile, word, Some(self.slip)) != right
+        let right = decode_word(profile, word);
+        right.is_ok() == self.decodes && near_miss::decode(profile, word, Some(self.slip)) != right
     }
 }
 
@@ -87,6 +129,7 @@ mod tests {
     use crate::codeword::{check_symbols, components_of};
     use crate::component::syndrome;
     use crate::random_words::excess;
+    use crate::refusal::Refusal;
 
     use super::*;
 
@@ -95,13 +138,14 @@ mod tests {
     #[test]
     fn every_slip_is_told() {
         let rng = &mut Rng::new(1);
-        for near_miss in &NEAR_MISSES {
+        for near_miss in NEAR_MISSES.iter().chain(&ERASURE_NEAR_MISSES) {
             for profile in &PROFILES {
                 let words = near_miss.words(profile, 3, rng);
                 let harmless = near_miss.slip == Slip::PrintedDelta && profile.q == 3;
                 assert_eq!(words.len(), if harmless { 0 } else { 3 }, "{}", near_miss.name);
                 for word in words {
-                    assert_eq!(near_miss::decode(profile, &word, None), search(profile, &word));
+                    let right = decode_word(profile, &word);
+                    assert_eq!(near_miss::decode(profile, &word, None), right);
                     assert!(is_as_called(profile, near_miss.slip, &word), "{}", near_miss.name);
                 }
             }
@@ -137,6 +181,7 @@ mod tests {
         let mut syndromes = components_of(profile, &w).map(|c| syndrome(profile, &c));
         syndromes.sort();
         assert_eq!(syndromes, [[0, 0, 0], [0, 0, 1]]);
-        assert_eq!(search(profile, &with_check_symbols(profile, &w)), None);
+        let word = with_check_symbols(profile, &w);
+        assert_eq!(decode_word(profile, &word), Err(Refusal::Unreadable));
     }
 }

@@ -1,6 +1,7 @@
 //! The four profiles (01, "The four profiles").
 
 use crate::balance::balancing_value;
+use crate::erasure::ERASURE;
 use crate::refusal::{require, Refusal};
 
 /// One row of the table. The columns q, r and n are given, the others follow from them.
@@ -58,8 +59,14 @@ impl Profile {
         product.rem_euclid(q) as u8
     }
 
-    /// "3 if a symbol is not below q".
-    pub fn require_symbols(&self, word: &[u8]) -> Result<(), Refusal> {
+    /// "3 if a user symbol is not below q", 255 among them; and what 01 asks of a lawful word.
+    pub fn require_levels(&self, word: &[u8]) -> Result<(), Refusal> {
         require(word.iter().all(|&symbol| symbol < self.q), Refusal::Symbol)
+    }
+
+    /// The symbols of a received word. T-01: "Number 3 is left for other values of q or more".
+    pub fn require_received(&self, word: &[u8]) -> Result<(), Refusal> {
+        let is_received = |&symbol: &u8| symbol < self.q || symbol == ERASURE;
+        require(word.iter().all(is_received), Refusal::Symbol)
     }
 }

@@ -1,6 +1,6 @@
 //! Random messages, codewords and received words of a profile.
 
-use crate::balance::weight;
+use crate::balance::{choices, weight};
 use crate::codeword::codewords;
 use crate::component::encode_component;
 use crate::decode::replaced;
@@ -10,6 +10,9 @@ use crate::rng::Rng;
 
 /// A way to build a word of a profile; an attempt may give none.
 pub type Build = fn(&Profile, &mut Rng) -> Option<Vec<u8>>;
+
+/// Makes a received word of a profile, as a rule from a codeword.
+pub type Receive = fn(&Profile, &[u8], &mut Rng) -> Vec<u8>;
 
 /// The components of random messages.
 pub fn components(profile: &Profile, rng: &mut Rng) -> [Vec<u8>; 2] {
@@ -41,15 +44,21 @@ pub fn changed_at(profile: &Profile, word: &[u8], positions: &[usize], rng: &mut
     })
 }
 
-/// The word with another level at `count` positions.
-pub fn changed(profile: &Profile, word: &[u8], count: usize, rng: &mut Rng) -> Vec<u8> {
+/// So many different positions of a word of this length, in no order.
+pub fn positions(length: usize, count: usize, rng: &mut Rng) -> Vec<usize> {
     let mut positions: Vec<usize> = Vec::new();
     while positions.len() < count {
-        let position = rng.from_one_to(word.len());
+        let position = rng.from_one_to(length);
         if !positions.contains(&position) {
             positions.push(position);
         }
     }
+    positions
+}
+
+/// The word with another level at `count` positions.
+pub fn changed(profile: &Profile, word: &[u8], count: usize, rng: &mut Rng) -> Vec<u8> {
+    let positions = positions(word.len(), count, rng);
     changed_at(profile, word, &positions, rng)
 }
 
@@ -69,4 +78,13 @@ pub fn both_check_symbols(profile: &Profile, rng: &mut Rng) -> Option<Vec<u8>> {
 /// How far the weight of w is above the balancing value.
 pub fn excess(profile: &Profile, w: &[u8]) -> i64 {
     i64::from(weight(w)) - i64::from(profile.balancing_value())
+}
+
+/// A w with this x and any choice whose weight is off by q, if there is one.
+pub fn off_by_q(profile: &Profile, x: &[u8], rng: &mut Rng) -> Option<Vec<u8>> {
+    let unbalanced: Vec<Vec<u8>> = choices(profile.q, x.len())
+        .map(|choice| choice.apply(profile.q, x))
+        .filter(|w| excess(profile, w).abs() == i64::from(profile.q))
+        .collect();
+    (!unbalanced.is_empty()).then(|| rng.pick(&unbalanced).clone())
 }

@@ -3,7 +3,7 @@
 use std::fmt;
 
 /// "1 profile; 2 length; 3 symbol; 4 unreadable; 5 sheet length; 6 unsound sheet; 7 box number;
-/// 8 no free cell; 9 line form; 10 no such record."
+/// 8 no free cell; 9 line form; 10 no such record." T-01: "11, more than two marks".
 #[derive(Debug, Clone, Copy, PartialEq, Eq)]
 pub enum Refusal {
     Profile = 1,
@@ -16,6 +16,7 @@ pub enum Refusal {
     NoFreeCell = 8,
     LineForm = 9,
     NoSuchRecord = 10,
+    Erasures = 11,
 }
 
 impl Refusal {

@@ -46,6 +46,17 @@ fn an_unreadable_word_is_kept() {
     assert_eq!(records(&sheet(1, &[(4, 99)])).unwrap()[0].word, [2; 99]);
 }
 
+/// T-01: "Sheets may keep any number of marks."
+#[test]
+fn any_number_of_erasures_is_kept() {
+    let mut buffer = sheet(4, &[]);
+    for erasures in [1, 2, 3, 99] {
+        let word = [&vec![255; erasures][..], &vec![6; 99 - erasures]].concat();
+        enqueue(&mut buffer, 1, 4, &word).unwrap();
+        assert_eq!(records(&buffer).unwrap().back().unwrap().word, word);
+    }
+}
+
 /// Whether a sheet with the used chain 1, 2 (profiles 1 and 4) and the free chain 3, 4 is still
 /// sound with one byte of a cell set.
 fn sound_with(cell: usize, byte: usize, value: u8) -> bool {
@@ -57,7 +68,11 @@ fn sound_with(cell: usize, byte: usize, value: u8) -> bool {
 #[test]
 #[rustfmt::skip]
 fn soundness_is_what_the_paragraph_says() {
-    for (cell, byte, value) in [(0, 0, 1), (1, 1, 40), (1, 2, 4), (1, 3, 0), (2, 101, 0)] {
+    for (cell, byte, value) in [
+        (0, 0, 1), (1, 1, 40), (1, 2, 4), (1, 3, 0), (2, 101, 0),
+        // Erasures.
+        (1, 3, 255), (1, 21, 255), (2, 3, 255), (2, 101, 255),
+    ] {
         assert!(sound_with(cell, byte, value), "{cell} {byte} {value}");
     }
     for (cell, byte, value) in [
@@ -68,6 +83,9 @@ fn soundness_is_what_the_paragraph_says() {
         (0, 2, 1), (0, 103, 1), (1, 22, 1), (1, 103, 1), (2, 102, 1), (3, 1, 1), (4, 103, 1),
         // A record's fields.
         (1, 1, 0), (1, 1, 41), (1, 2, 0), (1, 2, 5), (1, 3, 3), (1, 21, 3), (2, 2, 3), (2, 101, 7),
+        // 255 where no symbol stands, and what is no erasure.
+        (0, 2, 255), (1, 1, 255), (1, 2, 255), (1, 22, 255), (1, 103, 255), (2, 102, 255),
+        (3, 1, 255), (4, 103, 255), (1, 3, 254), (1, 21, 254), (2, 101, 254),
     ] {
         assert!(!sound_with(cell, byte, value), "{cell} {byte} {value}");
     }

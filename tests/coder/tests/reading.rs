@@ -50,6 +50,7 @@ fn every_codeword_is_read_as_its_pair() {
                 Decoded::Corrected { position, .. } => {
                     Decoded::Corrected { position, symbol: sent[position - 1] }
                 }
+                Decoded::Filled(..) => unreachable!("nothing is erased"),
             };
             assert_eq!((decoded, [first, second]), (Ok(expected), messages.clone()));
         }
@@ -66,7 +67,7 @@ fn the_search_agrees_with_the_steps_of_002() {
             let codeword = encoded(profile, rng);
             let noise = rng.word(profile.q, profile.word_length());
             for word in [changed(profile, &codeword, count % 4, rng), noise] {
-                assert_eq!(near_miss::decode(profile, &word, None), search(profile, &word));
+                assert_eq!(near_miss::decode(profile, &word, None).ok(), search(profile, &word));
             }
         }
     }
@@ -96,7 +97,7 @@ fn check_symbols_are_balanced_with_the_right_delta_only() {
 fn balance_is_no_proof_of_a_clean_word() {
     let word = symbols("1111111111111111111");
     let slipped = near_miss::decode(&PROFILES[0], &word, Some(Slip::BalanceIsClean));
-    assert_eq!(slipped.map(|(decoded, _)| decoded), Some(Decoded::Clean));
+    assert_eq!(slipped.map(|(decoded, _)| decoded), Ok(Decoded::Clean));
     assert_eq!(search(&PROFILES[0], &word), None);
 }
 

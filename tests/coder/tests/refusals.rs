@@ -1,7 +1,8 @@
 //! The order of refusals of each operation, and that "a refusal .. writes no buffer".
 
-use coder::decode::decode;
+use coder::decode::{decode, replaced};
 use coder::encode::encode;
+use coder::erasure::erased_at;
 use coder::lines::boxlines;
 use coder::list::CELL;
 use coder::queue;
@@ -49,6 +50,8 @@ fn encode_refuses_in_order() {
 fn decode_refuses_in_order() {
     let bad_symbol: &[u8] = &[3; 19];
     let short: &[u8] = &[255; 18];
+    let with = |position: usize, symbol: u8| replaced(RIGHT_WORD, position, symbol);
+    let erased = |word: &[u8], positions: &[usize]| erased_at(word, positions);
     for (profile, word, lengths, expected) in [
         (0, short, [4, 4], 1),
         (5, RIGHT_WORD, [5, 5], 1),
@@ -57,7 +60,17 @@ fn decode_refuses_in_order() {
         (1, bad_symbol, [6, 5], 2),
         (4, RIGHT_WORD, [45, 45], 2),
         (1, bad_symbol, [5, 5], 3),
-        (1, &[&RIGHT_WORD[..18], &[255]].concat(), [5, 5], 3),
+        (1, &with(19, 254), [5, 5], 3),
+        (1, &[254; 19], [5, 5], 3),
+        (0, &[255; 19], [5, 5], 1),
+        (1, &[255; 19], [5, 4], 2),
+        (1, &[255; 20], [5, 5], 2),
+        (1, &erased(&with(1, 3), &[2, 3, 4]), [5, 5], 3),
+        (1, &erased(&with(19, 254), &[1, 2]), [5, 5], 3),
+        (1, &[255; 19], [5, 5], 11),
+        (1, &erased(RIGHT_WORD, &[1, 18, 19]), [5, 5], 11),
+        (1, &erased(UNREADABLE, &[1, 2, 3]), [5, 5], 11),
+        (1, &erased(UNREADABLE, &[1, 2]), [5, 5], 4),
         (1, UNREADABLE, [5, 5], 4),
     ] {
         let [mut first, mut second] = lengths.map(|length| vec![FILLER; length]);
@@ -106,6 +119,8 @@ fn enqueue_refuses_in_order() {
         (&empty, 40, 5, short, 1),
         (&full, 1, 1, short, 2),
         (&full, 1, 1, &[3; 19], 3),
+        (&full, 1, 1, &[254; 19], 3),
+        (&full, 1, 1, &[255; 19], 8),
         (&full, 1, 1, UNREADABLE, 8),
     ] {
         let mut after = buffer.clone();
@@ -161,6 +176,12 @@ fn lines_are_cut_and_refused_in_order() {
         ("1 9", "R 2\n"),
         ("1 1111111111111111103", "R 3\n"),
         ("1 0000000000000000000", "R 4\n"),
+        ("? 1111111111111111102\n1?1111111111111111102\n?\n??\n???", "R 9\n".repeat(5).as_str()),
+        ("1 ?\n5 ???\n0 ?", "R 2\nR 1\nR 1\n"),
+        ("1 ????????????????113", "R 3\n"),
+        ("1 ???????????????????", "R 11\n"),
+        (&format!("5 {}", "?".repeat(99)), "R 1\n"),
+        (&format!("4 {}", "?".repeat(100)), "R 9\n"),
     ] {
         assert_eq!(boxlines(input.as_bytes()), expected);
     }

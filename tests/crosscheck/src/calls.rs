@@ -1,8 +1,8 @@
 //! Encoding and decoding by a coder's entry points and by the separate coder.
 
-use coder::decode::Decoded;
+use coder::decode::{Decoded, Sent};
 use coder::refusal::Refusal;
-use fogzurt::{EntryPoints, PackedAnswer};
+use fogzurt::{EntryPoints, PackedAnswer, PositionAndSymbol};
 
 use crate::compare::{compare, Buffer, Checked, FILLER};
 
@@ -23,7 +23,12 @@ pub fn packed(answer: Result<Decoded, Refusal>) -> PackedAnswer {
         Err(refusal) => PackedAnswer::refused(refusal.number()),
         Ok(Decoded::Clean) => PackedAnswer::clean(),
         Ok(Decoded::Corrected { position, symbol }) => PackedAnswer::corrected(position, symbol),
+        Ok(Decoded::Filled(one, other)) => PackedAnswer::filled(sent(one), other.map(sent)),
     }
+}
+
+fn sent(Sent { position, symbol }: Sent) -> PositionAndSymbol {
+    (position, symbol)
 }
 
 /// Encodes into an output of this length.

@@ -6,9 +6,9 @@ use std::process::{Command, Stdio};
 use std::thread;
 
 use coder::codeword::codewords;
+use coder::erased_words::erased_and_changed;
 use coder::lines::{boxlines, LONGEST_LINE};
 use coder::profile::PROFILES;
-use coder::random_words::changed;
 use coder::rng::Rng;
 use coder::text::digits;
 
@@ -17,10 +17,15 @@ use crate::parallel::sum_of_jobs;
 
 /// Runs of the program, and the lines of each.
 const RUNS: usize = 50;
-const LINES: usize = 2000;
+const LINES: usize = 3000;
 
-/// Lines made from the codewords of one pair.
-const LINES_OF_A_PAIR: usize = 20;
+/// How many symbols are erased, and how many others changed, in the lines made from the codewords
+/// of one pair; twice each.
+#[rustfmt::skip]
+const ERASED_AND_CHANGED: [[usize; 2]; 15] = [
+    [0, 0], [0, 1], [0, 2], [0, 3], [1, 0], [0, 0], [0, 1], [0, 2], [0, 3], [2, 0],
+    [1, 1], [2, 1], [3, 0], [0, 1], [0, 2],
+];
 
 /// The longest piece that is written to the program at once.
 const PIECE: usize = 600;
@@ -48,9 +53,9 @@ fn stream(rng: &mut Rng) -> Vec<u8> {
     while lines.len() < LINES {
         let profile = rng.pick(&PROFILES);
         let codewords = codewords(profile, &rng.messages(profile));
-        for count in 0..LINES_OF_A_PAIR {
+        for counts in [ERASED_AND_CHANGED; 2].as_flattened() {
             let (_, codeword) = rng.pick(&codewords);
-            let word = changed(profile, codeword, count % 4, rng);
+            let word = erased_and_changed(profile, codeword, *counts, rng);
             let line = format!("{} {}", profile.number, digits(&word)).into_bytes();
             lines.push(if rng.once_in(3) { malformed(line, rng) } else { line });
         }

@@ -1,39 +1,62 @@
-//! Every pair of messages of profile 1: its encoded word, as it is and with each symbol changed to
-//! each other level. What was sent is known, so nothing is searched for.
+//! Every pair of messages of profile 1: its encoded word, as it is, with each symbol changed to
+//! each other level, with each symbol erased, and with two erased. What was sent is known, so
+//! nothing is searched for.
 
 use coder::codeword::{all_messages, Messages};
 use coder::decode::{within_one, Decoded};
 use coder::encode::encoded_word;
+use coder::erasure::erased_at;
 use coder::profile::PROFILES;
-use fogzurt::{EntryPoints, PackedAnswer};
+use fogzurt::EntryPoints;
 
-use crate::calls::{decode_to, encode};
+use crate::calls::{decode_to, encode, packed};
 use crate::compare::Checked;
 use crate::parallel::sum_of_jobs;
 
+/// Of the pairs of positions, how many are erased in the word of one pair of messages; the next
+/// word has the next ones.
+const ERASED_PAIRS: usize = 19;
+
 pub fn check(tried: &EntryPoints) -> Checked<String> {
     let pairs: Vec<Messages> = all_messages(&PROFILES[0]).collect();
-    let decoded =
-        sum_of_jobs("pairs of profile 1", pairs.len(), |job| check_pair(tried, &pairs[job]))?;
+    let positions = pairs_of_positions();
+    let decoded = sum_of_jobs("pairs of profile 1", pairs.len(), |job| {
+        let erased = positions.iter().cycle().skip(job * ERASED_PAIRS % positions.len());
+        check_pair(tried, &pairs[job], erased.take(ERASED_PAIRS))
+    })?;
     Ok(format!("pairs of profile 1: {} encoded, {decoded} received words decoded", pairs.len()))
 }
 
+/// Every two positions of a word, in rising order.
+fn pairs_of_positions() -> Vec<[usize; 2]> {
+    let length = PROFILES[0].word_length();
+    (1..=length).flat_map(|other| (1..other).map(move |one| [one, other])).collect()
+}
+
 /// How many received words of this pair were decoded.
-fn check_pair(tried: &EntryPoints, messages: &Messages) -> Checked<usize> {
+fn check_pair<'a>(
+    tried: &EntryPoints,
+    messages: &Messages,
+    erased: impl Iterator<Item = &'a [usize; 2]>,
+) -> Checked<usize> {
     let profile = &PROFILES[0];
     let [first, second] = messages.each_ref().map(Vec::as_slice);
     let number = u64::from(profile.number);
     encode(tried, number, [first, second], profile.word_length())?;
     let sent = encoded_word(profile, messages);
-    within_one(profile, &sent)
-        .map(|(change, received)| {
-            let expected = match change {
-                Decoded::Clean => PackedAnswer::clean(),
-                Decoded::Corrected { position, .. } => {
-                    PackedAnswer::corrected(position, sent[position - 1])
-                }
-            };
-            decode_to(tried, number, &received, expected, [first, second]).map(|()| 1)
+    let changed = within_one(profile, &sent).map(|(change, received)| match change {
+        Decoded::Corrected { position, .. } => {
+            (Decoded::Corrected { position, symbol: sent[position - 1] }, received)
+        }
+        _ => (change, received),
+    });
+    let erased = (1..=sent.len()).map(|position| vec![position]).chain(erased.map(|p| p.to_vec()));
+    let filled =
+        erased.map(|positions| (Decoded::filled(&sent, &positions), erased_at(&sent, &positions)));
+    changed
+        .chain(filled)
+        .map(|(expected, received)| {
+            decode_to(tried, number, &received, packed(Ok(expected)), [first, second]).map(|()| 1)
         })
         .sum()
 }

@@ -1,9 +1,15 @@
-//! Received words of every profile, against the separate coder's search of all neighbours.
+//! Received words of every profile, against the separate coder's search of all neighbours and, where
+//! symbols are erased, of all fillings.
 
-use coder::balance::balanced_words;
+use coder::balance::{balanced_words, difference, subtract, BalancingChoice};
 use coder::codeword::{codewords, components_of, interleave, with_check_symbols, Messages};
+use coder::erased_words::{
+    both_checks, erased, erased_and_changed, like_parity, one_check_changed, one_check_erased,
+    one_of_w, spoiled_and_erased, Draw,
+};
+use coder::erasure::erased_at;
 use coder::profile::{Profile, PROFILES};
-use coder::random_words::{changed, changed_at};
+use coder::random_words::{changed, changed_at, off_by_q, Receive};
 use coder::rng::Rng;
 use fogzurt::EntryPoints;
 
@@ -16,11 +22,8 @@ use crate::parallel::sum_of_jobs;
 const PAIRS: usize = 5000;
 const FEWER_PAIRS: usize = 500;
 
-/// Makes a received word of a profile, as a rule from a codeword.
-type Receive = fn(&Profile, &[u8], &mut Rng) -> Vec<u8>;
-
 /// What is received, and how many words of it for each pair. The codewords are by any choice.
-const KINDS: [(usize, Receive); 7] = [
+const KINDS: [(usize, Receive); 16] = [
     (7, |_, codeword, _| codeword.to_vec()),
     (16, |profile, codeword, rng| changed(profile, codeword, 1, rng)),
     (10, |profile, codeword, rng| changed(profile, codeword, 2, rng)),
@@ -28,6 +31,15 @@ const KINDS: [(usize, Receive); 7] = [
     (2, both_check_symbols),
     (5, |profile, _, rng| rng.word(profile.q, profile.word_length())),
     (4, one_component_of_noise),
+    (4, |profile, codeword, rng| erased_and_changed(profile, codeword, [1, 0], rng)),
+    (8, |profile, codeword, rng| erased_and_changed(profile, codeword, [2, 0], rng)),
+    (3, |profile, codeword, rng| erased_at(codeword, &like_parity(profile, rng))),
+    (2, |profile, codeword, rng| erased_and_changed(profile, codeword, [1, 1], rng)),
+    (6, |profile, codeword, rng| erased_and_changed(profile, codeword, [2, 1], rng)),
+    (2, about_the_check_symbols),
+    (2, more_than_two_erased),
+    (2, |profile, codeword, rng| erased(&one_component_of_noise(profile, codeword, rng), 2, rng)),
+    (1, |profile, _, rng| erased(&rng.word(profile.q, profile.word_length()), 1, rng)),
 ];
 
 pub fn check(tried: &EntryPoints) -> Checked<String> {
@@ -68,6 +80,7 @@ fn received_words(profile: &Profile, messages: &Messages, rng: &mut Rng) -> Vec<
             words.push(receive(profile, codeword, rng));
         }
     }
+    words.extend(off_balance(profile, &codewords[0], rng));
     words
 }
 
@@ -85,10 +98,50 @@ fn one_component_of_noise(profile: &Profile, codeword: &[u8], rng: &mut Rng) -> 
     with_check_symbols(profile, &w)
 }
 
+/// A codeword with a symbol of each kind erased or changed: one check symbol and the other, or one
+/// of w; or both check symbols erased.
+fn about_the_check_symbols(profile: &Profile, codeword: &[u8], rng: &mut Rng) -> Vec<u8> {
+    match rng.below(3) {
+        0 => one_check_erased(profile, codeword, rng),
+        1 => one_check_changed(profile, codeword, rng),
+        _ => erased_at(codeword, &both_checks(profile, rng)),
+    }
+}
+
+/// Three erasures or more, some beside another level or a symbol that is none.
+fn more_than_two_erased(profile: &Profile, codeword: &[u8], rng: &mut Rng) -> Vec<u8> {
+    match rng.below(4) {
+        0 => spoiled_and_erased(profile, codeword, 3, rng),
+        1 => erased_and_changed(profile, codeword, [3, 1], rng),
+        2 => erased(codeword, 3, rng),
+        _ => {
+            let count = 3 + rng.from_one_to(codeword.len() - 3);
+            erased(codeword, count, rng)
+        }
+    }
+}
+
+/// Words with right components and check symbols whose weight is off by q, with one symbol of w and
+/// with both check symbols erased.
+fn off_balance(
+    profile: &Profile,
+    (choice, codeword): &(BalancingChoice, Vec<u8>),
+    rng: &mut Rng,
+) -> Vec<Vec<u8>> {
+    let mut x = difference(profile.q, &codeword[..profile.m()]);
+    x[choice.v - 1] = subtract(profile.q, x[choice.v - 1], 1);
+    x[0] = 0;
+    let Some(w) = off_by_q(profile, &x, rng) else {
+        return Vec::new();
+    };
+    let word = with_check_symbols(profile, &w);
+    [one_of_w, both_checks].map(|draw: Draw| erased_at(&word, &draw(profile, rng))).to_vec()
+}
+
 #[cfg(test)]
 mod tests {
     use coder::near_miss::{self, Slip};
-    use coder::near_misses::NEAR_MISSES;
+    use coder::near_misses::{ERASURE_NEAR_MISSES, NEAR_MISSES};
 
     use super::*;
 
@@ -98,7 +151,8 @@ mod tests {
     fn every_slip_of_a_decoder_is_told() {
         for profile in &PROFILES {
             let rng = &mut Rng::new(1);
-            let mut untold = NEAR_MISSES.map(|near_miss| near_miss.slip).to_vec();
+            let near_misses = NEAR_MISSES.iter().chain(&ERASURE_NEAR_MISSES);
+            let mut untold: Vec<Slip> = near_misses.map(|near_miss| near_miss.slip).collect();
             for _ in 0..PAIRS / 50 {
                 let messages = rng.messages(profile);
                 for word in received_words(profile, &messages, rng) {

@@ -2,6 +2,7 @@
 
 use coder::codeword::codewords;
 use coder::decode::replaced;
+use coder::erasure::{erased_at, ERASURE};
 use coder::profile::{Profile, PROFILES};
 use coder::rng::Rng;
 use fogzurt::EntryPoints;
@@ -36,17 +37,21 @@ fn lengths(right: usize) -> [usize; 5] {
     [right, right - 1, right + 1, 0, OVERSIZE]
 }
 
-/// A word of the right length, wrong ones, and right ones with a symbol out of range at either end.
+/// A word of the right length, wrong ones, and right ones with a symbol out of range or erased at
+/// either end, with three erasures, and with all symbols erased but one that is out of range.
 fn faulty(q: u8, word: &[u8]) -> Vec<Vec<u8>> {
     let resized = lengths(word.len()).into_iter().map(|length| {
         let mut resized = word.to_vec();
         resized.resize(length, 0);
         resized
     });
-    let out_of_range = [q, 255]
+    let last = word.len();
+    let at_either_end = [q, 254, ERASURE]
         .into_iter()
-        .flat_map(|symbol| [1, word.len()].map(|position| replaced(word, position, symbol)));
-    resized.chain(out_of_range).collect()
+        .flat_map(|symbol| [1, last].map(|position| replaced(word, position, symbol)));
+    let all_erased = vec![ERASURE; last];
+    let spoiled = [q, 254].map(|symbol| replaced(&all_erased, last, symbol));
+    resized.chain(at_either_end).chain([erased_at(word, &[1, 3, last])]).chain(spoiled).collect()
 }
 
 fn check_encode(

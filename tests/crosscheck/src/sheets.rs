@@ -2,8 +2,10 @@
 //! coder and the separate one keep a sheet each; after each call both have to be the same in every
 //! byte.
 
+use coder::erased_words::erased;
+use coder::erasure::ERASURE;
 use coder::list::{CELL, LAST_BOX};
-use coder::profile::PROFILES;
+use coder::profile::{Profile, PROFILES};
 use coder::queue;
 use coder::rng::Rng;
 use fogzurt::EntryPoints;
@@ -141,8 +143,15 @@ impl Sheet<'_> {
     fn enqueue_good(&mut self) -> Checked {
         let profile = self.rng.pick(&PROFILES);
         let box_number = self.rng.from_one_to(usize::from(LAST_BOX)) as u64;
-        let word = self.rng.word(profile.q, profile.word_length());
+        let word = self.word_of(profile);
         self.enqueue(box_number, u64::from(profile.number), &word)
+    }
+
+    /// Noise, half of the time with erasures.
+    fn word_of(&mut self, profile: &Profile) -> Vec<u8> {
+        let word = self.rng.word(profile.q, profile.word_length());
+        let count = *self.rng.pick(&[0, 0, 0, 0, 1, 2, 3, word.len()]);
+        erased(&word, count, &mut self.rng)
     }
 
     /// A record that may be there, and now and then one that cannot.
@@ -156,10 +165,10 @@ impl Sheet<'_> {
     /// Calls with arguments of which each may be wrong.
     fn faulty(&mut self) -> Checked {
         let profile = self.rng.pick(&PROFILES);
-        let mut word = self.rng.word(profile.q, profile.word_length());
+        let mut word = self.word_of(profile);
         if self.rng.once_in(3) {
             let index = self.rng.below(word.len());
-            word[index] = *self.rng.pick(&[profile.q, 255]);
+            word[index] = *self.rng.pick(&[profile.q, 254]);
         }
         if self.rng.once_in(3) {
             let length = *self.rng.pick(&[0, word.len() - 1, word.len() + 1, 1000]);
@@ -175,13 +184,16 @@ impl Sheet<'_> {
     }
 
     /// Writes a byte from outside, calls everything, and puts the sheet back as it was. Half of the
-    /// time the byte is a link: byte 0 of a cell, or one of the two in cell 0.
+    /// time the byte is a link: byte 0 of a cell, or one of the two in cell 0; else it is an erasure
+    /// as often as anything else.
     fn damage(&mut self) -> Checked {
         let before = self.expected.clone();
         let cells = before.len() / CELL;
         let link = self.rng.below(cells + 1);
         let (index, value) = if self.rng.once_in(2) {
-            (self.rng.below(before.len()), self.rng.below(256))
+            let any = self.rng.below(256);
+            let value = if self.rng.once_in(2) { usize::from(ERASURE) } else { any };
+            (self.rng.below(before.len()), value)
         } else {
             (if link == cells { 1 } else { link * CELL }, self.rng.below((cells + 1).min(256)))
         };

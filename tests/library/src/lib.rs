@@ -8,7 +8,7 @@ mod answer;
 use std::env;
 use std::path::PathBuf;
 
-pub use answer::PackedAnswer;
+pub use answer::{PackedAnswer, PositionAndSymbol};
 
 /// The six functions of a coder: the library's, or those of another that answers in the same way.
 pub struct EntryPoints {

@@ -8,7 +8,7 @@ use Rattle.codec_cases.proofs.run.Statement.{statement}
 use Rattle.codec_cases.proofs.run.Tie as tie
 
 slice-aggregate-read-full : tie.Need-slice-aggregate-read-full
-slice-aggregate-read-full c = sym (length-replicate {A = ℕ} 393216 0)
+slice-aggregate-read-full c = sym (length-replicate {A = ℕ} 2097152 0)
 
 read-full-requires : tie.Need-read-full-requires
 read-full-requires c κs = tt

@@ -1,11 +1,10 @@
 -- `fogzurt::fogzurt_decode` meets its contract: decode's, with the report packed.
 -- Assumes nothing.
-use mathlib.Core.Path.{sym, ap, subst, _∙_}
+use mathlib.Core.Path.{ap, _∙_}
 use borrow.Author.Needs.{needs}
 use denote.Ref.{now}
 use lib.ListN.{length}
-use Rattle.code_theory.specs.Operations.{Report}
-use Rattle.fogzurt.specs.Packed.{partsOf, packed, Within}
+use Rattle.fogzurt.specs.Packed.{packed}
 use Rattle.fogzurt.proofs.Packing.{within-answer}
 use Rattle.fogzurt.proofs.fogzurt_decode.Statement.{statement}
 use Rattle.fogzurt.proofs.fogzurt_decode.Tie as tie
@@ -17,7 +16,7 @@ pack-requires : tie.Need-pack-requires
 pack-requires c κs =
     let decoded = c .before .before .before .before in
     let a = (decoded .before .before .before .before .before .before) .args in
-    subst (λ (r : Report). Within (partsOf r)) (sym (decoded .decode .ensures .answer))
+    rw (decoded .decode .ensures .answer)
     (within-answer (a .profile) (now (a .word)) (length (now (a .first))) (length (now (a .second))))
 
 same-length : tie.Need-same-length

@@ -24,14 +24,22 @@ cast-join c =
 join-requires-2 : tie.Need-join-requires-2
 join-requires-2 c κs = search needs
 
+enum-known-answer-2 : tie.Need-enum-known-answer-2
+enum-known-answer-2 c = search needs
+
+pack-filled-requires : tie.Need-pack-filled-requires
+pack-filled-requires c κs =
+    let matched = c .before in
+    rw (matched .answer2 .given .1) at (matched .before .before .pre)
+
 enum-told-2 : tie.Need-enum-told-2
 enum-told-2 c = search needs
 
 join-requires-3 : tie.Need-join-requires-3
 join-requires-3 c κs = search needs
 
-enum-known-answer-2 : tie.Need-enum-known-answer-2
-enum-known-answer-2 c = search needs
+enum-known-answer-3 : tie.Need-enum-known-answer-3
+enum-known-answer-3 c = search needs
 
 join-requires-4 : tie.Need-join-requires-4
 join-requires-4 c κs = search needs
@@ -45,27 +53,18 @@ unfolding packed
 returns-2 c = let matched = c .before .before .before in rw (matched .answer .given .1) (c .join2 .ensures)
 
 returns-3 : tie.Need-returns-3
-unfolding packed
-returns-3 c = rw (c .before .enum-told2 .given .1) (c .join3 .ensures)
+returns-3 c = rw (c .before .before .answer2 .given .1) (c .pack-filled .ensures)
 
 returns-4 : tie.Need-returns-4
 unfolding packed
-returns-4 c = rw (c .before .before .answer2 .given .1) (c .join4 .ensures)
+returns-4 c = rw (c .before .enum-told2 .given .1) (c .join3 .ensures)
+
+returns-5 : tie.Need-returns-5
+unfolding packed
+returns-5 c = rw (c .before .before .answer3 .given .1) (c .join4 .ensures)
 
 pub pack-spec : {M : Type 1} → statement M
 pack-spec =
     tie.close
-    (tie.spec
-    enum-told
-    join-requires
-    enum-known-answer
-    cast-join
-    join-requires-2
-    enum-told-2
-    join-requires-3
-    enum-known-answer-2
-    join-requires-4
-    returns
-    returns-2
-    returns-3
-    returns-4)
+    (tie.spec enum-told join-requires enum-known-answer cast-join join-requires-2 enum-known-answer-2 pack-filled-requires enum-told-2
+    join-requires-3 enum-known-answer-3 join-requires-4 returns returns-2 returns-3 returns-4 returns-5)

@@ -1,14 +1,19 @@
 //! The figures of docs/SERVICE-BOOK.md: what all symbols, the odd and the even positions of a
-//! codeword add up to, and what is answered when two or three symbols of an encoded word are bad.
-//! Bad symbols are at positions, and arrive as levels, that are drawn evenly. For profile 1 every
-//! change of the stated words is tried; elsewhere words and changes are drawn, from a fixed seed.
+//! codeword add up to, what is answered when two or three symbols of an encoded word are bad, and
+//! what when one is bad and one or two others are erased (02, T-01: marked).
+//! Bad and erased symbols are at positions, and bad ones arrive as levels, that are drawn evenly. For
+//! profile 1 every change of the stated words is tried; elsewhere words and changes are drawn, from
+//! a fixed seed. `odds --erasures` prints the last table alone.
+
+use std::process::ExitCode;
 
 use coder::balance::weight;
 use coder::codeword::{all_messages, codewords, Messages};
 use coder::decode::{replaced, search, Decoded};
 use coder::encode::encoded_word;
+use coder::erased_words::erased_and_changed;
+use coder::erasure::ERASURE;
 use coder::profile::{Profile, PROFILES};
-use coder::random_words::changed;
 use coder::rng::Rng;
 
 /// The speed of the line that the times are for.
@@ -22,9 +27,19 @@ enum Plan {
     Drawn { words: usize, changes: usize },
 }
 
+/// How many symbols of a word are erased, and how many others are bad.
+#[derive(Clone, Copy)]
+struct Damage {
+    erased: usize,
+    bad: usize,
+}
+
 /// What is answered: the names of the counts, in the order of `outcome`.
 const OUTCOMES: [&str; 5] =
     ["R 4", "M, another pair", "M, the pair sent", "C, another pair", "C, the pair sent"];
+
+/// The same for a word with erasures.
+const ERASED_OUTCOMES: [&str; 3] = ["R 4", "F, another pair", "F, the pair sent"];
 
 fn outcome(profile: &Profile, sent: &Messages, received: &[u8]) -> usize {
     search(profile, received).map_or(0, |(decoded, read)| {
@@ -44,17 +59,36 @@ fn every_change(q: u8, word: &[u8], count: usize, after: usize, see: &mut dyn Fn
     }
 }
 
+/// Hands over the word with every choice of `count` positions erased, all of them after `after` and
+/// none of them one that differs from what was sent.
+fn every_erasure(sent: &[u8], word: &[u8], count: usize, after: usize, see: &mut dyn FnMut(&[u8])) {
+    if count == 0 {
+        return see(word);
+    }
+    for position in (after + 1..=word.len()).filter(|&at| word[at - 1] == sent[at - 1]) {
+        every_erasure(sent, &replaced(word, position, ERASURE), count - 1, position, see);
+    }
+}
+
 /// One word's counts of outcomes.
 type Counts = [u64; OUTCOMES.len()];
 
-fn counts(profile: &Profile, sent: &Messages, bad: usize, plan: &Plan, rng: &mut Rng) -> Counts {
+fn counts(
+    profile: &Profile,
+    sent: &Messages,
+    Damage { erased, bad }: Damage,
+    plan: &Plan,
+    rng: &mut Rng,
+) -> Counts {
     let word = encoded_word(profile, sent);
     let mut counts = Counts::default();
     let mut see = |received: &[u8]| counts[outcome(profile, sent, received)] += 1;
     match plan {
-        Plan::Every { .. } => every_change(profile.q, &word, bad, 0, &mut see),
+        Plan::Every { .. } => every_change(profile.q, &word, bad, 0, &mut |changed| {
+            every_erasure(&word, changed, erased, 0, &mut see)
+        }),
         Plan::Drawn { changes, .. } => {
-            (0..*changes).for_each(|_| see(&changed(profile, &word, bad, rng)))
+            (0..*changes).for_each(|_| see(&erased_and_changed(profile, &word, [erased, bad], rng)))
         }
     }
     counts
@@ -73,9 +107,9 @@ fn share(words: &[Counts], outcome: usize) -> (f64, f64) {
     (mean, (squares / (count * (count - 1.0))).sqrt())
 }
 
-/// A row of the table: the profile, how many symbols are bad, what was tried, and the outcomes in
-/// 100, with the standard error where changes were drawn.
-fn print_odds(profile: &Profile, bad: usize, plan: &Plan) {
+/// A row of a table: the profile, how many symbols are erased, where some are, and how many are bad,
+/// what was tried, and the outcomes in 100, with the standard error where changes were drawn.
+fn print_odds(profile: &Profile, damage: Damage, plan: &Plan) {
     let rng = &mut Rng::new(20);
     let (sent, how): (Vec<Messages>, &str) = match plan {
         Plan::Every { step } => (all_messages(profile).step_by(*step).collect(), "every change of"),
@@ -84,10 +118,14 @@ fn print_odds(profile: &Profile, bad: usize, plan: &Plan) {
         }
     };
     let words: Vec<Counts> =
-        sent.iter().map(|sent| counts(profile, sent, bad, plan, rng)).collect();
+        sent.iter().map(|sent| counts(profile, sent, damage, plan, rng)).collect();
     let received: u64 = words.iter().flatten().sum();
-    print!("| {} | {bad} | {how} {} words: {received} |", profile.number, words.len());
-    for outcome in 0..OUTCOMES.len() {
+    let (symbols, outcomes) = match damage {
+        Damage { erased: 0, bad } => (bad.to_string(), OUTCOMES.len()),
+        Damage { erased, bad } => (format!("{erased} | {bad}"), ERASED_OUTCOMES.len()),
+    };
+    print!("| {} | {symbols} | {how} {} words: {received} |", profile.number, words.len());
+    for outcome in 0..outcomes {
         match (share(&words, outcome), plan) {
             ((0.0, _), _) => print!(" none |"),
             ((mean, _), Plan::Every { .. }) => print!(" {mean:.3} |"),
@@ -119,15 +157,46 @@ fn print_sums(profile: &Profile, words: usize) {
     println!("| {} | {time:.2} | {total} | {odd} | {even} | {tried} |", profile.number);
 }
 
-fn main() {
-    println!("| profile | ms a word | total | odd places | even places | words tried |");
-    PROFILES.iter().for_each(|profile| print_sums(profile, 10_000));
+/// What is answered when two or three symbols are bad.
+fn print_bad() {
     println!("| profile | bad symbols | tried | {} |", OUTCOMES.join(" | "));
-    print_odds(&PROFILES[0], 2, &Plan::Every { step: 1 });
-    print_odds(&PROFILES[0], 3, &Plan::Every { step: 59 });
+    let bad = |bad: usize| Damage { erased: 0, bad };
+    print_odds(&PROFILES[0], bad(2), &Plan::Every { step: 1 });
+    print_odds(&PROFILES[0], bad(3), &Plan::Every { step: 59 });
     for profile in &PROFILES[1..] {
-        for bad in [2, 3] {
-            print_odds(profile, bad, &Plan::Drawn { words: 1000, changes: 200 });
+        for count in [2, 3] {
+            print_odds(profile, bad(count), &Plan::Drawn { words: 1000, changes: 200 });
         }
     }
+}
+
+/// What is answered when one symbol is bad and one or two others are erased.
+fn print_erased() {
+    println!("| profile | erased | bad | tried | {} |", ERASED_OUTCOMES.join(" | "));
+    let erased = |erased: usize| Damage { erased, bad: 1 };
+    print_odds(&PROFILES[0], erased(1), &Plan::Every { step: 1 });
+    print_odds(&PROFILES[0], erased(2), &Plan::Every { step: 59 });
+    for profile in &PROFILES[1..] {
+        for count in [1, 2] {
+            print_odds(profile, erased(count), &Plan::Drawn { words: 1000, changes: 1000 });
+        }
+    }
+}
+
+fn main() -> ExitCode {
+    let arguments: Vec<String> = std::env::args().skip(1).collect();
+    match arguments.iter().map(String::as_str).collect::<Vec<_>>()[..] {
+        [] => {
+            println!("| profile | ms a word | total | odd places | even places | words tried |");
+            PROFILES.iter().for_each(|profile| print_sums(profile, 10_000));
+            print_bad();
+            print_erased();
+        }
+        ["--erasures"] => print_erased(),
+        _ => {
+            eprintln!("usage: odds [--erasures]");
+            return ExitCode::FAILURE;
+        }
+    }
+    ExitCode::SUCCESS
 }

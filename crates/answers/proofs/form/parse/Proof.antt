@@ -25,7 +25,7 @@ measured c = c .before .before .before
 abbrev profiled : tie.Else3 → tie.Else2
 profiled c = c .before .before
 
-abbrev spaced : tie.After-digit-values → tie.Else3
+abbrev spaced : tie.After-symbol-values → tie.Else3
 spaced c = c .before .before
 
 -- the line, from there on
@@ -63,8 +63,8 @@ returns-3 c =
     let l = line (c .before .before) in
     parsed-bad l _ (bad-space l (c .if3 .taken))
 
-digit-values-requires : tie.Need-digit-values-requires
-digit-values-requires c κs =
+symbol-values-requires : tie.Need-symbol-values-requires
+symbol-values-requires c κs =
     let long = measured (profiled (c .before)) in
     let (few, most) = long-enough long in
     (omega (arith, few), omega (arith, most, start (long .before) .pre))
@@ -76,7 +76,7 @@ returns-4 : tie.Need-returns-4
 returns-4 c =
     let valued = c .before .before .before in
     let l = line (profiled (spaced valued)) in
-    parsed-bad l _ (bad-symbols l _ _ (valued .digit-values .ensures) (c .if4 .taken))
+    parsed-bad l _ (bad-symbols l _ _ (valued .symbol-values .ensures) (c .if4 .taken))
 
 cast-t11 : tie.Need-cast-t11
 cast-t11 c = search needs
@@ -92,10 +92,10 @@ returns-5 c =
     let long = measured profile in
     let fits = sym (long .before .has-length .ensures) ∙ not-false _ (long .if1 .left) in
     parsed-good (line profile) _ _ _ fits (profile .before .digit-value .ensures) (profile .if2 .left) (space .if3 .left)
-    (valued .digit-values .ensures) (c .if4 .left)
+    (valued .symbol-values .ensures) (c .if4 .left)
 
 pub parse-spec : {M : Type 1} → statement M
 parse-spec =
     tie.close
     (tie.spec has-length-requires returns shared-slice-read-digit-value digit-value-requires returns-2 shared-slice-read-if3 returns-3
-    digit-values-requires same-length returns-4 cast-t11 same-length-2 returns-5)
+    symbol-values-requires same-length returns-4 cast-t11 same-length-2 returns-5)

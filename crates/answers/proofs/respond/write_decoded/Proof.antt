@@ -1,6 +1,5 @@
 -- `answers::respond::write_decoded` meets its contract: an arm for each case of the report.
 -- Assumes nothing.
-use native.Mathlib.Omega.{arith}
 use borrow.Author.Needs.{needs}
 use Rattle.answers.proofs.respond.write_decoded.Statement.{statement}
 use Rattle.answers.proofs.respond.write_decoded.Tie as tie
@@ -10,18 +9,33 @@ enum-told c = search needs
 
 reading-line-requires : tie.Need-reading-line-requires
 reading-line-requires c κs =
-    let start = c .before .before .before .before .before .before in
-    let t = rw (c .before .enum-told .given .1) at (start .pre .1) in
-    ((start .pre .0 .0, omega arith, omega arith, start .pre .0 .1), search needs)
+    let clean = c .before in
+    let start = clean .before .before .before .before .before in
+    let sizes = start .pre .0 in
+    let (changes, first, second) = rw (clean .enum-told .given .1) at (start .pre .1) in
+    ((sizes .0, changes, sizes .1), search needs)
 
 enum-known-decoded : tie.Need-enum-known-decoded
 enum-known-decoded c = search needs
 
 reading-line-requires-2 : tie.Need-reading-line-requires-2
 reading-line-requires-2 c κs =
-    let start = c .before .before .before .before .before .before .before in
-    let t = rw (c .before .before .decoded .given .1) at (start .pre .1) in
-    ((start .pre .0 .0, t .0, t .1, start .pre .0 .1), search needs)
+    let corrected = c .before .before in
+    let start = corrected .before .before .before .before .before in
+    let sizes = start .pre .0 in
+    let (changes, first, second) = rw (corrected .decoded .given .1) at (start .pre .1) in
+    ((sizes .0, changes, sizes .1), search needs)
+
+enum-known-decoded-2 : tie.Need-enum-known-decoded-2
+enum-known-decoded-2 c = search needs
+
+reading-line-requires-3 : tie.Need-reading-line-requires-3
+reading-line-requires-3 c κs =
+    let filled = c .before .before in
+    let start = filled .before .before .before .before .before in
+    let sizes = start .pre .0 in
+    let (changes, first, second) = rw (filled .decoded2 .given .1) at (start .pre .1) in
+    ((sizes .0, changes, sizes .1), search needs)
 
 enum-told-2 : tie.Need-enum-told-2
 enum-told-2 c = search needs
@@ -29,13 +43,15 @@ enum-told-2 c = search needs
 refusal-line-requires : tie.Need-refusal-line-requires
 refusal-line-requires c κs = search needs
 
-enum-known-decoded-2 : tie.Need-enum-known-decoded-2
-enum-known-decoded-2 c = search needs
+enum-known-decoded-3 : tie.Need-enum-known-decoded-3
+enum-known-decoded-3 c = search needs
 
 refusal-line-requires-2 : tie.Need-refusal-line-requires-2
 refusal-line-requires-2 c κs =
-    let start = c .before .before .before .before .before .before .before in
-    (rw (c .before .before .decoded2 .given .1) at (start .pre .1), start .pre .0 .1)
+    let refused = c .before .before in
+    let start = refused .before .before .before .before .before in
+    let sizes = start .pre .0 in
+    (rw (refused .decoded3 .given .1) at (start .pre .1), sizes .1)
 
 same-length : tie.Need-same-length
 same-length c = search needs
@@ -53,17 +69,23 @@ same-length-3 : tie.Need-same-length-3
 same-length-3 c = search needs
 
 returns-3 : tie.Need-returns-3
-returns-3 c = let written = c .before .before in rw (written .before .before .enum-told2 .given .1) (written .refusal-line .ensures)
+returns-3 c = let written = c .before .before in rw (written .before .before .before .decoded2 .given .1) (written .reading-line3 .ensures)
 
 same-length-4 : tie.Need-same-length-4
 same-length-4 c = search needs
 
 returns-4 : tie.Need-returns-4
-returns-4 c = let written = c .before .before in rw (written .before .before .before .decoded2 .given .1) (written .refusal-line2 .ensures)
+returns-4 c = let written = c .before .before in rw (written .before .before .enum-told2 .given .1) (written .refusal-line .ensures)
+
+same-length-5 : tie.Need-same-length-5
+same-length-5 c = search needs
+
+returns-5 : tie.Need-returns-5
+returns-5 c = let written = c .before .before in rw (written .before .before .before .decoded3 .given .1) (written .refusal-line2 .ensures)
 
 pub write-decoded-spec : {M : Type 1} → statement M
 write-decoded-spec =
     tie.close
-    (tie.spec enum-told reading-line-requires enum-known-decoded reading-line-requires-2 enum-told-2 refusal-line-requires
-    enum-known-decoded-2 refusal-line-requires-2 same-length returns same-length-2 returns-2 same-length-3 returns-3 same-length-4
-    returns-4)
+    (tie.spec enum-told reading-line-requires enum-known-decoded reading-line-requires-2 enum-known-decoded-2 reading-line-requires-3
+    enum-told-2 refusal-line-requires enum-known-decoded-3 refusal-line-requires-2 same-length returns same-length-2 returns-2
+    same-length-3 returns-3 same-length-4 returns-4 same-length-5 returns-5)

@@ -37,8 +37,7 @@ returns c =
     let first = second .before .before .before .before in
     let headed = first .before .before .before .before in
     let start = headed .before .before .before .before .before in
-    let low = start .pre .0 .2 in
-    reading-written _ _ _ _ _ _ low (headed .heading .ensures .0) (first .word .ensures) (second .word2 .ensures)
+    reading-written _ _ _ _ _ (headed .heading .ensures .0) (first .word .ensures) (second .word2 .ensures)
 
 pub reading-line-spec : {M : Type 1} → statement M
 reading-line-spec =

@@ -1,7 +1,6 @@
--- `answers::text::refusal_line` meets its contract: two pairs of bytes.
+-- `answers::text::refusal_line` meets its contract: two bytes, then the number.
 -- Assumes nothing.
 use Rattle.answers.proofs.Writing.{refusal-written}
-use native.Mathlib.Omega.{arith}
 use borrow.Author.Needs.{needs}
 use Rattle.answers.proofs.text.refusal_line.Statement.{statement}
 use Rattle.answers.proofs.text.refusal_line.Tie as tie
@@ -9,11 +8,8 @@ use Rattle.answers.proofs.text.refusal_line.Tie as tie
 pair-requires : tie.Need-pair-requires
 pair-requires c κs = search needs
 
-add-pair : tie.Need-add-pair
-add-pair c = search needs
-
-pair-requires-2 : tie.Need-pair-requires-2
-pair-requires-2 c κs = search needs
+decimal-requires : tie.Need-decimal-requires
+decimal-requires c κs = search needs
 
 same-length : tie.Need-same-length
 same-length c = search needs
@@ -22,7 +18,7 @@ returns : tie.Need-returns
 returns c =
     let second = c .before .before in
     let first = second .before .before .before .before in
-    refusal-written (omega arith) (first .pair .ensures) (second .pair2 .ensures)
+    refusal-written _ (first .pair .ensures) (second .decimal .ensures .0)
 
 pub refusal-line-spec : {M : Type 1} → statement M
-refusal-line-spec = tie.close (tie.spec pair-requires add-pair pair-requires-2 same-length returns)
+refusal-line-spec = tie.close (tie.spec pair-requires decimal-requires same-length returns)

@@ -21,6 +21,9 @@ loop-holds c = search needs
 shared-slice-read-b : tie.Need-shared-slice-read-b Inv-loop μ-loop
 shared-slice-read-b c = search needs
 
+symbol-of-requires : tie.Need-symbol-of-requires Inv-loop μ-loop
+symbol-of-requires c κs = search needs
+
 slice-write-out : tie.Need-slice-write-out Inv-loop μ-loop
 slice-write-out c = search needs
 
@@ -36,8 +39,9 @@ loop-less c = search needs
 loop-again : tie.Need-loop-again Inv-loop μ-loop
 loop-again c =
     let turn = c .before .before .before in
-    let l : length (turn .loop .out) ≡ length (now (turn .before .args .out)) = turn .loop .inv in
-    ⊎-elim (λ w. ap length (w .2) ∙ simp length-set l) (⊎-elim (λ w. ap length (w .2) ∙ l) (λ w. ap length (w .1) ∙ l)) (c .if1 .came)
+    let start = turn .before .before .before in
+    let l : length (turn .loop .out) ≡ length (now (start .args .out)) = turn .loop .inv in
+    ⊎-elim (λ w. ap length (w .3) ∙ simp length-set l) (⊎-elim (λ w. ap length (w .2) ∙ l) (λ w. ap length (w .1) ∙ l)) (c .if1 .came)
 
 same-length : tie.Need-same-length Inv-loop μ-loop
 same-length c = search needs
@@ -48,4 +52,5 @@ returns c = search needs
 pub parse-symbols-spec : {M : Type 1} → statement M
 parse-symbols-spec =
     tie.close
-    (tie.spec Inv-loop μ-loop loop-holds shared-slice-read-b slice-write-out add-n add-i loop-less loop-again same-length returns)
+    (tie.spec Inv-loop μ-loop loop-holds shared-slice-read-b symbol-of-requires slice-write-out add-n add-i loop-less loop-again
+    same-length returns)

@@ -7,7 +7,7 @@ use native.Mathlib.Omega.{arith}
 use borrow.Author.Needs.{needs}
 use Rattle.modular.specs.Byte.{byteSum}
 use Rattle.modular.proofs.Bytes.{byte-sum}
-use Rattle.decoder.specs.Totals.{checkOf}
+use Rattle.symbols.specs.Weight.{checkOf}
 use Rattle.decoder.proofs.Fitting.{off-odd, off-even}
 use Rattle.decoder.proofs.locate.off_by_lack.Statement.{statement}
 use Rattle.decoder.proofs.locate.off_by_lack.Tie as tie

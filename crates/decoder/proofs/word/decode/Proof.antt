@@ -1,28 +1,37 @@
--- `decoder::word::decode` meets its contract: the refusals come first, and of a word that they let through the theorem of crate
--- decoding_theory says that what its sums lead to is the reading.
+-- `decoder::word::decode` meets its contract: the refusals come first, and of a word that they let through the theorems of crate
+-- decoding_theory say that what its sums lead to is the reading.
 -- Assumes nothing.
 use borrow.Author.Needs.{needs}
-use mathlib.Core.Path.{_≡_, sym, _∙_}
-use mathlib.Core.List.{List}
+use mathlib.Core.Path.{_≡_}
+use mathlib.Core.List.{List, [], _∷_}
 use Prim.Native.Nat.{ℕ}
+use native.Mathlib.Omega.{arith}
 use lib.ListN.{length}
 use denote.Ref.{now}
+use Rattle.code_theory.specs.Erasures.{erasedIndices}
 use Rattle.profiles.specs.declared.row.Row.{Row}
+use Rattle.profiles.specs.declared.refusals.Screened.the-variants as found
 use Rattle.profiles.specs.Row.{RowOf}
-use Rattle.profiles.specs.Refusal.{decodeNumber}
 use Rattle.profiles.proofs.Table.{row-found, none-found}
+use Rattle.profiles.proofs.Refusing.{Admitted}
+use Rattle.profiles.proofs.Screening.{screened-one, screened-two}
+use Rattle.decoder.specs.Outputs.{Outputs}
 use Rattle.decoder.proofs.Answering.{answers-as}
-use Rattle.decoder.proofs.Admitting.{call-unprofiled, call-refused, word-known, outputs-known, decoded-answer}
+use Rattle.decoder.proofs.Admitting.{call-unprofiled, call-refused, whole-known, word-known, outputs-known, decoded-answer}
+use Rattle.decoder.proofs.Admitting.{erased-known, filled-answer}
 use Rattle.decoder.proofs.word.decode.Statement.{statement}
 use Rattle.decoder.proofs.word.decode.Tie as tie
 
--- the row is the profile's
-module _ (c : tie.After-known-told) where
+-- once the word is screened
+module _ (c : tie.After-screen) where
   abbrev start : tie.Start
-  start = c .before .before .before .before .before .before .before
+  start = c .before .before .before .before .before .before .before .before
+
+  abbrev profile : ℕ
+  profile = start .args .profile
 
   abbrev row : Row
-  row = c .before .row .given .0 .0
+  row = c .before .before .row .given .0 .0
 
   abbrev word : List ℕ
   word = now (start .args .word)
@@ -33,16 +42,20 @@ module _ (c : tie.After-known-told) where
   abbrev second : List ℕ
   second = now (start .args .second)
 
-  of : RowOf (start .args .profile) row
-  of = row-found _ (c .before .before .before .row-of .ensures) (c .before .row .given .1)
+  -- the row is the profile's
+  of : RowOf profile row
+  of = row-found _ (c .before .before .before .before .row-of .ensures) (c .before .before .row .given .1)
 
--- past the refusals
-module _ (c : tie.Else1) where
-  abbrev found : tie.After-known-told
-  found = c .before .before
+  one-known : {i : ℕ} → c .screen .result ≡ found.One i
+      → Admitted profile word (length first) (length second) × (erasedIndices 0 word ≡ i ∷ [])
+  one-known e = screened-one _ word (length first) (length second) of (c .screen .ensures) e
 
-  none : decodeNumber (row found) (word found) (length (first found)) (length (second found)) ≡ 0
-  none = sym (c .before .decode-refusal .ensures) ∙ c .if1 .left
+  two-known : {i j : ℕ} → c .screen .result ≡ found.Two i j
+      → Admitted profile word (length first) (length second) × (erasedIndices 0 word ≡ i ∷ j ∷ [])
+  two-known e = screened-two _ word (length first) (length second) of (c .screen .ensures) e
+
+  outputs : Admitted profile word (length first) (length second) → Outputs row first second
+  outputs known = outputs-known _ word first second of (c .screen .ensures) known
 
 row-of-requires : tie.Need-row-of-requires
 row-of-requires c κs = search needs
@@ -56,18 +69,56 @@ enum-told c = search needs
 returns : tie.Need-returns
 returns c = call-unprofiled _ _ _ _ _ _ (none-found _ (c .before .before .row-of .ensures) (c .enum-told .given .1))
 
-decode-refusal-requires : tie.Need-decode-refusal-requires
-decode-refusal-requires c κs = search needs
+screen-requires : tie.Need-screen-requires
+screen-requires c κs = search needs
 
-returns-2 : tie.Need-returns-2
-returns-2 c = call-refused _ _ _ _ (of (c .before .before)) (c .before .decode-refusal .ensures) (c .if1 .taken)
+enum-known-screened : tie.Need-enum-known-screened
+enum-known-screened c = search needs
+
+enum-told-2 : tie.Need-enum-told-2
+enum-told-2 c = search needs
 
 decode-word-requires : tie.Need-decode-word-requires
 decode-word-requires c κs =
-    let past = c .before .before in
-    let f = found past in
-    let o = outputs-known _ (word f) (first f) (second f) (of f) (none past) in
-    (word-known _ (word f) (first f) (second f) (of f) (none past), record { first-long = o .first-long; second-long = o .second-long })
+    let told = c .before .before in
+    let s = told .before .before in
+    let e = told .enum-told2 .given .1 in
+    let o = outputs s (whole-known _ (word s) (first s) (second s) (of s) (s .screen .ensures) e) in (
+      word-known _ (word s) (first s) (second s) (of s) (s .screen .ensures) e,
+      record { first-long = o .first-long; second-long = o .second-long },
+    )
+
+enum-known-screened-2 : tie.Need-enum-known-screened-2
+enum-known-screened-2 c = search needs
+
+decode-one-requires : tie.Need-decode-one-requires
+decode-one-requires c κs =
+    let told = c .before .before .before in
+    let s = told .before .before in
+    let (known, indices) = one-known s (told .screened2 .given .1) in
+    let o = outputs s known in (
+      erased-known _ (word s) (first s) (second s) (of s) (s .screen .ensures) known indices (omega arith),
+      record { first-long = o .first-long; second-long = o .second-long },
+    )
+
+enum-known-screened-3 : tie.Need-enum-known-screened-3
+enum-known-screened-3 c = search needs
+
+decode-two-requires : tie.Need-decode-two-requires
+decode-two-requires c κs =
+    let told = c .before .before .before in
+    let s = told .before .before in
+    let (known, indices) = two-known s (told .screened3 .given .1) in
+    let o = outputs s known in (
+      erased-known _ (word s) (first s) (second s) (of s) (s .screen .ensures) known indices (omega arith),
+      record { first-long = o .first-long; second-long = o .second-long },
+    )
+
+returns-2 : tie.Need-returns-2
+returns-2 c =
+    let told = c .before in
+    let s = told .before .before in
+    call-refused _ (word s) (first s) (second s) (of s) (s .screen .ensures) (told .screened .given .1)
 
 same-length : tie.Need-same-length
 same-length c = search needs
@@ -78,11 +129,43 @@ same-length-2 c = search needs
 returns-3 : tie.Need-returns-3
 returns-3 c =
     let done = c .before .before .before .before in
-    let past = done .before .before .before in
-    let f = found past in
-    answers-as (decoded-answer _ (word f) (first f) (second f) (of f) (none past)) (done .decode-word .ensures)
+    let told = done .before .before .before in
+    let s = told .before .before in
+    answers-as (decoded-answer _ (word s) (first s) (second s) (of s) (s .screen .ensures) (told .enum-told2 .given .1))
+    (done .decode-word .ensures)
+
+same-length-3 : tie.Need-same-length-3
+same-length-3 c = search needs
+
+same-length-4 : tie.Need-same-length-4
+same-length-4 c = search needs
+
+returns-4 : tie.Need-returns-4
+returns-4 c =
+    let done = c .before .before .before .before in
+    let told = done .before .before .before .before in
+    let s = told .before .before in
+    let (known, indices) = one-known s (told .screened2 .given .1) in
+    answers-as (filled-answer _ (word s) (first s) (second s) (of s) (s .screen .ensures) known indices (omega arith))
+    (done .decode-one .ensures)
+
+same-length-5 : tie.Need-same-length-5
+same-length-5 c = search needs
+
+same-length-6 : tie.Need-same-length-6
+same-length-6 c = search needs
+
+returns-5 : tie.Need-returns-5
+returns-5 c =
+    let done = c .before .before .before .before in
+    let told = done .before .before .before .before in
+    let s = told .before .before in
+    let (known, indices) = two-known s (told .screened3 .given .1) in
+    answers-as (filled-answer _ (word s) (first s) (second s) (of s) (s .screen .ensures) known indices (omega arith))
+    (done .decode-two .ensures)
 
 pub decode-spec : {M : Type 1} → statement M
 decode-spec =
-    tie.close (tie.spec row-of-requires enum-known-row enum-told returns decode-refusal-requires returns-2 decode-word-requires
-    same-length same-length-2 returns-3)
+    tie.close (tie.spec row-of-requires enum-known-row enum-told returns screen-requires enum-known-screened enum-told-2
+    decode-word-requires enum-known-screened-2 decode-one-requires enum-known-screened-3 decode-two-requires returns-2 same-length
+    same-length-2 returns-3 same-length-3 same-length-4 returns-4 same-length-5 same-length-6 returns-5)

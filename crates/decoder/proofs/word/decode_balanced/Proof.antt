@@ -17,13 +17,14 @@ use Rattle.decoder.proofs.word.decode_balanced.Statement.{statement}
 use Rattle.decoder.proofs.word.decode_balanced.Tie as tie
 
 -- the cases of an answer that is not unreadable are the others
-none : _≡_ {A = ℕ} 2 0 ⊎ (_≡_ {A = ℕ} 2 1 ⊎ _≡_ {A = ℕ} 2 3) → ⊥
+none : _≡_ {A = ℕ} 3 0 ⊎ (_≡_ {A = ℕ} 3 1 ⊎ (_≡_ {A = ℕ} 3 2 ⊎ _≡_ {A = ℕ} 3 4)) → ⊥
 none (inl e) = omega arith
 none (inr (inl e)) = omega arith
-none (inr (inr e)) = omega arith
+none (inr (inr (inl e))) = omega arith
+none (inr (inr (inr e))) = omega arith
 
 readable : (c : tie.At-match-keys2) → c .before .judge .result ≡ Unreadable → ⊥
-readable c e = none (subst (λ (r : Decoded). OneOf (0 ∷ 1 ∷ 3 ∷ []) (tagOf the-type r)) e (c .match .keys2))
+readable c e = none (subst (λ (r : Decoded). OneOf (0 ∷ 1 ∷ 2 ∷ 4 ∷ []) (tagOf the-type r)) e (c .match .keys2))
 
 judge-requires : tie.Need-judge-requires
 judge-requires c κs = let start = c .before .before in (start .pre .0 .valid, start .pre .1)

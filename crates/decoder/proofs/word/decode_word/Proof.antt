@@ -2,11 +2,10 @@
 -- Assumes nothing.
 use borrow.Author.Needs.{needs}
 use denote.Ref.{now}
-use Rattle.code_theory.proofs.Columns.{q-positive}
 use Rattle.symbols.specs.Columns.{Columns}
-use Rattle.symbols.proofs.Counting.{columns-right}
 use Rattle.decoder.specs.Outputs.{Outputs}
 use Rattle.decoder.proofs.Differencing.{zero-array}
+use Rattle.decoder.proofs.Totalling.{row-columns}
 use Rattle.decoder.proofs.Answering.{answers-as}
 use Rattle.decoder.proofs.Admitting.{balanced-answer, unbalanced-answer}
 use Rattle.decoder.proofs.word.decode_word.Statement.{statement}
@@ -17,7 +16,7 @@ start c = c .before .before .before .before
 
 -- the columns are the row's
 matrix : (c : tie.After-columns) → Columns (start c .args .row .q) (start c .args .row .n) (c .columns .result)
-matrix c = let valid = start c .pre .0 .valid in columns-right (c .columns .ensures) (q-positive _ (valid .sized)) (valid .length)
+matrix c = row-columns (start c .pre .0 .valid) (c .columns .ensures)
 
 -- the moment after the sums, and where their columns were built
 abbrev summed : tie.After-struct-known2 → tie.After-sums-of

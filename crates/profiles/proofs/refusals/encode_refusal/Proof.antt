@@ -3,7 +3,7 @@
 use mathlib.Core.Path.{sym, _∙_}
 use borrow.Author.Needs.{needs}
 use borrow.Author.Tests.{not-true, not-false}
-use Rattle.profiles.proofs.Refusing.{refuses-length, refuses-symbol, refuses-nothing, encode-tests}
+use Rattle.profiles.proofs.Refusing.{refuses-length, refuses-symbol, tests-others, encode-tests}
 use Rattle.profiles.proofs.refusals.encode_refusal.Statement.{statement}
 use Rattle.profiles.proofs.refusals.encode_refusal.Tie as tie
 
@@ -24,7 +24,7 @@ symbols-below-requires-2 c κs = search needs
 returns-3 : tie.Need-returns-3
 returns-3 c =
     let first = c .before .before in
-    refuses-nothing (encode-tests _ _ _ _) (not-false _ (first .before .before .if1 .left))
+    tests-others (encode-tests _ _ _ _) (not-false _ (first .before .before .if1 .left))
     (rw (sym (first .before .symbols-below .ensures) ∙ not-false _ (first .if2 .left))
     (sym (c .before .symbols-below2 .ensures) ∙ c .if3 .taken))
 

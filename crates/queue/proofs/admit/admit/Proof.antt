@@ -58,10 +58,10 @@ length-test a = asks (eqb (length (W a)) (codewordLength (profile (a .args .prof
 abbrev symbols-test : tie.Start → Test
 symbols-test a = asks (isReceived (profile (a .args .profile)) (W a)) 3
 
-symbols-is : (c : tie.After-symbols-below) → c .symbols-below .result ≡ symbols-test (begin (found (c .before .before))) .passes
+symbols-is : (c : tie.After-is-received) → c .is-received .result ≡ symbols-test (begin (found (c .before .before))) .passes
 symbols-is c =
     let f = found (c .before .before) in
-    c .symbols-below .ensures ∙ received-is (of f) (W (begin f))
+    c .is-received .ensures ∙ received-is (of f) (W (begin f))
 
 -- and what passes, one by one
 box-passes : (c : tie.Else1) → AllPass (box-test (start c) ∷ [])
@@ -106,8 +106,8 @@ returns-3 c =
     (stops (box-test a ∷ profile-test a ∷ []) (length-test a) (symbols-test a ∷ []) (profile-passes f)
     (ne-eqb _ _ (λ e. c .if2 .taken (e ∙ sym (codeword-is (of f))))))
 
-symbols-below-requires : tie.Need-symbols-below-requires
-symbols-below-requires c κs = search needs
+is-received-requires : tie.Need-is-received-requires
+is-received-requires c κs = search needs
 
 returns-4 : tie.Need-returns-4
 returns-4 c =
@@ -128,4 +128,4 @@ returns-5 c =
 pub admit-spec : {M : Type 1} → statement M
 admit-spec =
     tie.close
-    (tie.spec returns row-of-requires enum-known-row enum-told returns-2 returns-3 symbols-below-requires returns-4 returns-5)
+    (tie.spec returns row-of-requires enum-known-row enum-told returns-2 returns-3 is-received-requires returns-4 returns-5)

@@ -65,11 +65,11 @@ returns c =
     let looked = c .before .before in
     off (isProfile (looked .before .before .args .profile)) _ (none-found _ (looked .row-of .ensures) (c .enum-told .given .1))
 
-slice-aggregate-symbols-below : tie.Need-slice-aggregate-symbols-below
-slice-aggregate-symbols-below c = sym (length-take-le (N (c .before)) (W (c .before)) (fits (c .before)))
+slice-aggregate-is-received : tie.Need-slice-aggregate-is-received
+slice-aggregate-is-received c = sym (length-take-le (N (c .before)) (W (c .before)) (fits (c .before)))
 
-symbols-below-requires : tie.Need-symbols-below-requires
-symbols-below-requires c κs = search needs
+is-received-requires : tie.Need-is-received-requires
+is-received-requires c κs = search needs
 
 sub-all-zero : tie.Need-sub-all-zero
 sub-all-zero c = omega (arith, fits (c .before .before))
@@ -88,7 +88,7 @@ unfolding isPadded
 returns-2 c =
     let found = c .before .before .before .before in
     let w = W found in
-    let symbols = c .before .before .symbols-below .ensures ∙ received-is (of found) (take (N found) w) in
+    let symbols = c .before .before .is-received .ensures ∙ received-is (of found) (take (N found) w) in
     let rest = c .all-zero .ensures ∙ ap allZero (lent-rest w (N found)) in
     on (isProfile (P found)) _ _ (passes (of found .known))
     (ap₂ _&&_ symbols rest ∙ ap (λ (n : ℕ). isReceived (profile (P found)) (take n w) && allZero (drop n w)) (codeword-is (of found)))
@@ -96,5 +96,5 @@ returns-2 c =
 pub is-padded-spec : {M : Type 1} → statement M
 is-padded-spec =
     tie.close
-    (tie.spec row-of-requires enum-known-row enum-told returns slice-aggregate-symbols-below symbols-below-requires sub-all-zero
+    (tie.spec row-of-requires enum-known-row enum-told returns slice-aggregate-is-received is-received-requires sub-all-zero
     part-all-zero-start part-all-zero-end all-zero-requires returns-2)

@@ -11,10 +11,11 @@ const BOXES: [&str; 4] = ["1 to 12", "13 to 20", "21 to 31", "32 to 40"];
 const SYMBOLS_A_SECOND: usize = 2400;
 
 /// The limit of every answer, in lines.
-const LIMIT: [&str; 4] = [
+const LIMIT: [&str; 5] = [
     "C and M are right while at most ONE symbol of the word is bad.",
-    "With two bad symbols M can give wrong messages; with three or more, C can too.",
-    "Nothing marks such an answer. Reading the box again costs milliseconds.",
+    "F is right while none is, besides the one or two that could not be read.",
+    "With more bad symbols M and F can give wrong messages; with three, C too.",
+    "Nothing shows such an answer. Reading the box again costs milliseconds.",
     "The same answer twice is no proof: a steady fault gives it every time.",
 ];
 
@@ -22,18 +23,19 @@ const LIMIT: [&str; 4] = [
 type Row = (&'static str, &'static str, &'static [&'static str]);
 
 #[rustfmt::skip]
-const WORD_ANSWERS: [Row; 7] = [
+const WORD_ANSWERS: [Row; 9] = [
     ("C", "clean", &["Release or hold, as the two messages say."]),
     ("M", "mended at that place", &["Read again. C with the same two messages:",
         "go by them. Anything else: hold the box, ask",
         "the supervisor, note the place for service."]),
-    ("R 4", "two or more symbols bad", &["Read again. Still R 4: hold the box, ask",
+    ("F", "filled at those places", &["As M."]),
+    ("R 4", "too many symbols bad", &["Read again. Still R 4: hold the box, ask",
         "the supervisor, tell service."]),
+    ("R 11", "more than two not readable", &["As R 4."]),
     ("R 3", "a symbol above the levels", &["Read again. The profile is not the cause."]),
-    ("R 2", "wrong length for the profile", &["Check the profile by the box number.",
-        "Then read again."]),
+    ("R 2", "wrong length for the profile", &["Check the profile by the box, then read again."]),
     ("R 1", "no such profile", &["Check the profile by the box number."]),
-    ("R 9", "not a line of the right form", &["Check the line: profile, one space, digits."]),
+    ("R 9", "not a line of the right form", &["Check the line: profile, space, digits or ?."]),
 ];
 
 #[rustfmt::skip]
@@ -55,7 +57,7 @@ const NOTES: [&str; 3] = [
 
 /// How an answer with messages is laid out.
 const FIELDS: &str =
-    "C and M: profile, letter, place, symbol sent there, message of the opening, of the seal.";
+    "C, M, F: profile, letter, place, symbol sent there (F: twice, if two), opening, seal.";
 
 const LINE: u32 = 21;
 
@@ -65,12 +67,12 @@ fn sized(size: u32, style: &str) -> String {
 
 pub fn draw() -> Picture {
     let mut picture = Picture::a4();
-    picture.text(50, 72, &sized(34, BOLD), "Box line words: what to do");
-    let y = draw_profiles(&mut picture, 116);
-    let y = draw_limit(&mut picture, y + 14);
-    let y = draw_answers(&mut picture, y + 40, "Answers to a word", &WORD_ANSWERS);
+    picture.text(50, 64, &sized(34, BOLD), "Box line words: what to do");
+    let y = draw_profiles(&mut picture, 104);
+    let y = draw_limit(&mut picture, y + 4);
+    let y = draw_answers(&mut picture, y + 30, "Answers to a word", &WORD_ANSWERS);
     picture.text(122, y + 15, &sized(15, ""), FIELDS);
-    let y = draw_answers(&mut picture, y + 54, "Answers of the sheet", &QUEUE_ANSWERS);
+    let y = draw_answers(&mut picture, y + 50, "Answers of the sheet", &QUEUE_ANSWERS);
     let note = "No refusal (R) changes anything. Why, and how often: docs/SERVICE-BOOK.md.";
     picture.text(50, y + 26, &sized(16, ""), note);
     picture

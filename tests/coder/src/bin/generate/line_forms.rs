@@ -7,6 +7,7 @@ use coder::rng::Rng;
 use coder::text::digits;
 
 use crate::case_file::CaseFile;
+use crate::line_erasures;
 
 const SEED: u64 = 0x6c69_6e65;
 
@@ -43,6 +44,7 @@ pub fn make() -> CaseFile {
             add(&mut file, line(profile.number, &word));
         }
     }
+    line_erasures::add_groups(&mut file);
     assert_eq!(boxlines(&file.input).as_bytes(), file.expected);
     file
 }
@@ -54,19 +56,19 @@ pub fn add(file: &mut CaseFile, line: impl AsRef<[u8]>) {
 }
 
 /// Adds the cases of several lines.
-fn add_all<const COUNT: usize>(file: &mut CaseFile, lines: [Vec<u8>; COUNT]) {
+pub fn add_all<const COUNT: usize>(file: &mut CaseFile, lines: [Vec<u8>; COUNT]) {
     for line in lines {
         add(file, line);
     }
 }
 
-/// profile, one space, the digits of a word.
+/// profile, one space, the symbols of a word.
 pub fn line(profile: u8, word: &[u8]) -> String {
     format!("{profile} {}", digits(word))
 }
 
 /// A line with a random codeword of the profile.
-fn good_line(profile: &Profile, rng: &mut Rng) -> Vec<u8> {
+pub fn good_line(profile: &Profile, rng: &mut Rng) -> Vec<u8> {
     line(profile.number, &encoded(profile, rng)).into_bytes()
 }
 
@@ -138,7 +140,7 @@ fn edges(file: &mut CaseFile, rng: &mut Rng) {
 }
 
 /// The line with up to `removed` bytes from the index on replaced by others.
-fn spliced(line: &[u8], index: usize, removed: usize, bytes: &[u8]) -> Vec<u8> {
+pub fn spliced(line: &[u8], index: usize, removed: usize, bytes: &[u8]) -> Vec<u8> {
     let rest = (index + removed).min(line.len());
     [&line[..index], bytes, &line[rest..]].concat()
 }

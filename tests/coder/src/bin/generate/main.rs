@@ -4,6 +4,7 @@
 
 mod case_file;
 mod contents;
+mod line_erasures;
 mod line_forms;
 mod pairs;
 mod sheets;

@@ -4,6 +4,7 @@ use std::iter::repeat_with;
 
 use coder::codeword::{codewords, Messages};
 use coder::encode::encode;
+use coder::erasure::{erased_at, ERASURE};
 use coder::examples;
 use coder::profile::{Profile, PROFILES};
 use coder::rng::Rng;
@@ -27,7 +28,9 @@ pub fn make() -> CaseFile {
     unit_messages(&mut file);
     order_of_choices(&mut file, rng);
     random(&mut file, rng);
-    order_of_refusals(&mut file, rng);
+    file.group("refusals, alone and together, in 01's order");
+    order_of_refusals(&mut file, faulty, rng);
+    erasures(&mut file, rng);
     file
 }
 
@@ -68,7 +71,7 @@ fn constant_messages(file: &mut CaseFile) {
 }
 
 /// Adds pairs of zeros with one other symbol, each of these at every position of both messages.
-fn single_symbols(file: &mut CaseFile, symbols: fn(&Profile) -> [u8; 2]) {
+fn single_symbols<const COUNT: usize>(file: &mut CaseFile, symbols: fn(&Profile) -> [u8; COUNT]) {
     for profile in &PROFILES {
         let k = profile.k();
         for symbol in symbols(profile) {
@@ -118,9 +121,11 @@ fn random(file: &mut CaseFile, rng: &mut Rng) {
     }
 }
 
+/// A message as it is, and with faults.
+type Variants = fn(&Profile, &[u8]) -> Vec<Vec<u8>>;
+
 /// Every profile number with every fault of both messages and of the output.
-fn order_of_refusals(file: &mut CaseFile, rng: &mut Rng) {
-    file.group("refusals, alone and together, in 01's order");
+fn order_of_refusals(file: &mut CaseFile, variants: Variants, rng: &mut Rng) {
     for number in PROFILE_NUMBERS {
         let profile = row_for(number);
         let [firsts, seconds] = rng.messages(profile).map(|message| variants(profile, &message));
@@ -137,15 +142,34 @@ fn order_of_refusals(file: &mut CaseFile, rng: &mut Rng) {
 
 /// A message as it is, and with each fault: short, long with a symbol out of range, empty, and a
 /// symbol out of range at either end.
-fn variants(profile: &Profile, message: &[u8]) -> [Vec<u8>; 6] {
+fn faulty(profile: &Profile, message: &[u8]) -> Vec<Vec<u8>> {
     let k = message.len();
-    [
+    vec![
         message.to_vec(),
         message[1..].to_vec(),
         [message, &[9]].concat(),
         vec![],
         [&message[..k - 1], &[profile.q]].concat(),
         [&[9], &message[1..]].concat(),
+    ]
+}
+
+/// T-01: "Number 3 is left .. for 255 in a user word."
+fn erasures(file: &mut CaseFile, rng: &mut Rng) {
+    file.group("T-01, here and below: ? at every position");
+    single_symbols(file, |_| [ERASURE]);
+    file.group("refusals of messages with ?, alone and together, in 01's order");
+    order_of_refusals(file, |_, message| erased_variants(message), rng);
+}
+
+/// A message as it is, with ? at its end, all of ?, and short with ?.
+fn erased_variants(message: &[u8]) -> Vec<Vec<u8>> {
+    let k = message.len();
+    vec![
+        message.to_vec(),
+        erased_at(message, &[k]),
+        vec![ERASURE; k],
+        erased_at(&message[1..], &[1]),
     ]
 }
 

@@ -2,6 +2,7 @@
 //! longer than the program's buffers, so that reads cut lines and the output fills up. It begins
 //! with 01's example and ends with a line that is not ended.
 
+use coder::erased_words::with_erasures;
 use coder::examples::{BOXLINES_INPUT, BOXLINES_OUTPUT};
 use coder::lines::{boxlines, LONGEST_LINE};
 use coder::profile::PROFILES;
@@ -19,6 +20,9 @@ const BUFFER: usize = 65_536;
 /// Empty lines: their answers are four times as long, and fill the output within the first read.
 /// So many that both ends of a buffer fall within words of the lines after them.
 const EMPTY_LINES: usize = 17_054;
+
+/// How many symbols of a word are erased (02, T-01: marked), and how many others changed.
+const ERASED_AND_CHANGED: [[usize; 2]; 5] = [[3, 0], [1, 1], [2, 1], [1, 0], [2, 0]];
 
 /// A good line of profile 1 (01's zero word).
 const GOOD: &[u8] = b"1 1111111111111111102";
@@ -65,13 +69,21 @@ pub fn long() -> CaseFile {
     for _ in 0..EMPTY_LINES {
         add(&mut file, "");
     }
-    file.group("words with 0 to 3 symbols changed, some of them cut by a read; the last not ended");
+    file.group("words with 0 to 3 symbols changed, some of them cut by a read");
     for count in (0..4).cycle() {
         for profile in &PROFILES {
             add(&mut file, line(profile.number, &with_changes(profile, count, rng)));
         }
         if file.input.len() > 2 * BUFFER + BUFFER / 8 {
             break;
+        }
+    }
+    file.group(
+        "T-01: words with one to three erasures, some with a symbol changed; the last not ended",
+    );
+    for counts in ERASED_AND_CHANGED {
+        for profile in [&PROFILES; 10].into_iter().flatten() {
+            add(&mut file, line(profile.number, &with_erasures(profile, counts, rng)));
         }
     }
     file.input.pop();

@@ -83,16 +83,20 @@ impl Maker {
         self.calls([DEQUEUE; 5]);
     }
 
-    /// No byte can be 255 in a queue of two cells.
+    /// No byte can be 254 in a queue of two cells.
     pub fn every_byte(&mut self) {
-        self.file.group("255 at every byte of a queue with one used and one free cell");
+        self.file.group("254 at every byte of a queue with one used and one free cell");
         self.start(2);
         let enqueue = self.enqueue_of(2);
         self.call(enqueue);
+        self.set_every_byte(254, DEQUEUE);
+    }
+
+    /// Pokes a value into every byte by turns, with a call in between, and takes the record off.
+    pub fn set_every_byte(&mut self, value: u8, call: Call) {
         for index in 0..self.buffer.len() {
-            let before = self.buffer[index];
-            let poke = |value: u8| Call::Poke(index, value);
-            self.calls([poke(255), DEQUEUE, poke(before)]);
+            let before = Call::Poke(index, self.buffer[index]);
+            self.calls([Call::Poke(index, value), call.clone(), before]);
         }
         self.call(DEQUEUE);
     }

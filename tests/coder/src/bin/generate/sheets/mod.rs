@@ -2,9 +2,11 @@
 
 mod calls;
 mod damage;
+mod erasures;
 mod refusals;
 mod runs;
 
+use coder::erased_words::erased;
 use coder::list::{RecordList, CELL, LAST_BOX};
 use coder::profile::PROFILES;
 use coder::rng::Rng;
@@ -27,7 +29,7 @@ pub fn make() -> CaseFile {
     let mut maker = Maker::default();
     maker.layouts();
     maker.one_cell();
-    maker.order_of_refusals();
+    maker.order_of_refusals("refusals", Maker::calls_with_faults);
     maker.every_box();
     maker.every_damage();
     maker.other_orders();
@@ -35,21 +37,24 @@ pub fn make() -> CaseFile {
     maker.long_damage();
     maker.random_runs();
     maker.full_day();
+    maker.erasures();
     maker.file
 }
 
-/// The file in the making, the queue that its calls are made on, and the list that it must answer as.
+/// The file in the making, the queue that its calls are made on, the list that it must answer as,
+/// and whether random words have erasures.
 struct Maker {
     file: CaseFile,
     buffer: Vec<u8>,
     list: RecordList,
     rng: Rng,
+    with_erasures: bool,
 }
 
 impl Default for Maker {
     fn default() -> Maker {
         let (file, list) = (CaseFile::default(), RecordList::new(0));
-        Maker { file, buffer: Vec::new(), list, rng: Rng::new(SEED) }
+        Maker { file, buffer: Vec::new(), list, rng: Rng::new(SEED), with_erasures: false }
     }
 }
 
@@ -69,7 +74,12 @@ impl Maker {
     fn enqueue_of(&mut self, profile: u8) -> Call {
         let row = row_for(profile);
         let box_number = self.rng.from_one_to(usize::from(LAST_BOX)) as u8;
-        Call::Enqueue(box_number, profile, self.rng.word(row.q, row.word_length()))
+        let mut word = self.rng.word(row.q, row.word_length());
+        if self.with_erasures {
+            let count = *self.rng.pick(&[0, 1, 2, 3, word.len()]);
+            word = erased(&word, count, &mut self.rng);
+        }
+        Call::Enqueue(box_number, profile, word)
     }
 
     /// Enqueues this many records.

@@ -20,13 +20,13 @@ const STATES: [State; 5] = [
 ];
 
 impl Maker {
-    /// Every fault of each call's arguments, alone and together, on a queue of a wrong length, an
+    /// Every fault of these calls' arguments, alone and together, on a queue of a wrong length, an
     /// unsound one, and sound ones. A call that changes the queue is followed by a new queue.
-    pub fn order_of_refusals(&mut self) {
+    pub fn order_of_refusals(&mut self, name: &str, calls: fn(&mut Maker) -> Vec<Call>) {
         for state in STATES {
-            self.file.group(format!("refusals, alone and together, in 01's order: {}", state.0));
+            self.file.group(format!("{name}, alone and together, in 01's order: {}", state.0));
             self.prepare(state);
-            for call in self.calls_with_faults() {
+            for call in calls(self) {
                 let before = self.buffer.clone();
                 self.call(call);
                 if self.buffer != before {
@@ -79,7 +79,7 @@ impl Maker {
 }
 
 /// A word of N symbols, and with each fault: short, long, empty, a symbol out of range at either
-/// end, and long with a symbol out of range.
+/// end, and long with a symbol out of range. 255 would be no fault, but an erasure.
 fn word_variants(q: u8, word: &[u8]) -> [Vec<u8>; 7] {
     let last = word.len() - 1;
     [
@@ -88,7 +88,7 @@ fn word_variants(q: u8, word: &[u8]) -> [Vec<u8>; 7] {
         [word, &[0]].concat(),
         vec![],
         [&word[..last], &[q]].concat(),
-        [&[255], &word[1..]].concat(),
-        [word, &[255]].concat(),
+        [&[254], &word[1..]].concat(),
+        [word, &[254]].concat(),
     ]
 }

@@ -1,5 +1,6 @@
 //! Long runs of calls: random ones on queues of several capacities, and a day on the largest.
 
+use coder::erasure::ERASURE;
 use coder::list::CELL;
 
 use super::calls::Call;
@@ -14,13 +15,13 @@ const ROTATIONS: usize = 1600;
 impl Maker {
     pub fn random_runs(&mut self) {
         for (capacity, calls) in RANDOM_RUNS {
-            self.random_run(capacity, calls);
+            self.random_run("random calls", capacity, calls);
         }
     }
 
     /// Random calls on a queue that fills and drains by turns; some refused, some on damage.
-    fn random_run(&mut self, capacity: usize, calls: usize) {
-        self.file.group(format!("random calls, R = {capacity}"));
+    pub fn random_run(&mut self, name: &str, capacity: usize, calls: usize) {
+        self.file.group(format!("{name}, R = {capacity}"));
         self.start(capacity);
         for count in 0..calls {
             let filling = (count / (2 * capacity + 3)).is_multiple_of(2);
@@ -39,10 +40,11 @@ impl Maker {
         }
     }
 
-    /// Any byte, set to any value and back.
+    /// Any byte, set to any value and back; half of the time to 255 where there are erasures.
     fn random_damage(&mut self) {
         let index = self.rng.below(self.buffer.len());
-        let value = self.rng.below(256) as u8;
+        let any = self.rng.below(256) as u8;
+        let value = if self.with_erasures && self.rng.once_in(2) { ERASURE } else { any };
         self.poke_and_repair(index, value);
     }
 

@@ -1,12 +1,14 @@
 //! words: received words of all profiles, and what decoding answers.
 
+mod erasures;
+
 use std::iter::repeat_with;
 
 use coder::balance::balanced_words;
 use coder::codeword::with_check_symbols;
 use coder::decode::{decode, replaced, within_one};
 use coder::examples::DECODED;
-use coder::near_misses::NEAR_MISSES;
+use coder::near_misses::{NearMiss, NEAR_MISSES};
 use coder::profile::{Profile, PROFILES};
 use coder::random_words::{
     both_check_symbols, by_another_choice, changed_at, codeword, encoded, with_changes, Build,
@@ -22,7 +24,9 @@ const SEED: u64 = 0x776f_7264;
 const OF_EACH_NEAR_MISS: usize = 4;
 
 /// What is received, how many words of it for each profile, and how one is built.
-const RECEIVED: [(&str, usize, Build); 9] = [
+type Received = (&'static str, usize, Build);
+
+const RECEIVED: [Received; 9] = [
     ("the encoder's word", 40, |profile, rng| Some(encoded(profile, rng))),
     ("codeword by another choice", 60, by_another_choice),
     ("one symbol changed", 200, |profile, rng| Some(with_changes(profile, 1, rng))),
@@ -37,12 +41,14 @@ const RECEIVED: [(&str, usize, Build); 9] = [
 pub fn make() -> CaseFile {
     let mut file = CaseFile::default();
     let rng = &mut Rng::new(SEED);
-    cases_of_01(&mut file);
-    near_misses(&mut file, rng);
+    file.group("cases of 01");
+    cases_by_hand(&mut file, &DECODED);
+    near_misses(&mut file, &NEAR_MISSES, rng);
     every_position_and_level(&mut file, rng);
-    received(&mut file, rng);
+    received(&mut file, &RECEIVED, rng);
     symbols_out_of_range(&mut file, rng);
     order_of_refusals(&mut file, rng);
+    erasures::add_groups(&mut file);
     file
 }
 
@@ -61,17 +67,16 @@ fn add_word(file: &mut CaseFile, profile: &Profile, word: &[u8]) {
     add(file, profile.number, word, [profile.k(); 2]);
 }
 
-/// 01's own cases, with 01's answers.
-fn cases_of_01(file: &mut CaseFile) {
-    file.group("cases of 01");
-    for (word, expected) in DECODED {
+/// Words of profile 1, with answers that were worked out by hand.
+fn cases_by_hand(file: &mut CaseFile, cases: &[(&str, &str)]) {
+    for (word, expected) in cases {
         file.case(format!("1 {word} 5 5"), expected);
     }
 }
 
 /// The words of every near miss, for every profile in which it does harm.
-fn near_misses(file: &mut CaseFile, rng: &mut Rng) {
-    for near_miss in &NEAR_MISSES {
+fn near_misses(file: &mut CaseFile, table: &[NearMiss], rng: &mut Rng) {
+    for near_miss in table {
         file.group(format!("near miss {:?}: {}", near_miss.slip, near_miss.name));
         for profile in &PROFILES {
             for word in near_miss.words(profile, OF_EACH_NEAR_MISS, rng) {
@@ -92,9 +97,9 @@ fn every_position_and_level(file: &mut CaseFile, rng: &mut Rng) {
     }
 }
 
-/// Random words of every kind in RECEIVED.
-fn received(file: &mut CaseFile, rng: &mut Rng) {
-    for (name, count, build) in RECEIVED {
+/// Random words of every kind in the table.
+fn received(file: &mut CaseFile, table: &[Received], rng: &mut Rng) {
+    for &(name, count, build) in table {
         file.group(name);
         for profile in &PROFILES {
             for word in repeat_with(|| build(profile, rng)).flatten().take(count) {

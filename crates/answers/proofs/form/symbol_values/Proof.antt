@@ -1,4 +1,4 @@
--- `answers::form::digit_values` meets its contract: after i turns the first i bytes are read.
+-- `answers::form::symbol_values` meets its contract: after i turns the first i bytes are read.
 -- Assumes nothing.
 use mathlib.Core.Path.{refl}
 use Prim.Native.Nat.{_-_, zero-le}
@@ -6,8 +6,8 @@ use native.Mathlib.Omega.{arith}
 use denote.Ref.{now}
 use lib.ListN.{length, drop, length-drop}
 use Rattle.answers.proofs.Forms.{Taken, taken-more, taken-all, two-on}
-use Rattle.answers.proofs.form.digit_values.Statement.{statement}
-use Rattle.answers.proofs.form.digit_values.Tie as tie
+use Rattle.answers.proofs.form.symbol_values.Statement.{statement}
+use Rattle.answers.proofs.form.symbol_values.Tie as tie
 
 abbrev Inv-loop : tie.InvT-loop
 Inv-loop line word₀ highest₀ i₀ word highest i = Taken (drop 2 line) word₀ word highest i
@@ -16,19 +16,19 @@ abbrev μ-loop : tie.MeasureT-loop
 μ-loop line word₀ highest₀ i₀ word highest i = length line - 2 - i
 
 loop-holds : tie.Need-loop-holds Inv-loop μ-loop
-loop-holds c = record { within = zero-le; same = refl; low = λ t. zero-le; digits = λ h. tt; text = λ h. refl }
+loop-holds c = record { within = zero-le; same = refl; low = λ t. zero-le; symbols = λ h. tt; text = λ h. refl }
 
 sub-loop : tie.Need-sub-loop Inv-loop μ-loop
 sub-loop c = omega arith
 
-add-digit-value : tie.Need-add-digit-value Inv-loop μ-loop
-add-digit-value c = omega arith
+add-symbol-of : tie.Need-add-symbol-of Inv-loop μ-loop
+add-symbol-of c = omega arith
 
-shared-slice-read-digit-value : tie.Need-shared-slice-read-digit-value Inv-loop μ-loop
-shared-slice-read-digit-value c = omega arith
+shared-slice-read-symbol-of : tie.Need-shared-slice-read-symbol-of Inv-loop μ-loop
+shared-slice-read-symbol-of c = omega arith
 
-digit-value-requires : tie.Need-digit-value-requires Inv-loop μ-loop
-digit-value-requires c κs = tt
+symbol-of-requires : tie.Need-symbol-of-requires Inv-loop μ-loop
+symbol-of-requires c κs = tt
 
 slice-write-word : tie.Need-slice-write-word Inv-loop μ-loop
 slice-write-word c = let turn = c .before .before .before in omega (arith, turn .loop .inv .same)
@@ -47,8 +47,8 @@ loop-again c =
     let entered = c .before .before .before in
     let turn = entered .before in
     let start = turn .before .before .before in
-    taken-more _ _ (turn .loop .inv) (rw length-drop (entered .loop-test .taken)) (rw length-drop (omega arith))
-    (rw (two-on (now (start .args .line)) (turn .loop .i)) (c .before .digit-value .ensures)) (c .higher .ensures)
+    taken-more _ _ _ (turn .loop .inv) (rw length-drop (entered .loop-test .taken)) (rw length-drop (omega arith))
+    (rw (two-on (now (start .args .line)) (turn .loop .i)) (c .before .symbol-of .ensures)) (c .higher .ensures)
 
 same-length : tie.Need-same-length Inv-loop μ-loop
 same-length c = c .before .loop .inv .same
@@ -56,8 +56,8 @@ same-length c = c .before .loop .inv .same
 returns : tie.Need-returns Inv-loop μ-loop
 returns c = taken-all (c .before .loop .inv) (rw length-drop (c .loop-test .left))
 
-pub digit-values-spec : {M : Type 1} → statement M
-digit-values-spec =
+pub symbol-values-spec : {M : Type 1} → statement M
+symbol-values-spec =
     tie.close
-    (tie.spec Inv-loop μ-loop loop-holds sub-loop add-digit-value shared-slice-read-digit-value digit-value-requires slice-write-word
+    (tie.spec Inv-loop μ-loop loop-holds sub-loop add-symbol-of shared-slice-read-symbol-of symbol-of-requires slice-write-word
     higher-requires add-i loop-less loop-again same-length returns)

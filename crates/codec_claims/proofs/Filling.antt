@@ -1,0 +1,97 @@
+-- 02's rule of decode: the contract says of a word with one or two erasures that it is read as the rule says, and the rule fills a word in
+-- one way at most, since two codewords differ in three positions or more.
+-- Assumes nothing.
+use mathlib.Core.Path.{_≡_, sym, ap, subst, _∙_}
+use mathlib.Core.List.{List}
+use Prim.Native.Nat.{ℕ}
+use native.Mathlib.Omega.{arith}
+use lib.Dec.{T, eqb}
+use lib.ListN.{length, set, length-set}
+use Rattle.modular_theory.proofs.Search.{and-right}
+use Rattle.code_theory.specs.Parameters.{Sized, codewordLength}
+use Rattle.code_theory.specs.Component.{symbolsBelow, isWord, erasure, isReceived}
+use Rattle.code_theory.specs.Codeword.{codeword}
+use Rattle.code_theory.specs.Erasures.{erasures}
+use Rattle.code_theory.specs.Reading.{Reading, filledReading}
+use Rattle.code_theory.specs.Profiles.{isProfile, profile}
+use Rattle.code_theory.specs.Operations.{answered, report, reportNumber}
+use Rattle.code_theory.specs.Claims as Reads
+use Rattle.code_theory.proofs.Merge.{word-length}
+use Rattle.code_theory.proofs.Profiles.{profiles-fit}
+use Rattle.code_theory.proofs.Apart.{apart}
+use Rattle.code_theory.proofs.Whole.{levels-received, erased-received}
+use Rattle.code_theory.proofs.Reading.{codeword-word}
+use Rattle.code_theory.proofs.Erased.{erasures-filled, erased-by-filling}
+use Rattle.decoder.specs.declared.word.Decoded.{Decoded}
+use Rattle.decoder.specs.Decode.{Answers}
+use Rattle.codec_claims.specs.Decoding.{Allowed}
+use Rattle.codec_claims.specs.Filling.{WithErasures, FillsErasures}
+use Rattle.codec_claims.proofs.Decoding.{none-read, admitted, small, answered-by}
+
+module _ (i : ℕ) (t : T (isProfile i)) where
+  sized : Sized (profile i)
+  sized = profiles-fit .0 i t .0
+
+  law : Reads.Fills (profile i) 2
+  law = erasures-filled (profile i) sized (small i t) 2 (apart (profile i) sized (profiles-fit .0 i t .1))
+
+  -- the contract speaks of the rule's reading
+  filled-by : (v : List ℕ) → WithErasures i v → {r : Decoded} {first second : List ℕ} → (a : Allowed i v r first second)
+      → Answers (answered (filledReading (profile i) v)) r (a .before-first) first (a .before-second) second
+  filled-by v m {r} {first} {second} a =
+      subst (λ (d : Reading). Answers (answered d) r (a .before-first) first (a .before-second) second)
+      (erased-by-filling (profile i) v (m .some)) (admitted i t v (m .long) (m .symbols) (m .few) a)
+
+  -- codewords with erased symbols
+  module _ (u : List ℕ) (c : T (codeword (profile i) u)) where
+    word : T (isWord (profile i .q) (codewordLength (profile i)) u)
+    word = codeword-word (profile i) sized u c
+
+    long : length u ≡ codewordLength (profile i)
+    long = word-length (profile i .q) (codewordLength (profile i)) u word
+
+    symbols : T (isReceived (profile i) u)
+    symbols =
+        levels-received (profile i .q) u (and-right (eqb (length u) (codewordLength (profile i))) (symbolsBelow (profile i .q) u) word)
+
+    one-erased : (k : ℕ) → erasures (set u k erasure) ≡ 1 → WithErasures i (set u k erasure)
+    one-erased k e =
+        record {
+          long = length-set u k erasure ∙ long;
+          symbols = erased-received (profile i .q) u k symbols;
+          some = omega arith;
+          few = omega arith;
+        }
+
+    two-erased : (j k : ℕ) → erasures (set (set u j erasure) k erasure) ≡ 2 → WithErasures i (set (set u j erasure) k erasure)
+    two-erased j k e =
+        record {
+          long = length-set (set u j erasure) k erasure ∙ length-set u j erasure ∙ long;
+          symbols = erased-received (profile i .q) (set u j erasure) k (erased-received (profile i .q) u j symbols);
+          some = omega arith;
+          few = omega arith;
+        }
+
+  pub decode-fills-at : FillsErasures i
+  decode-fills-at =
+      record {
+        one =
+            λ u c k l r first second a.
+            let (count, is) = law .one (omega arith) u c k l in
+            answered-by i t u is (filled-by (set u k erasure) (one-erased u c k count) a);
+        two =
+            λ u c j k less l r first second a.
+            let (count, is) = law .two (omega arith) u c j k less l in
+            answered-by i t u is (filled-by (set (set u j erasure) k erasure) (two-erased u c j k count) a);
+        read =
+            λ v m u c agrees r first second a.
+            answered-by i t u (law .reads v u (m .few) c agrees) (filled-by v m a);
+        only = λ v few u u′ c c′ a a′. law .only v u u′ few c c′ a a′;
+        refused =
+            λ v m r first second a.
+            let h = filled-by v m a in
+            let f = law .refused v in (
+              λ e. f .0 (none-read (filledReading (profile i) v) (ap reportNumber (sym (h .answer)) ∙ e)),
+              λ g. ap reportNumber (h .answer) ∙ ap (λ (d : Reading). reportNumber (report (answered d))) (f .1 g),
+            );
+      }

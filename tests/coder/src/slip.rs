@@ -1,0 +1,64 @@
+//! The steps of a decoder that can be got wrong.
+
+/// One step got wrong: 01's "Wrong turns seen in drafts", and others of their kind; then those that
+/// the erasures of T-01 invite.
+#[derive(Debug, Clone, Copy, PartialEq, Eq)]
+pub enum Slip {
+    /// δ is 002's printed 2(q−1)(2−m).
+    PrintedDelta,
+    /// The received check symbols are added, as 002 prints it, and not subtracted.
+    CheckSymbolsAdded,
+    /// A balanced word is clean, whatever its check symbols say.
+    BalanceIsClean,
+    /// An excess of weight of q or more is reduced mod q.
+    ExcessReduced,
+    /// A check sum may be off by any amount, and not only by the excess of weight mod q.
+    CheckSumOffByAny,
+    /// The error is removed mod q, and not by plain subtraction.
+    RemovedModQ,
+    /// The first position whose symbol stays in range is taken, whatever the components say.
+    FirstInRange,
+    /// A syndrome of zeros with a last 1 names no position, and is taken as nothing to undo.
+    PositionZero,
+    /// The last row is not looked at, so any amount at one position passes for a 1.
+    LastRowIgnored,
+    /// Both components may have a 1 to be taken away.
+    BothTaken,
+    /// Only the first component is tested.
+    FirstComponentOnly,
+    /// Only the second component is tested.
+    SecondComponentOnly,
+    /// Only the word that the encoder makes is accepted, and no other codeword of the pair.
+    EncodedWordOnly,
+    /// T-01, here and below. An erasure still spoils the word: number 3.
+    ErasureSpoils,
+    /// An erasure is taken for level 0, and the word is then decoded as one without erasures.
+    ErasureIsZero,
+    /// A filling that is one symbol away from a codeword will do, whichever symbol that is.
+    UnerasedCorrected,
+    /// What the weight lacks is reduced mod q, so that a filled word may weigh q too much or too
+    /// little.
+    LackReduced,
+    /// The components of a filled word are not tested: its weight and check symbols are enough.
+    ComponentsUntested,
+    /// Of the fillings with the right weight and check symbols only the first is tested.
+    OneFillingTried,
+    /// Where one check symbol is erased, the other is not compared either.
+    OtherCheckUntested,
+    /// Where no check symbol is erased, a filled word's check symbols are not compared.
+    CheckSymbolsUntested,
+    /// Where both check symbols are erased, the word need not be balanced.
+    BalanceUntested,
+    /// Only the first of two filled positions is reported.
+    FirstReported,
+    /// Two filled positions are reported in falling order.
+    FallingOrder,
+    /// Number 11 comes before number 3.
+    ErasuresBeforeSymbols,
+    /// Number 4 comes before number 11.
+    UnreadableBeforeErasures,
+    /// More than two erasures that can be filled are, and number 11 is for the others.
+    ManyFilled,
+    /// Three erasures are allowed.
+    ThreeAllowed,
+}
