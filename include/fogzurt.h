@@ -43,9 +43,10 @@
 extern "C" {
 #endif
 
-/* Major, minor: a major step breaks a caller. */
+/* Major, minor: a major step breaks a caller. 2.1 added FOGZURT_ERROR and no more: each macro masks
+ * its own byte of an answer, so a caller of 2.0 stays as it is. */
 #define FOGZURT_VERSION_MAJOR 2
-#define FOGZURT_VERSION_MINOR 0
+#define FOGZURT_VERSION_MINOR 1
 
 /* The number in an answer: 0, or why the call was refused. */
 #define FOGZURT_NUMBER(answer) ((unsigned)((uint64_t)(answer) & 0xff))
@@ -103,8 +104,8 @@ uint64_t fogzurt_encode(uint64_t profile, const uint8_t *first, size_t first_len
 uint64_t fogzurt_decode(uint64_t profile, const uint8_t *word, size_t word_len, uint8_t *first,
                         size_t first_len, uint8_t *second, size_t second_len);
 
-/* The parts of fogzurt_decode's answer, a byte each, above the number. Bytes without a macro are 0
- * in this version, and are not to be tested. */
+/* The parts of fogzurt_decode's answer, a byte each, above the number. The last byte has no macro: it
+ * is 0 in this version, and is not to be tested. */
 
 /* What the word turned out to be. */
 #define FOGZURT_KIND(answer) ((unsigned)((uint64_t)(answer) >> 8 & 0xff))
@@ -123,6 +124,13 @@ enum {
 /* The second position that was filled, and the symbol sent there; 0 where no second one was. */
 #define FOGZURT_SECOND_POSITION(answer) ((unsigned)((uint64_t)(answer) >> 32 & 0xff))
 #define FOGZURT_SECOND_SENT_SYMBOL(answer) ((unsigned)((uint64_t)(answer) >> 40 & 0xff))
+
+/* The error of a word that was corrected: the symbol received minus the symbol sent (the request's
+ * "fault"), from -(q - 1) to q - 1 and not 0, at a check symbol (one of the last two) as well. While no
+ * other symbol is wrong, it is above 0 where the symbol arrived too high, and below 0 where it arrived
+ * too low. 0 where the word is clean, filled or refused. A signed int; the numbers of refusals are
+ * FOGZURT_NUMBER's. */
+#define FOGZURT_ERROR(answer) ((int)(((uint64_t)(answer) >> 48 & 0xff) ^ 0x80) - 0x80)
 
 /* The bytes of a cell, and of a record that is copied out: byte 0 is 0, then come the box number,
  * the profile and the word's symbols, any of which may be FOGZURT_ERASURE, and then zeros. */

@@ -36,6 +36,11 @@ static void print_symbols(const char *label, const uint8_t *symbols, size_t leng
     printf("\n");
 }
 
+/* Prints the error of a corrected symbol: received minus sent. */
+static void print_error(int error) {
+    printf("  error %+d: it arrived %d too %s\n", error, abs(error), error > 0 ? "high" : "low");
+}
+
 /* Prints what decoding a word says about it, and its messages. */
 static void print_decoded(const uint8_t *word) {
     uint8_t first[MESSAGE], second[MESSAGE];
@@ -47,6 +52,7 @@ static void print_decoded(const uint8_t *word) {
     if (FOGZURT_KIND(answer) == FOGZURT_KIND_CORRECTED) {
         printf("  corrected: a %u was sent at position %u\n", FOGZURT_SENT_SYMBOL(answer),
                FOGZURT_POSITION(answer));
+        print_error(FOGZURT_ERROR(answer));
     } else if (FOGZURT_KIND(answer) == FOGZURT_KIND_FILLED) {
         printf("  filled: a %u was sent at position %u", FOGZURT_SENT_SYMBOL(answer),
                FOGZURT_POSITION(answer));
@@ -79,6 +85,10 @@ int main(void) {
     print_decoded(word);
 
     word[6 - 1] = 2; /* positions count from 1 */
+    print_symbols("received          ", word, WORD);
+    print_decoded(word);
+
+    word[6 - 1] = 0;
     print_symbols("received          ", word, WORD);
     print_decoded(word);
 

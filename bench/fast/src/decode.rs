@@ -1,7 +1,7 @@
 //! Decoding (01: read), in O(m·r): both syndromes are formed once, and moved for each position
 //! that may hold the wrong symbol.
 
-use coder::decode::Decoded;
+use coder::decode::{Decoded, Kind, Sent};
 use coder::refusal::{require, Refusal};
 
 use crate::code::{dot, Code, Symbols, MAX_M, MAX_R};
@@ -13,9 +13,15 @@ pub(crate) type Syndromes = [i16; 2 * MAX_R];
 /// For each component, the position from which 1 is to be taken, or 0 if it is in code.
 pub(crate) type Added = [usize; 2];
 
-/// The index of a wrong symbol and what was sent there, if there is one, and what the components
-/// then are.
-type Found = (Option<(usize, u8)>, Added);
+/// The index of a wrong symbol, what was sent there, and the error: received minus sent.
+struct Correction {
+    index: usize,
+    symbol: u8,
+    error: i16,
+}
+
+/// The correction, if a symbol is wrong, and what the components then are.
+type Found = (Option<Correction>, Added);
 
 /// Decodes a received word. Refusals 1, 2, 3, 11 and 4, in this order.
 pub fn decode(
@@ -40,15 +46,15 @@ impl<const Q: usize, const R: usize, const N: usize> Code<Q, R, N> {
         }
         let mut w = Self::symbols(word, |byte| byte);
         let (correction, added) = Self::find(&w, word).ok_or(Refusal::Unreadable)?;
-        if let Some((index, symbol)) = correction {
+        if let Some(Correction { index, symbol, .. }) = correction {
             if index < Self::M {
                 w[index] = i16::from(symbol);
             }
         }
         Self::write_messages(&w, added, first, second);
-        Ok(correction.map_or(Decoded::Clean, |(index, symbol)| Decoded::Corrected {
-            position: index + 1,
-            symbol,
+        Ok(correction.map_or(Decoded::CLEAN, |Correction { index, symbol, error }| Decoded {
+            kind: Kind::Corrected(Sent { position: index + 1, symbol }),
+            error,
         }))
     }
 
@@ -97,8 +103,10 @@ impl<const Q: usize, const R: usize, const N: usize> Code<Q, R, N> {
         syndromes: &Syndromes,
     ) -> Option<Found> {
         let index = Self::M + check;
-        let symbol = Self::mod_q(i16::from(word[index]) + off[check]) as u8;
-        Some((Some((index, symbol)), Self::added(syndromes)?))
+        let received = i16::from(word[index]);
+        let symbol = Self::mod_q(received + off[check]);
+        let correction = Correction { index, symbol: symbol as u8, error: received - symbol };
+        Some((Some(correction), Self::added(syndromes)?))
     }
 
     /// w is off balance by `excess`, and only the check sum of the indices `start`, `start` + 2, ..
@@ -119,7 +127,7 @@ impl<const Q: usize, const R: usize, const N: usize> Code<Q, R, N> {
                 return None;
             }
             let added = Self::added(&Self::moved(syndromes, index, excess))?;
-            Some((Some((index, level as u8)), added))
+            Some((Some(Correction { index, symbol: level as u8, error: excess }), added))
         })
     }
 

@@ -1,7 +1,7 @@
 //! Decoding of words with erasures (02, T-01: marks), in O(m·r + q·r): all sums are formed once, with
 //! 0 at the erasures, and moved for each filling of w that balances it.
 
-use coder::decode::{Decoded, Sent};
+use coder::decode::{Decoded, Kind, Sent};
 use coder::erasure::ERASURE;
 use coder::refusal::{require, Refusal};
 
@@ -50,7 +50,8 @@ impl<const Q: usize, const R: usize, const N: usize> Code<Q, R, N> {
             let symbol = if index < Self::M { w[index] } else { filling.checks[index - Self::M] };
             Sent { position: index + 1, symbol: symbol as u8 }
         };
-        Ok(Decoded::Filled(sent(erased.one), erased.other.map(sent)))
+        let kind = Kind::Filled(sent(erased.one), erased.other.map(sent));
+        Ok(Decoded { kind, error: 0 })
     }
 
     /// The filling of w that makes the word a codeword. What the weight lacks is one erasure's

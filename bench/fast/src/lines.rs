@@ -1,6 +1,6 @@
 //! One line of the program boxlines: the answer to its bytes.
 
-use coder::decode::{Decoded, Sent};
+use coder::decode::{Kind, Sent};
 use coder::erasure::ERASURE;
 use coder::refusal::{require, Refusal};
 use coder::text::ERASURE_BYTE;
@@ -8,8 +8,8 @@ use coder::text::ERASURE_BYTE;
 use crate::code::highest;
 use crate::{decode, shape};
 
-/// The longest answer is profile 4's, as in `4 F 98 6 99 6 `, two messages of 45, a space and byte 10.
-pub const LONGEST_ANSWER: usize = 106;
+/// The longest answer is profile 4's, as in `4 F 98 6 99 6 0 `, two messages of 45, a space and byte 10.
+pub const LONGEST_ANSWER: usize = 108;
 
 /// What is left of a question mark when the digit 0 is taken from it.
 const MARK: u8 = ERASURE_BYTE - b'0';
@@ -58,6 +58,16 @@ impl Answer<'_> {
         self.put(&[b' ', b'0' + symbol]);
     }
 
+    /// A space and the error, which is below 10 in size: 0, or a sign and a digit.
+    fn error(&mut self, error: i16) {
+        let digit = b'0' + error.unsigned_abs() as u8;
+        match error {
+            0 => self.put(b" 0"),
+            1.. => self.put(&[b' ', b'+', digit]),
+            _ => self.put(&[b' ', b'-', digit]),
+        }
+    }
+
     /// A space and the digits of a message.
     fn message(&mut self, message: &[u8]) {
         self.put(b" ");
@@ -90,18 +100,19 @@ impl Answer<'_> {
         let (first, second) = (&mut first[..length], &mut second[..length]);
         let decoded = decode(number, word, first, second)?;
         self.put(&[*profile]);
-        match decoded {
-            Decoded::Clean => self.put(b" C 0 0"),
-            Decoded::Corrected { position, symbol } => {
+        match decoded.kind {
+            Kind::Clean => self.put(b" C 0 0"),
+            Kind::Corrected(sent) => {
                 self.put(b" M");
-                self.sent(Sent { position, symbol });
+                self.sent(sent);
             }
-            Decoded::Filled(one, other) => {
+            Kind::Filled(one, other) => {
                 self.put(b" F");
                 self.sent(one);
                 other.into_iter().for_each(|other| self.sent(other));
             }
         }
+        self.error(decoded.error);
         self.message(first);
         self.message(second);
         Ok(())

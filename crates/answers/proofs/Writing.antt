@@ -1,17 +1,21 @@
 -- Writing field after field: what the functions of src/text.rt leave in the buffer.
 -- Assumes nothing.
 use mathlib.Core.Path.{_≡_, refl, sym, ap, _∙_}
+use mathlib.Core.Logic.{_≢_}
+use mathlib.Core.Bool.{true, false}
 use mathlib.Core.List.{List, [], _∷_, _++_, map, append-assoc, map-append}
 use Prim.Native.Nat.{ℕ, zero, suc, _+_, _/_, _%_, _≤_, _<_}
 use native.Mathlib.Nat.{zero-add}
 use native.Mathlib.Numerals.{add-one}
 use native.Mathlib.Omega.{arith}
 use lib.Dec.{ltb}
+use lib.IntN.{ℤ, pos, negsuc, natAbs}
+use lib.Signed.{ltZ}
 use lib.ListN.{length, getD, take, drop, set, length-append, length-map, length-set, length-drop, take-append-drop}
 use lib.Seq.{take-suc, take-all, take-at, set-split, length-take-le, drop-append-add, drop-drop}
-use borrow.Author.Tests.{lt-ltb, le-ltb}
+use borrow.Author.Tests.{lt-ltb, le-ltb, ltb-true}
 use Rattle.code_theory.specs.Reading.{Change}
-use Rattle.lines_theory.specs.Line.{digitByte, decimalBefore, decimal, refusalLine, changesBefore, readingLine}
+use Rattle.lines_theory.specs.Line.{digitByte, decimalBefore, decimal, signedDecimal, refusalLine, changesBefore, readingLine}
 use Rattle.lines_theory.specs.Feed.{overwritten}
 use Rattle.code_theory.proofs.Merge.{cases}
 use Rattle.answers.specs.Writing.{Written, headingOf}
@@ -58,6 +62,11 @@ _followed-by_ {a} {b} {c} {i} {j} {k} {x} {y} f g =
 pub one : (out : List ℕ) (at a : ℕ) → at < length out → Written out (set out at a) at (suc at) (a ∷ [])
 one out at a h = record { text = set-split out at a h; ends = omega arith; fits = h }
 
+-- and what is written after it
+onward : (out : List ℕ) {new x : List ℕ} {end : ℕ} (at a : ℕ) → at < length out → Written (set out at a) new (at + 1) end x
+    → Written out new at end (a ∷ x)
+onward out at a h w = one out at a h followed-by (rw (add-one at) at w)
+
 -- two bytes
 pub two : (out : List ℕ) (at a b : ℕ) → suc at < length out → Written out (set (set out at a) (at + 1) b) at (at + 2) (a ∷ b ∷ [])
 two out at a b h =
@@ -83,7 +92,30 @@ number-one {n} {last} h w = rw (decimal-one n (last ∷ []) h) w
 -- the first of two digits, and what the function pair writes after it
 pub number-two : (out : List ℕ) {new : List ℕ} {end n last : ℕ} (at : ℕ) → at < length out → 10 ≤ n → n ≤ 99
     → Written (set out at (48 + n / 10)) new (at + 1) end ((48 + n % 10) ∷ last ∷ []) → Written out new at end (decimal n (last ∷ []))
-number-two out {n} {last} at h k l w = rw (decimal-two n (last ∷ []) k l) (one out at (48 + n / 10) h followed-by (rw (add-one at) at w))
+number-two out {n} {last} at h k l w = rw (decimal-two n (last ∷ []) k l) (onward out at (48 + n / 10) h w)
+
+-- A number with its sign.
+
+minus-sign : (z : ℤ) (after : List ℕ) → ltZ z (pos 0) ≡ true → signedDecimal z after ≡ 45 ∷ decimal (natAbs z) after
+minus-sign (pos n) after t = absurd (let l : n < 0 = ltb-true n 0 t in omega arith)
+minus-sign (negsuc n) after t = refl
+
+plus-sign : (z : ℤ) (after : List ℕ) → z ≢ pos 0 → ltZ z (pos 0) ≡ false → signedDecimal z after ≡ 43 ∷ decimal (natAbs z) after
+plus-sign (pos zero) after n t = absurd (n refl)
+plus-sign (pos (suc k)) after n t = refl
+plus-sign (negsuc k) after n t = absurd (let e : _≡_ {A = ℕ} 0 1 = cc in omega arith)
+
+pub zero-written : {out new : List ℕ} {at end : ℕ} {z : ℤ} → z ≡ pos 0 → Written out new at end (decimal 0 (32 ∷ []))
+    → Written out new at end (signedDecimal z (32 ∷ []))
+zero-written e w = rw e w
+
+pub minus-written : (out : List ℕ) {new : List ℕ} {end : ℕ} (at : ℕ) (z : ℤ) → at < length out → ltZ z (pos 0) ≡ true
+    → Written (set out at 45) new (at + 1) end (decimal (natAbs z) (32 ∷ [])) → Written out new at end (signedDecimal z (32 ∷ []))
+minus-written out at z h t w = rw (minus-sign z (32 ∷ []) t) (onward out at 45 h w)
+
+pub plus-written : (out : List ℕ) {new : List ℕ} {end : ℕ} (at : ℕ) (z : ℤ) → at < length out → z ≢ pos 0 → ltZ z (pos 0) ≡ false
+    → Written (set out at 43) new (at + 1) end (decimal (natAbs z) (32 ∷ [])) → Written out new at end (signedDecimal z (32 ∷ []))
+plus-written out at z h n t w = rw (plus-sign z (32 ∷ []) n t) (onward out at 43 h w)
 
 -- A word.
 
@@ -125,6 +157,11 @@ number-before : (n : ℕ) (x y : List ℕ) → decimal n (x ++ y) ≡ decimal n 
 unfolding decimal
 number-before n x y = decimal-append 20 n x y
 
+signed-before : (z : ℤ) (x y : List ℕ) → signedDecimal z (x ++ y) ≡ signedDecimal z x ++ y
+signed-before (pos zero) x y = number-before 0 x y
+signed-before (pos (suc n)) x y = ap (λ (l : List ℕ). 43 ∷ l) (number-before (suc n) x y)
+signed-before (negsuc n) x y = ap (λ (l : List ℕ). 45 ∷ l) (number-before (suc n) x y)
+
 changes-before : (cs : List Change) (x y : List ℕ) → changesBefore cs (x ++ y) ≡ changesBefore cs x ++ y
 changes-before [] x y = refl
 changes-before (c ∷ cs) x y =
@@ -148,17 +185,21 @@ pub heading-written : {a b c d : List ℕ} {i j k : ℕ} (p v : ℕ) (cs : List 
 unfolding headingOf
 heading-written p v cs f g h = f followed-by (g followed-by h)
 
-fields : (p v : ℕ) (cs : List Change) (s t : List ℕ)
-    → headingOf p v cs ++ ((map digitByte s ++ 32 ∷ []) ++ (map digitByte t ++ 10 ∷ [])) ≡ readingLine p v cs s t
+fields : (p v : ℕ) (cs : List Change) (z : ℤ) (s t : List ℕ)
+    → headingOf p v cs ++ (signedDecimal z (32 ∷ []) ++ ((map digitByte s ++ 32 ∷ []) ++ (map digitByte t ++ 10 ∷ [])))
+    ≡ readingLine p v cs z s t
 unfolding headingOf readingLine
-fields p v cs s t =
-    ap (λ (l : List ℕ). headingOf p v cs ++ l) (append-assoc (map digitByte s) (32 ∷ []) (map digitByte t ++ 10 ∷ []))
-    ∙ ap (λ (l : List ℕ). digitByte p ∷ 32 ∷ v ∷ 32 ∷ l) (sym (changes-before cs [] (map digitByte s ++ 32 ∷ (map digitByte t ++ 10 ∷ []))))
+fields p v cs z s t =
+    let words : List ℕ = map digitByte s ++ 32 ∷ (map digitByte t ++ 10 ∷ []) in
+    ap (λ (l : List ℕ). headingOf p v cs ++ (signedDecimal z (32 ∷ []) ++ l))
+    (append-assoc (map digitByte s) (32 ∷ []) (map digitByte t ++ 10 ∷ []))
+    ∙ ap (λ (l : List ℕ). headingOf p v cs ++ l) (sym (signed-before z (32 ∷ []) words))
+    ∙ ap (λ (l : List ℕ). digitByte p ∷ 32 ∷ v ∷ 32 ∷ l) (sym (changes-before cs [] (signedDecimal z (32 ∷ words))))
 
-pub reading-written : {a b c d : List ℕ} {i j k : ℕ} (p v : ℕ) (cs : List Change) (s t : List ℕ) → Written a b 0 i (headingOf p v cs)
-    → Written b c i j (map digitByte s ++ 32 ∷ []) → Written c d j k (map digitByte t ++ 10 ∷ [])
-    → Written a d 0 k (readingLine p v cs s t)
-reading-written p v cs s t f g h = rw (fields p v cs s t) at (f followed-by (g followed-by h))
+pub reading-written : {a b c d e : List ℕ} {i j k l : ℕ} (p v : ℕ) (cs : List Change) (z : ℤ) (s t : List ℕ)
+    → Written a b 0 i (headingOf p v cs) → Written b c i j (signedDecimal z (32 ∷ [])) → Written c d j k (map digitByte s ++ 32 ∷ [])
+    → Written d e k l (map digitByte t ++ 10 ∷ []) → Written a e 0 l (readingLine p v cs z s t)
+reading-written p v cs z s t f e g h = rw (fields p v cs z s t) at (f followed-by (e followed-by (g followed-by h)))
 
 pub reworded : {old new x y : List ℕ} {at end : ℕ} → x ≡ y → Written old new at end x → Written old new at end y
 reworded e w = rw e at w

@@ -10,7 +10,7 @@ ghost use Rattle.lines_theory.specs.Line.{lineAnswer};
 ghost use Rattle.lines_theory.specs.Feed.{overwritten};
 use crate::form::Form;
 
-// What an answer is written into. The longest, of profile 4 with two filled places of two digits, has 106 bytes, byte 10 included.
+// What an answer is written into. The longest, of profile 4 with two filled places of two digits, has 108 bytes, byte 10 included.
 pub type AnswerBuffer = [u8; 128];
 
 // Writes the answer to a line, byte 10 included, and returns its length. 01: 9 for a line that is not of the form; else

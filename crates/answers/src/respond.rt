@@ -32,17 +32,18 @@ fn write_decoded(
                 position: 0,
                 symbol: 0,
             };
-            crate::text::reading_line(out, profile, b'C', Changes::One(none), first, second)
+            crate::text::reading_line(out, profile, b'C', Changes::One(none), 0, first, second)
         }
         Decoded::Corrected(c) => {
             let one = Change {
                 position: c.position,
                 symbol: c.symbol,
             };
-            crate::text::reading_line(out, profile, b'M', Changes::One(one), first, second)
+            let error = c.error;
+            crate::text::reading_line(out, profile, b'M', Changes::One(one), error, first, second)
         }
         Decoded::Filled(changes) => {
-            crate::text::reading_line(out, profile, b'F', changes, first, second)
+            crate::text::reading_line(out, profile, b'F', changes, 0, first, second)
         }
         Decoded::Unreadable => crate::text::refusal_line(out, 4),
         Decoded::Refused(number) => crate::text::refusal_line(out, number),

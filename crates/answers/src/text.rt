@@ -3,9 +3,10 @@ ghost use mathlib.Core.Path.{_≡_};
 ghost use mathlib.Core.List.{[], _∷_, _++_, map};
 ghost use Prim.Native.Nat.{_+_, _≤_, _<_};
 ghost use lib.ListN.{length};
+ghost use lib.IntN.{natAbs};
 ghost use Rattle.code_theory.specs.Component.{Below};
 ghost use Rattle.decoder.specs.Decode.{changeOf, changesIn};
-ghost use Rattle.lines_theory.specs.Line.{digitByte, decimal, refusalLine, changesBefore, readingLine};
+ghost use Rattle.lines_theory.specs.Line.{digitByte, decimal, signedDecimal, refusalLine, changesBefore, readingLine};
 ghost use Rattle.lines_theory.specs.Sizes.{ChangesWithin};
 ghost use Rattle.answers.specs.Writing.{Written, headingOf};
 use decoder::Change;
@@ -32,6 +33,23 @@ fn decimal(out: &mut [u8], at: usize, n: usize, last: u8) -> usize
     }
     out[at] = 48 + (n / 10) as u8;
     pair(out, at + 1, 48 + (n % 10) as u8, last)
+}
+
+// A number of at most two digits "with its sign", and 0 "plain" (02), and a space.
+fn signed_decimal(out: &mut [u8], at: usize, z: i16) -> usize
+    requires { ⌜ (at + 3 < length (now out)) × (natAbs z ≤ 99) ⌝ }
+    ensures text { λ r. ⌜ Written (now (out .entry)) (now (out .exit)) at r (signedDecimal z (32 ∷ [])) ⌝ }
+    ensures short { λ r. ⌜ r ≤ at + 4 ⌝ }
+{
+    if z == 0 {
+        return decimal(out, at, 0, b' ');
+    }
+    if z < 0 {
+        out[at] = b'-';
+        return decimal(out, at + 1, (0 - z) as usize, b' ');
+    }
+    out[at] = b'+';
+    decimal(out, at + 1, z as usize, b' ')
 }
 
 // The digits of a word run together, and one more byte.
@@ -82,7 +100,7 @@ fn all_changes(out: &mut [u8], at: usize, changes: Changes) -> usize
     }
 }
 
-// The fields before the words: profile and kind, each with a space, and the changes.
+// The fields before the error: profile and kind, each with a space, and the changes.
 fn heading(out: &mut [u8], profile: usize, kind: u8, changes: Changes) -> usize
     requires { ⌜ (profile ≤ 9) × ChangesWithin 99 9 (changesIn changes) × (length (now out) ≡ 128) ⌝ }
     ensures text { λ r. ⌜ Written (now (out .entry)) (now (out .exit)) 0 r (headingOf profile kind (changesIn changes)) ⌝ }
@@ -93,21 +111,25 @@ fn heading(out: &mut [u8], profile: usize, kind: u8, changes: Changes) -> usize
     all_changes(out, b, changes)
 }
 
-// 01: "profile, kind C or M, place, sent symbol, first word, second word"; 02: F, with one place and symbol or two.
+// 01: "profile, kind C or M, place, sent symbol, first word, second word"; 02: F, with one place and symbol or two, and the
+// error after the last symbol.
 pub(crate) fn reading_line(
     out: &mut [u8],
     profile: usize,
     kind: u8,
     changes: Changes,
+    error: i16,
     first: &[u8],
     second: &[u8],
 ) -> usize
     requires { ⌜ (profile ≤ 9) × ChangesWithin 99 9 (changesIn changes) × (length (now out) ≡ 128) ⌝ }
+    requires { ⌜ natAbs error ≤ 9 ⌝ }
     requires { ⌜ (length (now first) ≤ 45) × (length (now second) ≤ 45) × Below 10 (now first) × Below 10 (now second) ⌝ }
     ensures { λ r. ⌜ Written (now (out .entry)) (now (out .exit)) 0 r
-        (readingLine profile kind (changesIn changes) (now (first .entry)) (now (second .entry))) ⌝ }
+        (readingLine profile kind (changesIn changes) error (now (first .entry)) (now (second .entry))) ⌝ }
 {
     let a = heading(out, profile, kind, changes);
-    let b = word(out, a, first, b' ');
-    word(out, b, second, b'\n')
+    let b = signed_decimal(out, a, error);
+    let c = word(out, b, first, b' ');
+    word(out, c, second, b'\n')
 }

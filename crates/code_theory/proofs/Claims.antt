@@ -9,6 +9,7 @@ use Rattle.code_theory.proofs.Restored.{one-pair}
 use Rattle.code_theory.proofs.Parity.{parity-sums, checks-balanced}
 use Rattle.code_theory.proofs.Apart.{apart-by-units, differences-invertible, apart}
 use Rattle.code_theory.proofs.Reading.{near-is-one, reading-is, reading-corrects}
+use Rattle.code_theory.proofs.Errors.{error-carried, errors-told}
 use Rattle.code_theory.proofs.Whole.{received-symbols, whole-reading}
 use Rattle.code_theory.proofs.Erased.{erasures-filled, erased-by-filling}
 use Rattle.code_theory.proofs.Profiles.{profiles-fit}
@@ -31,6 +32,8 @@ claims =
       near-is-one = near-is-one;
       reading-is = reading-is;
       reading-corrects = reading-corrects;
+      error-carried = error-carried;
+      errors-told = errors-told;
       received-symbols = received-symbols;
       erasures-filled = erasures-filled;
       whole-reading = whole-reading;

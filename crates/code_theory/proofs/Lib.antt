@@ -23,6 +23,7 @@ pub mod Parity
 pub mod Apart
 pub mod Found
 pub mod Reading
+pub mod Errors
 -- Words with erased symbols
 pub mod Whole
 pub mod Filling

@@ -4,6 +4,7 @@ use mathlib.Core.Path.{_≡_}
 use mathlib.Core.List.{List, [], _∷_, _++_}
 use Prim.Native.Nat.{ℕ}
 use lib.ListN.{replicate, set}
+use lib.IntN.{pos, negsuc}
 use Rattle.modular_theory.specs.Sum.{weight}
 use Rattle.code_theory.specs.Parameters.{Parameters, messageLength}
 use Rattle.code_theory.specs.Component.{component}
@@ -63,8 +64,9 @@ starred =
     ∷ checking 1 (1 ∷ 0 ∷ 0 ∷ 0 ∷ 0 ∷ []) (1 ∷ 2 ∷ 2 ∷ 1 ∷ 0 ∷ 0 ∷ 0 ∷ 0 ∷ [])
     ∷ checking 1 (0 ∷ 0 ∷ 0 ∷ 0 ∷ 1 ∷ []) (1 ∷ 0 ∷ 1 ∷ 0 ∷ 0 ∷ 0 ∷ 0 ∷ 1 ∷ [])
     ∷ choosing 1 (0 ∷ 0 ∷ 0 ∷ 0 ∷ 1 ∷ []) (zeros 5) 1 3 shown
-    ∷ decoding 1 (set shown 5 2) (read (corrected (record { position = 6; symbol = 1 })) (0 ∷ 0 ∷ 0 ∷ 0 ∷ 1 ∷ []) (zeros 5))
-    ∷ decoding 1 (replicate 17 1 ++ (0 ∷ 1 ∷ [])) (read (corrected (record { position = 19; symbol = 2 })) (zeros 5) (zeros 5))
+    ∷ decoding 1 (set shown 5 2) (read (corrected (record { position = 6; symbol = 1; error = pos 1 })) (0 ∷ 0 ∷ 0 ∷ 0 ∷ 1 ∷ []) (zeros 5))
+    ∷ decoding 1 (replicate 17 1 ++ (0 ∷ 1 ∷ []))
+    (read (corrected (record { position = 19; symbol = 2; error = negsuc 0 })) (zeros 5) (zeros 5))
     ∷ refusing 1 (replicate 17 1 ++ (1 ∷ 1 ∷ [])) 4
     ∷ refusing 1 (2 ∷ 2 ∷ replicate 15 1 ++ (0 ∷ 2 ∷ [])) 4
     ∷ []

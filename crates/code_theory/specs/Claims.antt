@@ -7,6 +7,7 @@ use mathlib.Core.List.{List, [], _∷_, map}
 use Prim.Native.Nat.{ℕ, _+_, _-_, _*_, _%_, _≤_, _<_}
 use lib.Dec.{T}
 use lib.ListN.{length, getD, set}
+use lib.IntN.{pos, natAbs, _-ℤ_}
 use Rattle.modular_theory.specs.Sum.{weight}
 use Rattle.modular_theory.specs.Residue.{Invertible, Prime, minus}
 use Rattle.code_theory.specs.Parameters.{Parameters, Sized, messageLength, balancedLength, codewordLength, balancingValue, delta}
@@ -14,7 +15,8 @@ use Rattle.code_theory.specs.Component.{isWord, erasure, isReceived, inC
 use Rattle.code_theory.specs.Balance.{chosen, earliestS, earliestV, balanced}
 use Rattle.code_theory.specs.Codeword.{alternate, withChecks, interleaved, encoded, received, lowered, codeword, carried}
 use Rattle.code_theory.specs.Erasures.{erasures, Agrees}
-use Rattle.code_theory.specs.Reading.{distance, change, clean, corrected, filled, findingOf, unreadable, readAs, reading}
+use Rattle.code_theory.specs.Reading.{distance, Correction, Change, change, clean, corrected, filled, errorOf, findingOf, read}
+use Rattle.code_theory.specs.Reading.{unreadable, readAs, reading}
 use Rattle.code_theory.specs.Reading.{changesAt, filledReading, receivedReading}
 use Rattle.code_theory.specs.Profiles.{isProfile, profile, table, derivedRow}
 use Rattle.code_theory.specs.Cases.{AllHold, starred, erased}
@@ -159,9 +161,10 @@ ReadingIs = (p : Parameters) → Sized p → OneNear p → (v : List ℕ) → T 
 pub record Corrects (p : Parameters) : Type 0 where
   -- a codeword as sent is read as its pair
   pub unchanged : (u : List ℕ) → T (codeword p u) → reading p u ≡ readAs p clean u
-  -- and so it is with any one symbol changed, with the position and the symbol sent
+  -- and so it is with any one symbol changed, with the position, the symbol sent and the error: received minus sent
   pub changed : (u : List ℕ) → T (codeword p u) → (i y : ℕ) → i < codewordLength p → y < p .q → y ≢ getD u i 0
-      → reading p (set u i y) ≡ readAs p (corrected (record { position = i + 1; symbol = getD u i 0 })) u
+      → reading p (set u i y)
+      ≡ readAs p (corrected (record { position = i + 1; symbol = getD u i 0; error = pos y -ℤ pos (getD u i 0) })) u
   -- every other codeword differs from what arrived in at least two positions
   pub others : (u v : List ℕ) → T (codeword p u) → T (codeword p v) → v ≢ u → (i y : ℕ) → i < codewordLength p → y < p .q
       → 2 ≤ distance v (set u i y)
@@ -171,6 +174,23 @@ pub record Corrects (p : Parameters) : Type 0 where
 
 abbrev pub ReadingCorrects : Type 0
 ReadingCorrects = (p : Parameters) → Sized p → Prime (p .q) → Corrects p
+
+-- 02: clean and filled words carry 0, and a corrected one its error
+pub record ErrorCarried : Type 0 where
+  pub by-clean : errorOf clean ≡ pos 0
+  pub by-filled : (cs : List Change) → errorOf (filled cs) ≡ pos 0
+  pub by-corrected : (c : Correction) → errorOf (corrected c) ≡ c .error
+
+-- that error, of a word v, is what arrived at the position found minus the symbol sent there, from -(q - 1) to q - 1, and never 0
+pub record ErrorTold (q : ℕ) (v : List ℕ) (c : Correction) : Type 0 where
+  pub is : c .error ≡ pos (getD v (c .position - 1) 0) -ℤ pos (c .symbol)
+  pub within : natAbs (c .error) ≤ q - 1
+  pub some : c .error ≢ pos 0
+
+abbrev pub ErrorsTold : Type 0
+ErrorsTold =
+    (p : Parameters) (v : List ℕ) → T (isWord (p .q) (codewordLength p) v) → (c : Correction) (a b : List ℕ)
+    → reading p v ≡ read (corrected c) a b → ErrorTold (p .q) v c
 
 -- Why erased symbols can be filled in one way at most (02, T-01).
 
@@ -243,6 +263,8 @@ pub record Claims : Type 0 where
   pub near-is-one : NearIsOne
   pub reading-is : ReadingIs
   pub reading-corrects : ReadingCorrects
+  pub error-carried : ErrorCarried
+  pub errors-told : ErrorsTold
   pub received-symbols : ReceivedSymbols
   pub erasures-filled : ErasuresFilled
   pub whole-reading : WholeReading

@@ -5,6 +5,7 @@ use mathlib.Core.List.{List, [], _∷_}
 use Prim.Native.Nat.{ℕ, suc, _+_, _^_}
 use lib.Dec.{eqb, ltb}
 use lib.ListN.{length, getD, drop, set}
+use lib.IntN.{ℤ, pos, _-ℤ_}
 use Rattle.modular_theory.specs.Search.{least, anyBelow}
 use Rattle.code_theory.specs.Parameters.{Parameters}
 use Rattle.code_theory.specs.Component.{erasure}
@@ -17,14 +18,16 @@ distance [] ys = length ys
 distance (x ∷ xs) [] = suc (length xs)
 distance (x ∷ xs) (y ∷ ys) = elim (eqb x y) [ true ↦ distance xs ys | false ↦ suc (distance xs ys) ]
 
--- what is said of a corrected symbol: its position (01: place), from 1, and the symbol sent there
+-- what is said of a corrected symbol: its position (01: place), from 1, the symbol sent there, and the error (02, T-02: the fault), the
+-- symbol received minus the symbol sent
 pub record Correction : Type 0 where
   pub position : ℕ
   pub symbol : ℕ
+  pub error : ℤ
 
 -- the symbol at index i arrived as x and was sent as y
 abbrev pub correctionAt : ℕ → ℕ → ℕ → Correction
-correctionAt i x y = record { position = i + 1; symbol = y }
+correctionAt i x y = record { position = i + 1; symbol = y; error = pos x -ℤ pos y }
 
 -- what is said of a position (01: place), from 1, that arrived otherwise than sent: the symbol sent there
 pub record Change : Type 0 where
@@ -45,6 +48,12 @@ abbrev pub changesOf : Finding → List Change
 changesOf clean = change 0 0 ∷ []
 changesOf (corrected c) = change (c .position) (c .symbol) ∷ []
 changesOf (filled cs) = cs
+
+-- the error of a finding; 02: clean and filled words carry 0
+abbrev pub errorOf : Finding → ℤ
+errorOf clean = pos 0
+errorOf (corrected c) = c .error
+errorOf (filled cs) = pos 0
 
 -- the first index at which two words differ; the length of v where there is none
 unfoldable pub differsAt : List ℕ → List ℕ → ℕ

@@ -1,7 +1,8 @@
 // Runs encode and decode on stored cases (tests/README.md: pairs, words). Pairs come on standard input, a line
 // `profile first second length` each, and the answer is the word. Words are in the file `words`, a line
-// `profile word first_length second_length` each, and the answer is `C 0 0 first second`, `M place symbol first second`, or
-// `F place symbol first second` with a place and a symbol for each mark. In a word and in a message `?` is a mark. A refusal is `R number`.
+// `profile word first_length second_length` each, and the answer is `C 0 0 0 first second`, `M place symbol error first second`, or
+// `F place symbol 0 first second` with a place and a symbol for each mark. In a word and in a message `?` is a mark. A refusal is
+// `R number`.
 mod print;
 mod text;
 
@@ -13,8 +14,10 @@ use libc::STDOUT_FILENO;
 use print::FILL;
 use print::is_untouched;
 use print::print_change;
+use print::print_error;
 use print::print_refusal;
 use print::print_word;
+use syndromes::Correction;
 use text::field;
 use text::parse_number;
 use text::parse_symbols;
@@ -41,9 +44,10 @@ fn print_pair(first: &[u8], second: &[u8]) {
     io::write_all(STDOUT_FILENO, b"\n");
 }
 
-fn print_corrected(position: usize, symbol: u8) {
+fn print_corrected(c: Correction) {
     io::write_all(STDOUT_FILENO, b"M");
-    print_change(position, symbol);
+    print_change(c.position, c.symbol);
+    print_error(c.error);
 }
 
 fn print_filled(changes: Changes) {
@@ -55,6 +59,7 @@ fn print_filled(changes: Changes) {
             print_change(d.position, d.symbol);
         }
     }
+    print_error(0);
 }
 
 fn print_unread(number: u8, first: &[u8], second: &[u8]) {
@@ -66,11 +71,11 @@ fn decode_and_print(profile: usize, word: &[u8], first: &mut [u8], second: &mut 
     let answer = decoder::decode(profile, word, first, second);
     match answer {
         Decoded::Clean => {
-            io::write_all(STDOUT_FILENO, b"C 0 0");
+            io::write_all(STDOUT_FILENO, b"C 0 0 0");
             print_pair(first, second);
         }
         Decoded::Corrected(c) => {
-            print_corrected(c.position, c.symbol);
+            print_corrected(c);
             print_pair(first, second);
         }
         Decoded::Filled(changes) => {

@@ -37,6 +37,27 @@ pub(crate) fn print_change(position: usize, symbol: u8) {
     io::print_decimal(STDOUT_FILENO, symbol as u64);
 }
 
+// The magnitude of a number, taken in 32 bits, since 16 with a sign do not hold that of -32768.
+fn magnitude(z: i16) -> u64 {
+    let wide = z as i32;
+    if wide < 0 {
+        return (0 - wide) as u64;
+    }
+    wide as u64
+}
+
+// An error after a space, with its sign; 0 has none.
+pub(crate) fn print_error(error: i16) {
+    io::write_all(STDOUT_FILENO, b" ");
+    if error < 0 {
+        io::write_all(STDOUT_FILENO, b"-");
+    }
+    if 0 < error {
+        io::write_all(STDOUT_FILENO, b"+");
+    }
+    io::print_decimal(STDOUT_FILENO, magnitude(error));
+}
+
 // A refusal that changed a byte of an output begins with X.
 pub(crate) fn print_refusal(number: u8, is_kept: bool) {
     let letter = if is_kept { b'R' } else { b'X' };

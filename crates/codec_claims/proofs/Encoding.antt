@@ -1,17 +1,16 @@
 -- Demand 2 of encode: the contract gives the encoded word of a call that no number refuses, which is a codeword that carries its pair.
 -- Assumes nothing.
 use mathlib.Core.Path.{_≡_, refl, sym, ap, _∙_}
-use mathlib.Core.Bool.{true, false, _&&_}
 use mathlib.Core.List.{List, [], _∷_}
 use Prim.Native.Nat.{ℕ, suc}
 use native.Mathlib.Omega.{arith}
-use lib.Dec.{T, eqb}
+use lib.Dec.{T}
 use lib.ListN.{length}
 use Rattle.code_theory.specs.Parameters.{Sized}
 use Rattle.code_theory.specs.Codeword.{encoded}
 use Rattle.code_theory.specs.Profiles.{isProfile, profile}
 use Rattle.code_theory.specs.Refusal.{Test, asks}
-use Rattle.code_theory.specs.Operations.{refusedBy, outcome, encodeTests, encodeRefusal, encodeOutput}
+use Rattle.code_theory.specs.Operations.{outcome, encodeTests, encodeRefusal}
 use Rattle.code_theory.specs.Claims.{Encodes}
 use Rattle.code_theory.proofs.Pair.{balance-of-pair}
 use Rattle.code_theory.proofs.Encoded.{encoded-carries}

@@ -7,13 +7,15 @@ use mathlib.Core.List.{List}
 use Prim.Native.Nat.{ℕ, _+_, _≤_, _<_}
 use lib.Dec.{T, eqb}
 use lib.ListN.{length, getD, set}
+use lib.IntN.{pos, _-ℤ_}
 use Rattle.code_theory.specs.Parameters.{messageLength, codewordLength}
 use Rattle.code_theory.specs.Component.{isWord, isReceived}
 use Rattle.code_theory.specs.Codeword.{codeword, carried}
 use Rattle.code_theory.specs.Erasures.{erasures}
-use Rattle.code_theory.specs.Reading.{distance, clean, corrected}
+use Rattle.code_theory.specs.Reading.{distance, Correction, clean, corrected}
 use Rattle.code_theory.specs.Profiles.{isProfile, profile}
 use Rattle.code_theory.specs.Operations.{success, reportNumber}
+use Rattle.code_theory.specs.Claims.{ErrorTold}
 use Rattle.decoder.specs.declared.word.Decoded.{Decoded}
 use Rattle.decoder.specs.Decode.{decodedReport, DecodeAllows}
 
@@ -40,10 +42,11 @@ pub record DecodesAsSent (i : ℕ) : Type 0 where
   -- a codeword as sent is read as its pair
   pub unchanged : (u : List ℕ) → T (codeword (profile i) u) → (r : Decoded) (first second : List ℕ) → Allowed i u r first second
       → (decodedReport r ≡ success clean) × Carried i u first second
-  -- and so it is with any one symbol changed, with the position and the symbol sent
+  -- and so it is with any one symbol changed, with the position, the symbol sent and the error: received minus sent
   pub changed : (u : List ℕ) → T (codeword (profile i) u) → (k y : ℕ) → k < codewordLength (profile i) → y < profile i .q → y ≢ getD u k 0
       → (r : Decoded) (first second : List ℕ) → Allowed i (set u k y) r first second
-      → (decodedReport r ≡ success (corrected (record { position = k + 1; symbol = getD u k 0 }))) × Carried i u first second
+      → (decodedReport r ≡ success (corrected (record { position = k + 1; symbol = getD u k 0; error = pos y -ℤ pos (getD u k 0) })))
+      × Carried i u first second
   -- every other codeword differs from what arrived in at least two positions
   pub others : (u v : List ℕ) → T (codeword (profile i) u) → T (codeword (profile i) v) → v ≢ u → (k y : ℕ) → k < codewordLength (profile i)
       → y < profile i .q → 2 ≤ distance v (set u k y)
@@ -53,6 +56,12 @@ pub record DecodesAsSent (i : ℕ) : Type 0 where
 
 abbrev pub DecodeCorrects : Type 0
 DecodeCorrects = (i : ℕ) → T (isProfile i) → DecodesAsSent i
+
+-- 02: the error of an answer is what arrived at the position found minus the symbol sent there, from -(q - 1) to q - 1, and never 0
+abbrev pub DecodeErrors : Type 0
+DecodeErrors =
+    (i : ℕ) (v : List ℕ) (r : Decoded) (first first′ second second′ : List ℕ) → DecodeAllows i v r first first′ second second′
+    → (c : Correction) → decodedReport r ≡ success (corrected c) → ErrorTold (profile i .q) v c
 
 -- a call that numbers 1 to 3 let through
 pub record LetThrough (i : ℕ) (v : List ℕ) (k l : ℕ) : Type 0 where

@@ -7,9 +7,9 @@ use mathlib.Core.List.{List}
 use Prim.Native.Nat.{ℕ, _≤_}
 use native.Mathlib.Nat.{le-refl}
 use native.Mathlib.Omega.{arith}
-use lib.Dec.{T, eqb}
+use lib.Dec.{T}
+use lib.IntN.{pos}
 use lib.ListN.{length}
-use borrow.Author.Tests.{eq-eqb, ne-eqb}
 use Rattle.code_theory.specs.Parameters.{Parameters, messageLength, codewordLength}
 use Rattle.code_theory.specs.Component.{symbolsBelow, levelsOrErasures}
 use Rattle.code_theory.specs.Erasures.{erasures, erasedIndices}
@@ -22,12 +22,12 @@ use Rattle.code_theory.proofs.Apart.{apart}
 use Rattle.code_theory.proofs.Reading.{near-is-one}
 use Rattle.code_theory.proofs.Whole.{whole-reading, length-indices}
 use Rattle.code_theory.proofs.Erased.{erased-by-filling}
-use Rattle.decoding_theory.specs.Decoded.{Sums, sums, target, decodedBalanced, decodedUnbalanced, decodedBy, decoded}
+use Rattle.decoding_theory.specs.Decoded.{Sums, sums, decodedBalanced, decodedUnbalanced, decodedBy, decoded}
 use Rattle.decoding_theory.specs.Filled.{decodedErased}
 use Rattle.decoding_theory.proofs.Decoded.{decoded-reading}
 use Rattle.decoding_theory.proofs.Erased.{erased-reading}
 use Rattle.profiles.specs.declared.row.Row.{Row}
-use Rattle.profiles.specs.Row.{parameters, Valid, RowOf}
+use Rattle.profiles.specs.Row.{parameters, RowOf}
 use Rattle.profiles.specs.declared.refusals.Screened.{Screened}
 use Rattle.profiles.specs.declared.refusals.Screened.the-variants as found
 use Rattle.profiles.specs.Refusal.{decodeNumber, screening}
@@ -40,7 +40,9 @@ use Rattle.decoder.specs.Outputs.{Outputs}
 use Rattle.decoder.specs.Erased.{ErasedWord}
 use Rattle.decoder.specs.Decode.{Answers}
 use Rattle.decoder.proofs.Answering.{answers-refused}
-use Rattle.decoder.proofs.Totalling.{target-is}
+use Rattle.modular_theory.specs.Level.{isZero}
+use Rattle.modular_theory.proofs.Search.{passes}
+use Rattle.modular_theory.proofs.Integer.{is-zero, is-not-zero}
 
 -- what a call is answered whose number is no profile's
 pub call-unprofiled : (i : ℕ) (u : List ℕ) (k l : ℕ) (first second : List ℕ) → isProfile i ≡ false
@@ -122,21 +124,17 @@ module _ (i : ℕ) (u first second : List ℕ) {t : Row} (of : RowOf i t) {r : S
     filled-answer = known .read ∙ ap answered is-filled
 
 -- the answer by the sums of a word
-module _ {t : Row} (v : Valid t) (u : List ℕ) (s : Totals) (g : sumsOf t s ≡ sums (parameters t) u) where
+module _ (t : Row) (u : List ℕ) (s : Totals) (g : sumsOf t s ≡ sums (parameters t) u) where
   by-sums : decoded (parameters t) u ≡ decodedBy (parameters t) (sumsOf t s) u
   unfolding decoded
   by-sums = ap (λ (x : Sums). decodedBy (parameters t) x u) (sym g)
 
-  pub balanced-answer : s .weight ≡ t .target
+  pub balanced-answer : s .excess ≡ pos 0
       → answered (decoded (parameters t) u) ≡ answered (decodedBalanced (parameters t) (sumsOf t s) u)
   unfolding decodedBy
-  balanced-answer h =
-      let f : eqb (s .weight) (target (parameters t)) ≡ true = eq-eqb _ _ (h ∙ target-is v) in
-      ap answered (by-sums ∙ rw (f, decodedBy))
+  balanced-answer h = let f : isZero (s .excess) ≡ true = passes (is-zero h) in ap answered (by-sums ∙ rw (f, decodedBy))
 
-  pub unbalanced-answer : s .weight ≢ t .target
+  pub unbalanced-answer : s .excess ≢ pos 0
       → answered (decoded (parameters t) u) ≡ answered (decodedUnbalanced (parameters t) (sumsOf t s) u)
   unfolding decodedBy
-  unbalanced-answer h =
-      let f : eqb (s .weight) (target (parameters t)) ≡ false = ne-eqb _ _ (λ n. h (n ∙ sym (target-is v))) in
-      ap answered (by-sums ∙ rw (f, decodedBy))
+  unbalanced-answer h = ap answered (by-sums ∙ rw (is-not-zero (s .excess) h, decodedBy))

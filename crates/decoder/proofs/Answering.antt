@@ -3,7 +3,7 @@
 use mathlib.Core.Path.{_≡_, refl, sym}
 use mathlib.Core.Bool.{Bool, true, false}
 use mathlib.Core.List.{List}
-use Prim.Native.Nat.{ℕ, _+_, _≤_, _<_}
+use Prim.Native.Nat.{ℕ, _≤_, _<_}
 use native.Mathlib.Omega.{arith}
 use lib.Dec.{T}
 use lib.ListN.{getD}
@@ -14,18 +14,18 @@ use Rattle.code_theory.specs.Codeword.{received}
 use Rattle.code_theory.specs.Reading.{Finding, Reading, unreadable}
 use Rattle.code_theory.specs.Operations.{Answer, refused, answered, success}
 use Rattle.decoding_theory.specs.Syndromes.{nearSyndromes, index, movedOf}
-use Rattle.decoding_theory.specs.Decoded.{Sums, checkIndex, gain, inRange, offByLack, nearAfter, fits, positionCount, firstFit}
+use Rattle.decoding_theory.specs.Decoded.{Sums, gain, inRange, offByLack, nearAfter, fits, positionCount, firstFit}
 use Rattle.decoding_theory.specs.Decoded.{readBy, readFit, decodedBody, decodedCheck, agrees, decodedBalanced, decodedUnbalanced}
 use Rattle.decoding_theory.proofs.Tests.{three-parts}
-use Rattle.syndromes.specs.declared.checks.Verdict as verdicts
-use Rattle.syndromes.specs.declared.checks.Verdict.the-variants as told
-use Rattle.syndromes.specs.Verdict.{verdictOf}
+use Rattle.symbols.specs.declared.checks.Checks.{Checks}
+use Rattle.symbols.specs.Weight.{checkOf}
+use Rattle.syndromes.specs.Judgement.{balancedReport}
 use Rattle.decoder.specs.declared.word.Decoded.{Decoded}
 use Rattle.decoder.specs.declared.word.Decoded.the-variants.{Clean, Corrected, Filled, Unreadable, Refused}
 use Rattle.decoder.specs.Sides.{isFirst}
 use Rattle.decoder.specs.Outputs.{RestoredMessages}
 use Rattle.decoder.specs.Decode.{decodedReport, Answers}
-use Rattle.decoder.specs.Steps.{Judged, wrongParity}
+use Rattle.decoder.specs.Steps.{JudgedBy, Judged, wrongParity}
 
 -- What is answered.
 
@@ -50,34 +50,27 @@ pub messages-of : {p : Parameters} {c c′ d d′ S S′ first second : List ℕ
     → RestoredMessages p c d S S′ first second → RestoredMessages p c′ d′ S S′ first second
 messages-of e f w = rw (← e, ← f) w
 
--- what a verdict is answered as, where the body has m symbols
-abbrev pub verdictAnswer : ℕ → Sums → verdicts.Verdict → Decoded
-verdictAnswer m s told.Clean = Clean
-verdictAnswer m s told.Alpha = Corrected (record { position = m + 1; symbol = s .asked true })
-verdictAnswer m s told.Beta = Corrected (record { position = m + 2; symbol = s .asked false })
-verdictAnswer m s told.Unreadable = Unreadable
-
 module _ (p : Parameters) (s : Sums) where
   -- A balanced body.
-  judged-by : (near a b : Bool) → nearSyndromes p (s .first) (s .second) ≡ near → agrees s true ≡ a → agrees s false ≡ b
-      → Judged p s (verdictAnswer (balancedLength p) s (verdictOf near a b))
+  judged-by : (c d : Checks) → s .asked ≡ checkOf c → s .arrived ≡ checkOf d → (near a b : Bool)
+      → nearSyndromes p (s .first) (s .second) ≡ near → agrees s true ≡ a → agrees s false ≡ b
+      → JudgedBy p s (balancedReport (balancedLength p) c d near a b)
   unfolding decodedBalanced decodedCheck
-  judged-by false a b n e f = λ v. rw (n, decodedBalanced)
-  judged-by true true true n e f = (holds _ n, λ v. rw (n, decodedBalanced, e, f))
-  judged-by true true false n e f =
-      let g : balancedLength p + 2 ≡ checkIndex p false + 1 = omega arith in
-      (holds _ n, λ v. rw (n, decodedBalanced, e, f, g))
-  judged-by true false true n e f = (holds _ n, λ v. rw (n, decodedBalanced, e, f))
-  judged-by true false false n e f = λ v. rw (n, decodedBalanced, e, f)
+  judged-by c d k l false a b n e f = λ v. rw (n, decodedBalanced)
+  judged-by c d k l true true true n e f = (holds _ n, λ v. rw (n, decodedBalanced, e, f))
+  judged-by c d k l true true false n e f = (holds _ n, λ v. rw (n, decodedBalanced, e, f, k, l))
+  judged-by c d k l true false true n e f = (holds _ n, λ v. rw (n, decodedBalanced, e, f, k, l))
+  judged-by c d k l true false false n e f = λ v. rw (n, decodedBalanced, e, f)
 
-  pub judged-as : {m : ℕ} → m ≡ balancedLength p → {near : Bool} → near ≡ nearSyndromes p (s .first) (s .second)
-      → (v : verdicts.Verdict) → v ≡ verdictOf near (agrees s true) (agrees s false) → Judged p s (verdictAnswer m s v)
-  judged-as l n v e = rw (l, e) (judged-by _ (agrees s true) (agrees s false) (sym n) refl refl)
+  pub judged-as : (c d : Checks) → s .asked ≡ checkOf c → s .arrived ≡ checkOf d → {m : ℕ} → m ≡ balancedLength p
+      → {near : Bool} → near ≡ nearSyndromes p (s .first) (s .second)
+      → JudgedBy p s (balancedReport m c d near (agrees s true) (agrees s false))
+  judged-as c d k l e n = rw e (judged-by c d k l _ (agrees s true) (agrees s false) (sym n) refl refl)
 
   pub judged-near : (r : Decoded) → Judged p s r → (r ≡ Unreadable → ⊥) → T (nearSyndromes p (s .first) (s .second))
   judged-near Clean d n = d .0
   judged-near (Corrected c) d n = d .0
-  judged-near (Filled cs) d n = absurd d
+  judged-near (Filled cs) d n = d .0
   judged-near Unreadable d n = absurd (n refl)
   judged-near (Refused k) d n = absurd d
 
@@ -90,7 +83,7 @@ module _ (p : Parameters) (s : Sums) where
       → Answers (answered (decodedBalanced p s v)) r first first′ second second′
   judged-read Clean d n v w = answers-read p v (d .1 v) w refl
   judged-read (Corrected c) d n v w = answers-read p v (d .1 v) w refl
-  judged-read (Filled cs) d n v w = absurd d
+  judged-read (Filled cs) d n v w = answers-read p v (d .1 v) w refl
   judged-read Unreadable d n v w = absurd (n refl)
   judged-read (Refused k) d n v w = absurd d
 

@@ -15,7 +15,7 @@ use Rattle.modular_theory.proofs.Search.{holds, least-hit}
 use Rattle.code_theory.specs.Parameters.{Parameters}
 use Rattle.code_theory.specs.Reading.{change, filled, unreadable}
 use Rattle.decoding_theory.specs.Syndromes.{nearSyndromes}
-use Rattle.decoding_theory.specs.Decoded.{Sums, sums, target, readBy}
+use Rattle.decoding_theory.specs.Decoded.{Sums, sums, readBy}
 use Rattle.decoding_theory.specs.Filled.{Erased, erasedAt, sumsWith, wanted, fillable}
 use Rattle.decoding_theory.specs.Filled.{Filling, fills, nothing, filledWith, fillOne, firstLevel, fillTwo, fillAt}
 use Rattle.decoding_theory.proofs.Fillable.{wanted-level, wanted-sums}
@@ -49,58 +49,58 @@ transport-test test e f h = rw (← e, ← f) h
 none-fills : {ys S S′ : List ℕ} → nothing ≡ fills ys S S′ → ⊥
 none-fills e = let z : _≡_ {A = ℕ} 0 1 = cc in omega arith
 
-module _ (p : Parameters) (g : ℕ) where
+module _ (p : Parameters) where
   -- what is wanted in the place of d makes the sums those of a codeword
-  with-wanted : (d : Erased) (t : Sums) (k : ℕ) {ys zs S S′ : List ℕ} → T (fillable p g d t) → length zs ≡ k
-      → ((j : ℕ) → j < k → getD zs j 0 < p .q) → filledWith zs (sumsWith p d (wanted g d t) t) ≡ fills ys S S′ → Usable p k ys S S′
+  with-wanted : (d : Erased) (t : Sums) (k : ℕ) {ys zs S S′ : List ℕ} → T (fillable p d t) → length zs ≡ k
+      → ((j : ℕ) → j < k → getD zs j 0 < p .q) → filledWith zs (sumsWith p d (wanted (p .q) d t) t) ≡ fills ys S S′ → Usable p k ys S S′
   with-wanted d t k {ys} {zs} {S} {S′} h n l e =
-      let u : Sums = sumsWith p d (wanted g d t) t in
+      let u : Sums = sumsWith p d (wanted (p .q) d t) t in
       let (a, b, c) = fills-inj e in
       record {
         long = ap length (sym a) ∙ n;
         levels = subst (λ (x : List ℕ). (j : ℕ) → j < k → getD x j 0 < p .q) a l;
-        near = transport-test (nearSyndromes p) b c (wanted-sums p g d t h .near);
+        near = transport-test (nearSyndromes p) b c (wanted-sums p d t h .near);
       }
 
-  pub one-usable : (d : Erased) (t : Sums) {ys S S′ : List ℕ} → fillOne p g d t ≡ fills ys S S′ → Usable p 1 ys S S′
+  pub one-usable : (d : Erased) (t : Sums) {ys S S′ : List ℕ} → fillOne p d t ≡ fills ys S S′ → Usable p 1 ys S S′
   unfolding fillOne
-  one-usable d t {ys} {S} {S′} e = go (fillable p g d t) refl
+  one-usable d t {ys} {S} {S′} e = go (fillable p d t) refl
     where
       y : ℕ
-      y = wanted g d t
+      y = wanted (p .q) d t
 
-      go : (c : Bool) → fillable p g d t ≡ c → Usable p 1 ys S S′
+      go : (c : Bool) → fillable p d t ≡ c → Usable p 1 ys S S′
       go true f =
-          let h : T (fillable p g d t) = holds _ f in
-          let is : fillOne p g d t ≡ filledWith (y ∷ []) (sumsWith p d y t) = rw (f, fillOne) in
-          with-wanted d t 1 h refl (λ j l. let z : j ≡ 0 = omega arith in rw z (wanted-level p g d t h)) (sym is ∙ e)
-      go false f = let is : fillOne p g d t ≡ nothing = rw (f, fillOne) in absurd (none-fills (sym is ∙ e))
+          let h : T (fillable p d t) = holds _ f in
+          let is : fillOne p d t ≡ filledWith (y ∷ []) (sumsWith p d y t) = rw (f, fillOne) in
+          with-wanted d t 1 h refl (λ j l. let z : j ≡ 0 = omega arith in rw z (wanted-level p d t h)) (sym is ∙ e)
+      go false f = let is : fillOne p d t ≡ nothing = rw (f, fillOne) in absurd (none-fills (sym is ∙ e))
 
-  pub two-usable : (d d′ : Erased) (t : Sums) {ys S S′ : List ℕ} → fillTwo p g d d′ t ≡ fills ys S S′ → Usable p 2 ys S S′
+  pub two-usable : (d d′ : Erased) (t : Sums) {ys S S′ : List ℕ} → fillTwo p d d′ t ≡ fills ys S S′ → Usable p 2 ys S S′
   unfolding fillTwo firstLevel
-  two-usable d d′ t {ys} {S} {S′} e = go (ltb (firstLevel p g d d′ t) (p .q)) refl
+  two-usable d d′ t {ys} {S} {S′} e = go (ltb (firstLevel p d d′ t) (p .q)) refl
     where
       y : ℕ
-      y = firstLevel p g d d′ t
+      y = firstLevel p d d′ t
 
       u : Sums
       u = sumsWith p d y t
 
       z : ℕ
-      z = wanted g d′ u
+      z = wanted (p .q) d′ u
 
       levels : y < p .q → z < p .q → (j : ℕ) → j < 2 → getD (y ∷ z ∷ []) j 0 < p .q
       levels a b zero l = a
       levels a b (suc zero) l = b
       levels a b (suc (suc j)) l = absurd (omega arith)
 
-      go : (c : Bool) → ltb (firstLevel p g d d′ t) (p .q) ≡ c → Usable p 2 ys S S′
+      go : (c : Bool) → ltb (firstLevel p d d′ t) (p .q) ≡ c → Usable p 2 ys S S′
       go true f =
           let l : y < p .q = ltb-true _ _ f in
-          let h : T (fillable p g d′ u) = least-hit (λ y. fillable p g d′ (sumsWith p d y t)) (p .q) l in
-          let is : fillTwo p g d d′ t ≡ filledWith (y ∷ z ∷ []) (sumsWith p d′ z u) = rw (f, fillTwo) in
-          with-wanted d′ u 2 h refl (levels l (wanted-level p g d′ u h)) (sym is ∙ e)
-      go false f = let is : fillTwo p g d d′ t ≡ nothing = rw (f, fillTwo) in absurd (none-fills (sym is ∙ e))
+          let h : T (fillable p d′ u) = least-hit (λ y. fillable p d′ (sumsWith p d y t)) (p .q) l in
+          let is : fillTwo p d d′ t ≡ filledWith (y ∷ z ∷ []) (sumsWith p d′ z u) = rw (f, fillTwo) in
+          with-wanted d′ u 2 h refl (levels l (wanted-level p d′ u h)) (sym is ∙ e)
+      go false f = let is : fillTwo p d d′ t ≡ nothing = rw (f, fillTwo) in absurd (none-fills (sym is ∙ e))
 
 -- What fills a word by four rows fills it by the r rows.
 
@@ -156,7 +156,7 @@ module _ (t : Row) (u : List ℕ) where
     pub one-completed : {x : List ℕ} {r : found.Filling} {y : ℕ} {s : Syndromes} → FilledBy t u (i ∷ []) x r → r ≡ One y s
         → Completed t u (i ∷ []) (y ∷ []) s
     one-completed {x} {r} {y} {s} f e =
-        completed-by s (λ zs S S′. one-usable p (target p) (erasedAt p i) (sums p u))
+        completed-by s (λ zs S S′. one-usable p (erasedAt p i) (sums p u))
         (subst (λ (z : found.Filling). SameFilling t (fillingOf z) (fillAt p (i ∷ []) (sums p u))) e (f .filling))
 
     pub one-none : {x : List ℕ} (r : found.Filling) → FilledBy t u (i ∷ []) x r → OneOf (1 ∷ 2 ∷ []) (tagOf the-type r)
@@ -168,7 +168,7 @@ module _ (t : Row) (u : List ℕ) where
         never (inr e) = omega arith
     one-none (Two y z s) f o =
         let (F, F′, e, w, w′) = same-fills t _ (fillAt p (i ∷ []) (sums p u)) (f .filling) refl in
-        let n : length (y ∷ z ∷ []) ≡ 1 = one-usable p (target p) (erasedAt p i) (sums p u) e .long in
+        let n : length (y ∷ z ∷ []) ≡ 1 = one-usable p (erasedAt p i) (sums p u) e .long in
         absurd (omega arith)
     one-none Nothing f o = rw (same-none t nothing (fillAt p (i ∷ []) (sums p u)) (f .filling) refl)
 
@@ -176,14 +176,14 @@ module _ (t : Row) (u : List ℕ) where
     pub two-completed : {x : List ℕ} {r : found.Filling} {y z : ℕ} {s : Syndromes} → FilledBy t u (i ∷ j ∷ []) x r → r ≡ Two y z s
         → Completed t u (i ∷ j ∷ []) (y ∷ z ∷ []) s
     two-completed {x} {r} {y} {z} {s} f e =
-        completed-by s (λ zs S S′. two-usable p (target p) (erasedAt p i) (erasedAt p j) (sums p u))
+        completed-by s (λ zs S S′. two-usable p (erasedAt p i) (erasedAt p j) (sums p u))
         (subst (λ (z : found.Filling). SameFilling t (fillingOf z) (fillAt p (i ∷ j ∷ []) (sums p u))) e (f .filling))
 
     pub two-none : {x : List ℕ} (r : found.Filling) → FilledBy t u (i ∷ j ∷ []) x r → OneOf (0 ∷ 2 ∷ []) (tagOf the-type r)
         → completed p u (i ∷ j ∷ []) ≡ unreadable
     two-none (One y s) f o =
         let (F, F′, e, w, w′) = same-fills t _ (fillAt p (i ∷ j ∷ []) (sums p u)) (f .filling) refl in
-        let n : length (y ∷ []) ≡ 2 = two-usable p (target p) (erasedAt p i) (erasedAt p j) (sums p u) e .long in
+        let n : length (y ∷ []) ≡ 2 = two-usable p (erasedAt p i) (erasedAt p j) (sums p u) e .long in
         absurd (omega arith)
     two-none (Two y z s) f o = absurd (never o)
       where

@@ -4,18 +4,20 @@
 use mathlib.Core.Path.{_≡_, refl, sym, ap, ap₂, subst, _∙_, fun-ext}
 use mathlib.Core.Bool.{Bool, true, false, _&&_}
 use mathlib.Core.List.{List, [], _∷_}
-use Prim.Native.Nat.{ℕ, zero, suc, _+_, _-_, _*_, _%_, _≤_, _<_}
+use Prim.Native.Nat.{ℕ, zero, suc, _+_, _*_, _%_, _≤_, _<_}
 use native.Mathlib.Nat.{mod-lt, mul-zero, zero-mod}
 use native.Mathlib.Omega.{arith}
 use lib.Dec.{eqb, ltb}
+use lib.IntN.{ℤ, pos, _+ℤ_, _-ℤ_}
+use Rattle.modular_theory.specs.Level.{levelOf, isZero}
 use lib.ListN.{getD}
 use Rattle.modular_theory.specs.Search.{least}
 use Rattle.code_theory.specs.Parameters.{Parameters}
 use Rattle.code_theory.proofs.Columns.{q-positive}
 use Rattle.decoding_theory.specs.Syndromes.{nearSyndromes}
-use Rattle.decoding_theory.specs.Decoded.{Sums, sums, update, target, agrees}
+use Rattle.decoding_theory.specs.Decoded.{Sums, sums, update, agrees}
 use Rattle.decoding_theory.specs.Filled.{Erased, erasedAt, plusMultiple, sumsWith, consistent, codewordSums, wanted, fillable}
-use Rattle.decoding_theory.specs.Filled.{Filling, nothing, fillOne, firstLevel, fillTwo, fillAt}
+use Rattle.decoding_theory.specs.Filled.{Filling, fillOne, firstLevel, fillTwo, fillAt}
 use Rattle.profiles.specs.declared.row.Row.{Row}
 use Rattle.profiles.specs.Row.{parameters, Valid}
 use Rattle.symbols.specs.declared.sums.Syndrome.{Syndrome}
@@ -91,82 +93,80 @@ module _ (t : Row) (v : Valid t) where
   with-same : {d d′ : Erased} (y : ℕ) {a b : Sums} → SameErased t d d′ → SameSums t a b → SameSums t (sumsWith p₄ d y a) (sumsWith p d′ y b)
   with-same y (in-body c e e′) s =
       record {
-        weighs = ap (λ (x : ℕ). x + y) (s .weighs);
+        excess = ap (λ (z : ℤ). z +ℤ pos y) (s .excess);
         asked = update-same c (ap (λ (x : ℕ). (x + y) % t .q) (s .asked c)) (s .asked);
         arrived = s .arrived;
         first = plus-same y e (s .first);
         second = plus-same y e′ (s .second);
       }
   with-same y (as-check c) s =
-      record { weighs = s .weighs; asked = s .asked; arrived = update-same c refl (s .arrived); first = s .first; second = s .second }
+      record { excess = s .excess; asked = s .asked; arrived = update-same c refl (s .arrived); first = s .first; second = s .second }
 
   near-both : {S S′ F F′ : List ℕ} → SameRows t S F → SameRows t S′ F′ → nearSyndromes p₄ S S′ ≡ nearSyndromes p F F′
   near-both a b =
       ap₂ (nearSyndromes p₄) (a .is) (b .is) ∙ near-same t v (a .four) (b .four) (a .levels) (b .levels)
       ∙ sym (ap₂ (nearSyndromes p) (a .are) (b .are))
 
-  sums-same : (g : ℕ) {a b : Sums} → SameSums t a b → codewordSums p₄ g a ≡ codewordSums p g b
+  sums-same : {a b : Sums} → SameSums t a b → codewordSums p₄ a ≡ codewordSums p b
   unfolding codewordSums consistent
-  sums-same g {a} {b} s =
+  sums-same {a} {b} s =
       let check : (c : Bool) → agrees a c ≡ agrees b c = λ c. ap₂ eqb (s .asked c) (s .arrived c) in
-      ap₂ _&&_ (ap₂ _&&_ (ap₂ _&&_ (ap (λ (x : ℕ). eqb x g) (s .weighs)) (check true)) (check false)) (near-both (s .first) (s .second))
+      ap₂ _&&_ (ap₂ _&&_ (ap₂ _&&_ (ap isZero (s .excess)) (check true)) (check false)) (near-both (s .first) (s .second))
 
-  wanted-same : (g : ℕ) {d d′ : Erased} {a b : Sums} → SameErased t d d′ → SameSums t a b → wanted g d a ≡ wanted g d′ b
-  wanted-same g (in-body c e e′) s = ap (λ (x : ℕ). g - x) (s .weighs)
-  wanted-same g (as-check c) s = s .asked c
+  wanted-same : {d d′ : Erased} {a b : Sums} → SameErased t d d′ → SameSums t a b → wanted (t .q) d a ≡ wanted (t .q) d′ b
+  wanted-same (in-body c e e′) s = ap (λ (z : ℤ). levelOf (t .q) (pos 0 -ℤ z)) (s .excess)
+  wanted-same (as-check c) s = s .asked c
 
-  module _ (g : ℕ) {d d′ : Erased} {a b : Sums} (e : SameErased t d d′) (s : SameSums t a b) where
+  module _ {d d′ : Erased} {a b : Sums} (e : SameErased t d d′) (s : SameSums t a b) where
     -- the sums once what is wanted stands there
-    filled-same : SameSums t (sumsWith p₄ d (wanted g d a) a) (sumsWith p d′ (wanted g d′ b) b)
-    filled-same = rw (wanted-same g e s) (with-same (wanted g d′ b) e s)
+    filled-same : SameSums t (sumsWith p₄ d (wanted (t .q) d a) a) (sumsWith p d′ (wanted (t .q) d′ b) b)
+    filled-same = rw (wanted-same e s) (with-same (wanted (t .q) d′ b) e s)
 
-    fillable-same : fillable p₄ g d a ≡ fillable p g d′ b
+    fillable-same : fillable p₄ d a ≡ fillable p d′ b
     unfolding fillable
-    fillable-same = ap₂ _&&_ (ap (λ (x : ℕ). ltb x (t .q)) (wanted-same g e s)) (sums-same g filled-same)
+    fillable-same = ap₂ _&&_ (ap (λ (x : ℕ). ltb x (t .q)) (wanted-same e s)) (sums-same filled-same)
 
-    pub one-same : SameFilling t (fillOne p₄ g d a) (fillOne p g d′ b)
+    pub one-same : SameFilling t (fillOne p₄ d a) (fillOne p d′ b)
     unfolding fillOne
-    one-same = go (fillable p g d′ b) refl
+    one-same = go (fillable p d′ b) refl
       where
-        go : (c : Bool) → fillable p g d′ b ≡ c → SameFilling t (fillOne p₄ g d a) (fillOne p g d′ b)
+        go : (c : Bool) → fillable p d′ b ≡ c → SameFilling t (fillOne p₄ d a) (fillOne p d′ b)
         go true f =
             rw (fillable-same ∙ f, fillOne, f)
-            (ap (λ (x : ℕ). x ∷ []) (wanted-same g e s), filled-same .first, filled-same .second)
+            (ap (λ (x : ℕ). x ∷ []) (wanted-same e s), filled-same .first, filled-same .second)
         go false f = rw (fillable-same ∙ f, fillOne, f) tt
 
-  pub two-same : (g : ℕ) {d d′ e e′ : Erased} {a b : Sums} → SameErased t d d′ → SameErased t e e′ → SameSums t a b
-      → SameFilling t (fillTwo p₄ g d e a) (fillTwo p g d′ e′ b)
+  pub two-same : {d d′ e e′ : Erased} {a b : Sums} → SameErased t d d′ → SameErased t e e′ → SameSums t a b
+      → SameFilling t (fillTwo p₄ d e a) (fillTwo p d′ e′ b)
   unfolding fillTwo firstLevel
-  two-same g {d} {d′} {e} {e′} {a} {b} f f′ s = go (ltb (firstLevel p g d′ e′ b) (t .q)) refl
+  two-same {d} {d′} {e} {e′} {a} {b} f f′ s = go (ltb (firstLevel p d′ e′ b) (t .q)) refl
     where
-      level-same : firstLevel p₄ g d e a ≡ firstLevel p g d′ e′ b
+      level-same : firstLevel p₄ d e a ≡ firstLevel p d′ e′ b
       level-same =
-          ap (λ (test : ℕ → Bool). least test (t .q)) (fun-ext (λ y. fillable-same g f′ (with-same y f s)))
+          ap (λ (test : ℕ → Bool). least test (t .q)) (fun-ext (λ y. fillable-same f′ (with-same y f s)))
 
       y : ℕ
-      y = firstLevel p g d′ e′ b
+      y = firstLevel p d′ e′ b
 
-      after : SameSums t (sumsWith p₄ d (firstLevel p₄ g d e a) a) (sumsWith p d′ y b)
+      after : SameSums t (sumsWith p₄ d (firstLevel p₄ d e a) a) (sumsWith p d′ y b)
       after = rw level-same (with-same y f s)
 
-      go : (c : Bool) → ltb (firstLevel p g d′ e′ b) (t .q) ≡ c → SameFilling t (fillTwo p₄ g d e a) (fillTwo p g d′ e′ b)
+      go : (c : Bool) → ltb (firstLevel p d′ e′ b) (t .q) ≡ c → SameFilling t (fillTwo p₄ d e a) (fillTwo p d′ e′ b)
       go true h =
           rw (ap (λ (x : ℕ). ltb x (t .q)) level-same ∙ h, fillTwo, h)
-          (ap₂ (λ (x z : ℕ). x ∷ z ∷ []) level-same (wanted-same g f′ after), filled-same g f′ after .first, filled-same g f′ after .second)
+          (ap₂ (λ (x z : ℕ). x ∷ z ∷ []) level-same (wanted-same f′ after), filled-same f′ after .first, filled-same f′ after .second)
       go false h = rw (ap (λ (x : ℕ). ltb x (t .q)) level-same ∙ h, fillTwo, h) tt
 
   -- What the steps of crate fillings answer of a word u, whose sums are b.
-  module _ (u : List ℕ) {a b : Sums} (s : SameSums t a b) (is : b ≡ sums p u) {g : ℕ} (goal : g ≡ target p) where
-    pub found-one : {f : Filling} {d : Erased} (i : ℕ) → SameErased t d (erasedAt p i) → f ≡ fillOne p₄ g d a
+  module _ (u : List ℕ) {a b : Sums} (s : SameSums t a b) (is : b ≡ sums p u) where
+    pub found-one : {f : Filling} {d : Erased} (i : ℕ) → SameErased t d (erasedAt p i) → f ≡ fillOne p₄ d a
         → SameFilling t f (fillAt p (i ∷ []) (sums p u))
     found-one {f} {d} i e h =
         subst (λ (x : Filling). SameFilling t x (fillAt p (i ∷ []) (sums p u))) (sym h)
-        (subst (λ (x : Sums). SameFilling t (fillOne p₄ g d a) (fillAt p (i ∷ []) x)) is
-        (subst (λ (x : ℕ). SameFilling t (fillOne p₄ g d a) (fillOne p x (erasedAt p i) b)) goal (one-same g e s)))
+        (subst (λ (x : Sums). SameFilling t (fillOne p₄ d a) (fillAt p (i ∷ []) x)) is (one-same e s))
 
     pub found-two : {f : Filling} {d e : Erased} (i j : ℕ) → SameErased t d (erasedAt p i) → SameErased t e (erasedAt p j)
-        → f ≡ fillTwo p₄ g d e a → SameFilling t f (fillAt p (i ∷ j ∷ []) (sums p u))
+        → f ≡ fillTwo p₄ d e a → SameFilling t f (fillAt p (i ∷ j ∷ []) (sums p u))
     found-two {f} {d} {e} i j k k′ h =
         subst (λ (x : Filling). SameFilling t x (fillAt p (i ∷ j ∷ []) (sums p u))) (sym h)
-        (subst (λ (x : Sums). SameFilling t (fillTwo p₄ g d e a) (fillAt p (i ∷ j ∷ []) x)) is
-        (subst (λ (x : ℕ). SameFilling t (fillTwo p₄ g d e a) (fillTwo p x (erasedAt p i) (erasedAt p j) b)) goal (two-same g k k′ s)))
+        (subst (λ (x : Sums). SameFilling t (fillTwo p₄ d e a) (fillAt p (i ∷ j ∷ []) x)) is (two-same k k′ s))

@@ -1,35 +1,24 @@
 -- What is known of the position that the search found, and of the body corrected there.
 -- Assumes nothing.
-use mathlib.Core.Path.{_≡_, sym, ap, _∙_}
-use mathlib.Core.Bool.{Bool}
+use mathlib.Core.Path.{_≡_}
 use mathlib.Core.List.{List}
 use Prim.Native.Nat.{ℕ, _+_, _*_, _≤_, _<_}
 use native.Mathlib.Omega.{arith}
 use lib.Dec.{T}
-use lib.ListN.{length, getD, take, drop, set, length-set}
-use lib.Seq.{getD-take, take-set-lt}
+use lib.ListN.{getD, set}
 use Rattle.code_theory.specs.Parameters.{Parameters}
-use Rattle.code_theory.specs.Component.{symbolsBelow}
-use Rattle.code_theory.specs.Balance.{differences}
-use Rattle.code_theory.specs.Codeword.{alternate, body, received}
 use Rattle.code_theory.specs.Reading.{correctionAt, corrected}
-use Rattle.code_theory.proofs.Columns.{q-positive}
-use Rattle.code_theory.proofs.Symbols.{symbol-below, symbols-set}
 use Rattle.decoding_theory.specs.Syndromes.{nearSyndromes, index}
-use Rattle.decoding_theory.specs.Decoded.{inRange, readBy, readFit, decodedBody}
+use Rattle.decoding_theory.specs.Decoded.{balancingSymbol, inRange, readBy, readFit, decodedBody}
 use Rattle.decoding_theory.proofs.Changed.{index-within}
-use Rattle.profiles.specs.declared.row.Row.{Row}
-use Rattle.profiles.specs.Row.{parameters, Valid}
 use Rattle.symbols.specs.declared.sums.Syndromes.{Syndromes}
-use Rattle.symbols.specs.Syndromes.{rows, part}
+use Rattle.symbols.specs.Syndromes.{rows}
 use Rattle.decoder.specs.declared.locate.Search.{Search}
 use Rattle.decoder.specs.Rows.{rowsOf}
-use Rattle.decoder.specs.Received.{BodyArray}
-use Rattle.decoder.specs.Totals.{WholeWord}
 use Rattle.decoder.specs.Search.{parametersOf, sumsIn, parityOf, After}
-use Rattle.decoder.specs.Locate.{Located, symbolSent}
+use Rattle.decoder.specs.Locate.{Located}
 use Rattle.decoder.proofs.Fitting.{index-is, positions-are}
-use Rattle.decoder.proofs.Sent.{sent-is}
+use Rattle.decoder.proofs.Sent.{sent-below}
 use Rattle.decoder.proofs.Answering.{body-found, found-range, found-near}
 
 module _ {x : Search} {word : List ℕ} {k : ℕ} (found : Located x word k) where
@@ -52,19 +41,18 @@ module _ {x : Search} {word : List ℕ} {k : ℕ} (found : Located x word k) whe
   fit-range : T (inRange p (sumsIn x) (getD word i 0))
   fit-range = rw (← index-here) (found-range p (sumsIn x) word (parityOf x) (found .fit .0) (found .fit .1))
 
-  pub fit-level : {y : ℕ} → y ≡ symbolSent p (sumsIn x) (getD word i 0) → y < x .row .q
-  fit-level y-is = rw y-is (sent-is p (sumsIn x) (getD word i 0) fit-range .1)
+  pub fit-level : {y : ℕ} → y ≡ balancingSymbol p (sumsIn x) (getD word i 0) → y < x .row .q
+  fit-level y-is = rw y-is (sent-below p (sumsIn x) (getD word i 0) fit-range)
 
   module _ {z : Syndromes} (moved : After x k z) where
     pub fit-near : T (nearSyndromes p (rowsOf (x .row) (rows (z .first))) (rowsOf (x .row) (rows (z .second))))
     fit-near = rw (moved .first-is, moved .second-is) (found-near p (sumsIn x) word (parityOf x) (found .fit .0) (found .fit .1))
 
-    pub fit-read : {y : ℕ} → y ≡ symbolSent p (sumsIn x) (getD word i 0)
+    pub fit-read : {y : ℕ} → y ≡ balancingSymbol p (sumsIn x) (getD word i 0)
         → decodedBody p (sumsIn x) (parityOf x) word
         ≡ readBy p (corrected (correctionAt i (getD word i 0) y)) (set word i y) (rowsOf (x .row) (rows (z .first)))
         (rowsOf (x .row) (rows (z .second)))
     unfolding readFit
     fit-read {y} y-is =
-        let sent = y-is ∙ sent-is p (sumsIn x) (getD word i 0) fit-range .0 in
-        rw (moved .first-is, moved .second-is, sent, ← index-here)
+        rw (moved .first-is, moved .second-is, y-is, ← index-here)
         (body-found p (sumsIn x) word (parityOf x) (found .fit .0) (found .fit .1))

@@ -3,22 +3,25 @@
 use mathlib.Core.Path.{_≡_, sym, ap, _∙_, fun-ext}
 use mathlib.Core.Bool.{Bool, true, false}
 use mathlib.Core.List.{List}
-use Prim.Native.Nat.{ℕ, _+_, _-_, _*_, _%_, _≤_, min}
-use native.Mathlib.Nat.{mul-le-mul, mod-lt, min-eq-left}
+use Prim.Native.Nat.{ℕ, _+_, _-_, _*_, _≤_, min}
+use native.Mathlib.Nat.{mul-le-mul, min-eq-left}
 use native.Mathlib.Omega.{arith}
 use lib.ListN.{length, getD, take}
+use lib.IntN.{pos, negℤ, _-ℤ_}
+use Rattle.modular_theory.specs.Residue.{remainder}
+use Rattle.modular_theory.proofs.Residue.{remainder-below}
+use Rattle.modular_theory.proofs.Integer.{difference-within}
 use Rattle.modular_theory.specs.Sum.{weight}
-use Rattle.code_theory.specs.Parameters.{balancedLength, balancingValue, delta}
+use Rattle.code_theory.specs.Parameters.{balancedLength, balancingValue}
 use Rattle.code_theory.specs.Codeword.{alpha, beta, body, received}
 use Rattle.code_theory.proofs.Columns.{q-positive}
 use Rattle.code_theory.proofs.Conditions.{body-length}
-use Rattle.code_theory.proofs.Delta.{alternate-weight}
 use Rattle.decoding_theory.specs.Syndromes.{syndromes}
 use Rattle.decoding_theory.specs.Decoded.{sums, checkSymbol, checkIndex, target, lack}
 use Rattle.profiles.specs.declared.row.Row.{Row}
 use Rattle.profiles.specs.Row.{parameters, Valid}
-use Rattle.modular.specs.Remainder.{residueOfDifference}
-use Rattle.modular.proofs.Dividing.{difference-is}
+use Rattle.modular.specs.Remainder.{residueOfNegative}
+use Rattle.modular.proofs.Dividing.{negative-is}
 use Rattle.symbols.specs.declared.weight.Weight.{Weight}
 use Rattle.symbols.specs.declared.checks.Checks.{Checks}
 use Rattle.symbols.specs.Weight.{weightsOf, checksOf, checkOf}
@@ -40,10 +43,10 @@ use Rattle.decoding_theory.proofs.Outcomes.{check-below}
 pub row-columns : {t : Row} → Valid t → {columns : List (List ℕ)} → columns ≡ columnsOf (t .q) (t .n) → Columns (t .q) (t .n) columns
 row-columns {t} v e = columns-right e (q-positive (parameters t) (v .sized)) (v .length)
 
-pub target-is : {t : Row} → Valid t → t .target ≡ target (parameters t)
+target-is : {t : Row} → Valid t → t .target ≡ target (parameters t)
 target-is {t} v = v .target ∙ ap (balancingValue (t .q)) (v .balanced)
 
-pub target-small : {t : Row} → Valid t → t .target ≤ 1358
+target-small : {t : Row} → Valid t → t .target ≤ 1358
 unfolding balancingValue
 target-small {t} v =
     let m : t .balanced ≤ 97 = omega (arith, v .balanced, v .length) in
@@ -75,16 +78,16 @@ module _ {t : Row} {word x : List ℕ} (is : WholeWord t word) (held : Component
   copy-is : take (min (t .balanced) 97) word ≡ body (parameters t) word
   copy-is = ap (λ (m : ℕ). take m word) (min-eq-left room) ∙ begins
 
-  -- The weight and the check symbols that the body asks for, by the sums over its odd and its even positions.
-  module _ {k : Weight} (e : k ≡ weightsOf (take (min (t .balanced) 97) word)) where
-    pub weight-is : k .odd + k .even ≡ weight (body (parameters t) word)
-    weight-is = rw (e, copy-is) (alternate-weight (body (parameters t) word))
+  -- The excess, and the check symbols that the body asks for.
+  module _ {k : Weight} (e : k ≡ weightsOf (t .target) (take (min (t .balanced) 97) word)) where
+    pub excess-is : k .excess ≡ pos (weight (body (parameters t) word)) -ℤ pos (target (parameters t))
+    excess-is = rw (e, copy-is, target-is (is .valid))
 
     pub asked-are : {c : Checks} → c ≡ checksOf (t .q) (t .delta) k
         → (b : Bool) → checkOf c b ≡ checkSymbol (t .q) b (body (parameters t) word)
     asked-are f b =
         let long : length (take (t .balanced) word) ≡ t .balanced = ap length begins ∙ body-long ∙ sym (is .valid .balanced) in
-        let is = f ∙ ap (checksOf (t .q) (t .delta)) e ∙ checks-are word q₁ room long (is .valid .delta) in
+        let is = f ∙ ap (checksOf (t .q) (t .delta)) e ∙ checks-are (t .target) word q₁ room long (is .valid .delta) in
         at b (ap (λ (c : Checks). checkOf c b) is)
       where
         l : List ℕ
@@ -108,7 +111,7 @@ module _ {t : Row} {word x : List ℕ} (is : WholeWord t word) (held : Component
       )
 
   -- the sums, as the code has them
-  module _ (s : Totals) (e : s .weight ≡ weight (body (parameters t) word))
+  module _ (s : Totals) (e : s .excess ≡ pos (weight (body (parameters t) word)) -ℤ pos (target (parameters t)))
       (g : (b : Bool) → checkOf (s .asked) b ≡ checkSymbol (t .q) b (body (parameters t) word)) where
     pub totals-are : s .arrived .alpha ≡ getD word (t .balanced) 0 → s .arrived .beta ≡ getD word (t .balanced + 1) 0
         → rowsOf t (rows (s .first)) ≡ syndromes (parameters t) (received (parameters t) true word)
@@ -126,15 +129,16 @@ module _ {t : Row} {word x : List ℕ} (is : WholeWord t word) (held : Component
         arrived-is : _≡_ {A = Bool → ℕ} (checkOf (s .arrived)) (λ b. getD word (checkIndex (parameters t) b) 0)
         arrived-is = fun-ext arrived
 
-    pub totalled : s .lack ≡ residueOfDifference (t .q) (t .target) (s .weight)
+    pub totalled : s .lack ≡ residueOfNegative (t .q) (s .excess)
         → FourRows t (rows (s .first)) → FourRows t (rows (s .second)) → Totalled t s
     unfolding lack
     totalled d f h =
-        let l : s .lack ≡ (t .target + (t .q - 1) * s .weight) % t .q = d ∙ difference-is (t .target) (s .weight) q₁ in
+        let small : target (parameters t) ≤ 1358 = rw (target-is (is .valid)) at (target-small (is .valid)) in
+        let l : s .lack ≡ remainder (negℤ (s .excess)) (t .q) = d ∙ negative-is (s .excess) q₁ in
         record {
-          light = omega (arith, e, body-light);
-          lacks = l ∙ ap (λ (m : ℕ). (m + (t .q - 1) * s .weight) % t .q) (target-is (is .valid));
-          lack-below = rw l (mod-lt (t .target + (t .q - 1) * s .weight) q₁);
+          light = rw e (difference-within 1358 (weight (body (parameters t) word)) (target (parameters t)) body-light small);
+          lacks = l;
+          lack-below = rw l (remainder-below (negℤ (s .excess)) (t .q) q₁);
           asked-below = λ b. rw (g b) (check-below (t .q) q₁ b (body (parameters t) word));
           first-rows = f;
           second-rows = h;

@@ -5,20 +5,17 @@ use mathlib.Core.Bool.{true, false}
 use mathlib.Core.List.{List, [], _∷_}
 use Prim.Native.Nat.{ℕ}
 use lib.ListN.{length}
-use Rattle.code_theory.specs.Reading.{Correction, Change, clean, corrected, filled}
+use Rattle.code_theory.specs.Reading.{Change, clean, corrected, filled}
 use Rattle.code_theory.specs.Operations.{Answer, Report, refusal, failure, success, decodeAnswer, report, decodeOutput}
-use Rattle.decoder.specs.declared.word.Correction as declared
-use Rattle.decoder.specs.declared.word.Change as declared-change
+use Rattle.syndromes.specs.Correction.{correctionOf}
+use Rattle.decoder.specs.declared.word.Change as declared
 use Rattle.decoder.specs.declared.word.Changes.{Changes}
 use Rattle.decoder.specs.declared.word.Changes.the-variants.{One, Two}
 use Rattle.decoder.specs.declared.word.Decoded.{Decoded}
 use Rattle.decoder.specs.declared.word.Decoded.the-variants.{Clean, Corrected, Filled, Unreadable, Refused}
 
--- the code's structs, as the model has them
-abbrev pub correctionOf : declared.Correction → Correction
-correctionOf c = record { position = c .position; symbol = c .symbol }
-
-abbrev pub changeOf : declared-change.Change → Change
+-- the code's changes, as the model has them
+abbrev pub changeOf : declared.Change → Change
 changeOf c = record { position = c .position; symbol = c .symbol }
 
 abbrev pub changesIn : Changes → List Change

@@ -45,7 +45,7 @@ pub data SameErased (t : Row) : Erased → Erased → Type 0 where
 
 -- with the sums over a word
 pub record SameSums (t : Row) (a b : Sums) : Type 0 where
-  pub weighs : a .weighs ≡ b .weighs
+  pub excess : a .excess ≡ b .excess
   pub asked : (c : Bool) → a .asked c ≡ b .asked c
   pub arrived : (c : Bool) → a .arrived c ≡ b .arrived c
   pub first : SameRows t (a .first) (b .first)

@@ -1,11 +1,9 @@
--- What trying positions answers, against the first index that a definition gives, and the symbol sent at one.
+-- What trying positions answers, against the first index that a definition gives.
 -- Assumes nothing.
 use mathlib.Core.Path.{_≡_}
-use mathlib.Core.Bool.{true, false}
 use mathlib.Core.List.{List}
 use Prim.Native.Nat.{ℕ, _<_}
-use Rattle.code_theory.specs.Parameters.{Parameters}
-use Rattle.decoding_theory.specs.Decoded.{Sums, balancingSymbol, inRange, positionCount, firstFit}
+use Rattle.decoding_theory.specs.Decoded.{positionCount, firstFit}
 use Rattle.decoder.specs.declared.locate.Search.{Search}
 use Rattle.decoder.specs.declared.locate.Fit.{Fit}
 use Rattle.decoder.specs.declared.locate.Fit.the-variants.{At, Nothing}
@@ -22,7 +20,3 @@ pub record Located (x : Search) (word : List ℕ) (k : ℕ) : Type 0 where
   pub given : Searches x
   pub is : WholeWord (x .row) word
   pub fit : FitFound x word (At k)
-
--- the symbol that balances the body in place of x, and q where it is no level
-unfoldable pub symbolSent : Parameters → Sums → ℕ → ℕ
-symbolSent p s x = elim (inRange p s x) [ true ↦ balancingSymbol p s x | false ↦ p .q ]

@@ -36,7 +36,7 @@ pub record Searches (x : Search) : Type 0 where
   pub parity-number : x .parity ≤ 1
 
 -- the symbol whose multiples move the first component's syndrome where one at an odd position (true) or an even one (false) is
--- corrected: the negative of what the weight lacks, or the lack
+-- corrected: the negative of what the symbol lacks, or the lack
 abbrev pub factor : ℕ → ℕ → Bool → ℕ
 factor q e true = minus q 0 e
 factor q e false = e

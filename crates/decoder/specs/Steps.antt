@@ -7,8 +7,8 @@ use Prim.Native.Nat.{ℕ}
 use lib.Dec.{T}
 use Rattle.code_theory.specs.Parameters.{Parameters}
 use Rattle.code_theory.specs.Codeword.{received}
-use Rattle.code_theory.specs.Reading.{Finding, clean, corrected, unreadable}
-use Rattle.code_theory.specs.Operations.{answered}
+use Rattle.code_theory.specs.Reading.{Finding, unreadable}
+use Rattle.code_theory.specs.Operations.{Report, refusal, failure, success, answered}
 use Rattle.decoding_theory.specs.Syndromes.{nearSyndromes}
 use Rattle.decoding_theory.specs.Decoded.{Sums, readBy, decodedBalanced}
 use Rattle.profiles.specs.declared.row.Row.{Row}
@@ -16,9 +16,8 @@ use Rattle.profiles.specs.Row.{parameters}
 use Rattle.symbols.specs.Syndromes.{part}
 use Rattle.decoder.specs.declared.totals.Totals.{Totals}
 use Rattle.decoder.specs.declared.word.Decoded.{Decoded}
-use Rattle.decoder.specs.declared.word.Decoded.the-variants.{Clean, Corrected, Filled, Unreadable, Refused}
 use Rattle.decoder.specs.Totals.{sumsOf}
-use Rattle.decoder.specs.Decode.{correctionOf, Answers}
+use Rattle.decoder.specs.Decode.{decodedReport, Answers}
 
 -- the parity whose check symbol alone disagrees, by whether each agrees; 2 for neither
 abbrev pub wrongParity : Bool → Bool → ℕ
@@ -31,13 +30,15 @@ wrongParity false false = 2
 abbrev pub JudgedAs : Parameters → Sums → Finding → Type 0
 JudgedAs p s f = T (nearSyndromes p (s .first) (s .second)) × ((v : List ℕ) → decodedBalanced p s v ≡ readBy p f v (s .first) (s .second))
 
--- r is what a balanced body with the sums s is read as
+-- so is said of a balanced body with the sums s
+abbrev pub JudgedBy : Parameters → Sums → Report → Type 0
+JudgedBy p s (refusal k) = ⊥
+JudgedBy p s failure = (v : List ℕ) → decodedBalanced p s v ≡ unreadable
+JudgedBy p s (success f) = JudgedAs p s f
+
+-- r is what it is read as
 abbrev pub Judged : Parameters → Sums → Decoded → Type 0
-Judged p s Clean = JudgedAs p s clean
-Judged p s (Corrected c) = JudgedAs p s (corrected (correctionOf c))
-Judged p s (Filled cs) = ⊥
-Judged p s Unreadable = (v : List ℕ) → decodedBalanced p s v ≡ unreadable
-Judged p s (Refused k) = ⊥
+Judged p s r = JudgedBy p s (decodedReport r)
 
 -- r and the outputs are the answer to any balanced word that has the sums s and the components in x
 pub record BalancedAnswers (t : Row) (s : Totals) (x : List ℕ) (r : Decoded) (first first′ second second′ : List ℕ) : Type 0 where

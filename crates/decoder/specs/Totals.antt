@@ -6,6 +6,7 @@ use mathlib.Core.List.{List}
 use Prim.Native.Nat.{ℕ, suc, _≤_, _<_}
 use lib.Dec.{T}
 use lib.ListN.{length, getD}
+use lib.IntN.{natAbs}
 use Rattle.code_theory.specs.Parameters.{codewordLength}
 use Rattle.code_theory.specs.Component.{symbolsBelow}
 use Rattle.code_theory.specs.Balance.{neighbourDifference}
@@ -28,16 +29,16 @@ pub record WholeWord (t : Row) (word : List ℕ) : Type 0 where
 abbrev pub sumsOf : Row → Totals → Sums
 sumsOf t s =
     record {
-      weighs = s .weight;
+      excess = s .excess;
       asked = checkOf (s .asked);
       arrived = checkOf (s .arrived);
       first = rowsOf t (rows (s .first));
       second = rowsOf t (rows (s .second));
     }
 
--- the rest follows from the sums, and each is small
+-- the rest follows from the sums, and each is small: 97 symbols below 15 weigh at most 1358, as does their balancing value
 pub record Totalled (t : Row) (s : Totals) : Type 0 where
-  pub light : s .weight ≤ 1358
+  pub light : natAbs (s .excess) ≤ 1358
   pub lacks : s .lack ≡ lack (parameters t) (sumsOf t s)
   pub lack-below : s .lack < t .q
   pub asked-below : (b : Bool) → checkOf (s .asked) b < t .q

@@ -13,7 +13,7 @@ pub(crate) struct Effect {
     pub(crate) second: [u8; 16],
 }
 
-// They are those of what the weight lacks and of its negative.
+// They are those of what the symbol lacks and of its negative.
 pub(crate) fn effect_of(search: Search) -> Effect
     requires { ⌜ Searches search ⌝ }
     ensures { λ e. ⌜ Moves search (e .first) (e .second) ⌝ }

@@ -81,12 +81,14 @@ fn sums_in(row: Row, s: Totals) -> Sums
     requires { ⌜ Totalled row s ⌝ }
     ensures { λ r. ⌜ SameSums row (fourRowSums r) (sumsOf row s) ⌝ }
 {
+    let wide = s.excess;
+    let excess = wide as i16;
     let asked = s.asked;
     let arrived = s.arrived;
     let first = s.first;
     let second = s.second;
     Sums {
-        weight: s.weight as u16,
+        excess,
         asked,
         arrived,
         syndromes: Syndromes { first, second },
@@ -101,7 +103,7 @@ fn find_one(row: Row, word: &[u8], i: usize, x: &mut [u8; 97]) -> Filling
     let matrix = columns(row.q, row.n);
     let s = sums_of(row, &matrix, word, x);
     let erased = erased_at(row, &matrix, i);
-    fill_one(row.q, row.n, row.target, erased, sums_in(row, s))
+    fill_one(row.q, row.n, erased, sums_in(row, s))
 }
 
 // The same of the symbols at the indices i and j.
@@ -113,7 +115,7 @@ fn find_two(row: Row, word: &[u8], i: usize, j: usize, x: &mut [u8; 97]) -> Fill
     let s = sums_of(row, &matrix, word, x);
     let erased = erased_at(row, &matrix, i);
     let other = erased_at(row, &matrix, j);
-    fill_two(row.q, row.n, row.target, erased, other, sums_in(row, s))
+    fill_two(row.q, row.n, erased, other, sums_in(row, s))
 }
 
 // The pair of a word, which has 0 at index i, once that symbol is filled.

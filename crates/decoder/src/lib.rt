@@ -11,6 +11,5 @@ mod word;
 
 pub use word::Change;
 pub use word::Changes;
-pub use word::Correction;
 pub use word::Decoded;
 pub use word::decode;

@@ -3,15 +3,15 @@ use crate::column::moved;
 use crate::column::moves_to_zero;
 use crate::totals::Totals;
 use modular::add;
-use modular::sub;
+use modular::plain::less;
 use profiles::Row;
 use syndromes::near;
 ghost use mathlib.Core.Path.{_≡_};
 ghost use Prim.Native.Nat.{_≤_};
-ghost use Rattle.decoding_theory.specs.Decoded.{offByLack, nearAfter, fits};
+ghost use Rattle.decoding_theory.specs.Decoded.{balancingSymbol, offByLack, nearAfter, fits};
 ghost use Rattle.decoder.specs.Totals.{WholeWord};
 ghost use Rattle.decoder.specs.Search.{parametersOf, sumsIn, parityOf, Searches, Tries};
-ghost use Rattle.decoder.specs.Locate.{FitFound, symbolSent};
+ghost use Rattle.decoder.specs.Locate.{FitFound};
 
 // What the search for the changed symbol goes by: the sums over the word, and the parity whose check symbol disagrees, 0 for the odd
 // positions and 1 for the even ones.
@@ -30,9 +30,10 @@ pub(crate) enum Fit {
 // The symbol that balances the body in place of x, by plain subtraction; q where it is no level.
 pub(crate) fn balancing_symbol(search: Search, x: u8) -> u8
     requires { ⌜ Searches search ⌝ }
-    ensures { λ y. ⌜ y ≡ symbolSent (parametersOf search) (sumsIn search) x ⌝ }
+    ensures { λ y. ⌜ y ≡ balancingSymbol (parametersOf search) (sumsIn search) x ⌝ }
 {
-    modular::plain::offset(search.row.q, x, search.row.target, search.s.weight)
+    let excess = search.s.excess;
+    less(search.row.q, x, excess)
 }
 
 // Whether the check symbol of the parity is off by as much as the weight, mod q.

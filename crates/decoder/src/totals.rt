@@ -1,6 +1,6 @@
-// What is summed over a received word, once: its weight, its check symbols and the syndromes of its components.
+// What is summed over a received word, once: its excess, its check symbols and the syndromes of its components.
 use differences::difference_body;
-use modular::difference;
+use modular::negative;
 use profiles::Row;
 use symbols::Checks;
 use symbols::Syndrome;
@@ -15,9 +15,9 @@ ghost use Rattle.decoder.specs.Received.{BodyArray};
 ghost use Rattle.decoder.specs.Totals.{WholeWord, sumsOf, Components, Totalled, SummedWord};
 
 pub(crate) struct Totals {
-    // The weight of the body.
-    pub(crate) weight: usize,
-    // What the weight lacks of the balancing value, mod q.
+    // The weight of the body less its balancing value.
+    pub(crate) excess: i32,
+    // What a changed symbol lacks by it, mod q.
     pub(crate) lack: u8,
     // The check symbols α and β: as the body asks for, and as received.
     pub(crate) asked: Checks,
@@ -34,8 +34,8 @@ fn total(row: Row, columns: &[[u8; 3]; 48], word: &[u8], x: &[u8; 97]) -> Totals
 {
     let q = row.q;
     let m = row.balanced;
-    let sums = weigh(word, m);
-    let weight = sums.odd as usize + sums.even as usize;
+    let sums = weigh(word, m, row.target);
+    let excess = sums.excess;
     let asked = checks_of(q, row.delta, sums);
     let alpha = word[m];
     let beta = word[m + 1];
@@ -44,8 +44,8 @@ fn total(row: Row, columns: &[[u8; 3]; 48], word: &[u8], x: &[u8; 97]) -> Totals
     let first = syndromes.first;
     let second = syndromes.second;
     Totals {
-        weight,
-        lack: difference(q, row.target, weight),
+        excess,
+        lack: negative(q, excess),
         asked,
         arrived,
         first,

@@ -18,8 +18,10 @@ use profiles::row_of;
 use profiles::screen;
 use symbols::Syndromes;
 use symbols::columns;
-use syndromes::Verdict;
-use syndromes::verdict;
+use syndromes::Correction;
+use syndromes::Judgement;
+use syndromes::corrected;
+use syndromes::judge_balanced;
 ghost use mathlib.Core.Path.{_≡_};
 ghost use lib.Dec.{eqb};
 ghost use Rattle.code_theory.specs.Operations.{answered};
@@ -33,12 +35,6 @@ ghost use Rattle.decoder.specs.Locate.{Located};
 ghost use Rattle.decoder.specs.Outputs.{Outputs};
 ghost use Rattle.decoder.specs.Decode.{Answers, DecodeAllows};
 ghost use Rattle.decoder.specs.Steps.{Judged, wrongParity, BalancedAnswers};
-
-// What is said of a changed symbol: its position, from 1, and the symbol sent there.
-pub struct Correction {
-    pub position: usize,
-    pub symbol: u8,
-}
 
 // What is said of an erased symbol that was filled: its position, from 1, and the symbol sent there.
 pub struct Change {
@@ -73,24 +69,19 @@ fn judge(row: Row, s: Totals) -> Decoded
     let second = s.second;
     let asked = s.asked;
     let arrived = s.arrived;
-    let told = verdict(row.q, row.n, first, second, asked, arrived);
-    match told {
-        Verdict::Clean => Decoded::Clean,
-        Verdict::Alpha => {
-            let position = row.balanced + 1;
-            Decoded::Corrected(Correction {
-                position,
-                symbol: asked.alpha,
-            })
-        }
-        Verdict::Beta => {
-            let position = row.balanced + 2;
-            Decoded::Corrected(Correction {
-                position,
-                symbol: asked.beta,
-            })
-        }
-        Verdict::Unreadable => Decoded::Unreadable,
+    let judged = judge_balanced(
+        row.q,
+        row.n,
+        row.balanced as u8,
+        first,
+        second,
+        asked,
+        arrived,
+    );
+    match judged {
+        Judgement::Clean => Decoded::Clean,
+        Judgement::Corrected(c) => Decoded::Corrected(c),
+        Judgement::Unreadable => Decoded::Unreadable,
     }
 }
 
@@ -132,11 +123,7 @@ fn correct(
     let y = balancing_symbol(search, word[i]);
     correct_differences(search.row.q, search.row.balanced, word, i, y, x);
     write_pair(search.row, after.first, after.second, x, first, second);
-    let position = i + 1;
-    Decoded::Corrected(Correction {
-        position,
-        symbol: y,
-    })
+    Decoded::Corrected(corrected(i + 1, word[i], y))
 }
 
 // An unbalanced body, whose components are in x: one of its symbols changed where exactly one check symbol disagrees.
@@ -202,7 +189,8 @@ fn decode_word(row: Row, word: &[u8], first: &mut [u8], second: &mut [u8]) -> De
     let matrix = columns(row.q, row.n);
     let mut x = [0u8; 97];
     let s = sums_of(row, &matrix, word, &mut x);
-    if s.weight != row.target {
+    let excess = s.excess;
+    if excess != 0 {
         return decode_unbalanced(row, &matrix, s, word, &mut x, first, second);
     }
     decode_balanced(row, s, &mut x, first, second)

@@ -5,19 +5,21 @@ use mathlib.Core.Path.{_≡_, refl, sym, ap, subst, _∙_}
 use mathlib.Core.Logic.{_⊎_, inl, inr, ⊎-elim, _≢_}
 use mathlib.Core.Bool.{Bool, true, false, not}
 use mathlib.Core.List.{List}
-use Prim.Native.Nat.{ℕ, suc, _+_, _-_, _*_, _%_, _≤_, _<_}
-use native.Mathlib.Nat.{mod-lt, le-of-lt, eq-or-lt-of-le}
+use Prim.Native.Nat.{ℕ, suc, _+_, _%_, _≤_, _<_}
+use native.Mathlib.Nat.{le-of-lt, eq-or-lt-of-le}
 use native.Mathlib.Omega.{arith}
 use lib.ListN.{length, getD, set, length-set}
+use lib.IntN.{ℤ, pos, negℤ, _-ℤ_}
 use lib.Seq.{getD-set-other, take-set-lt, take-set-le}
 use Rattle.modular_theory.specs.Sum.{weight}
 use Rattle.modular_theory.specs.Residue.{Congruent}
 use Rattle.modular_theory.proofs.Search.{le-or-lt}
-use Rattle.modular_theory.proofs.Residue.{of-eq, same, _then_, add, reduce, multiple, cancel}
+use Rattle.modular_theory.proofs.Residue.{remainder-below}
+use Rattle.modular_theory.proofs.Integer.{difference-zero, no-difference, less-difference, add-remainder}
 use Rattle.modular_theory.proofs.Sum.{weight-set}
 use Rattle.code_theory.specs.Parameters.{Parameters, Sized, balancedLength, codewordLength}
 use Rattle.code_theory.specs.Codeword.{body, received, hasComponents}
-use Rattle.code_theory.proofs.Weights.{double, double-is, parity, times-pred}
+use Rattle.code_theory.proofs.Weights.{double, double-is, parity}
 use Rattle.code_theory.proofs.Columns.{q-positive}
 use Rattle.code_theory.proofs.Conditions.{body-length, balanced-length, body-at}
 use Rattle.decoding_theory.specs.Syndromes.{index}
@@ -97,7 +99,7 @@ module _ (p : Parameters) (v : List ℕ) where
 
 -- t is what is summed over v; a list may go on after the r rows
 pub record Summed (p : Parameters) (v : List ℕ) (t : Sums) : Type 0 where
-  pub weighs : t .weighs ≡ weight (body p v)
+  pub excess : t .excess ≡ pos (weight (body p v)) -ℤ pos (target p)
   pub asked : (b : Bool) → t .asked b ≡ checkSymbol (p .q) b (body p v)
   pub arrived : (b : Bool) → t .arrived b ≡ getD v (checkIndex p b) 0
   pub first : Rows p (received p true v) (t .first)
@@ -106,25 +108,29 @@ pub record Summed (p : Parameters) (v : List ℕ) (t : Sums) : Type 0 where
 pub summed : (p : Parameters) (v : List ℕ) → Summed p v (sums p v)
 summed p v =
     record {
-      weighs = refl;
+      excess = refl;
       asked = λ b. refl;
       arrived = λ b. refl;
       first = syndromes-rows p (received p true v);
       second = syndromes-rows p (received p false v);
     }
 
+-- there is no excess exactly where the body weighs its balancing value
+module _ {p : Parameters} {v : List ℕ} {t : Sums} (m : Summed p v t) where
+  pub weighs-target : t .excess ≡ pos 0 → weight (body p v) ≡ target p
+  weighs-target e = difference-zero (weight (body p v)) (target p) (sym (m .excess) ∙ e)
+
+  pub no-excess : weight (body p v) ≡ target p → t .excess ≡ pos 0
+  no-excess e = m .excess ∙ no-difference e
+
 -- the lack is what takes x to the symbol that balances
-pub lack-gained : (p : Parameters) (s : Sums) (x y : ℕ) → 1 ≤ p .q → y + s .weighs ≡ x + target p → Congruent (p .q) (x + lack p s) y
+pub lack-gained : (p : Parameters) (s : Sums) (x y : ℕ) → 1 ≤ p .q → pos x -ℤ s .excess ≡ pos y → Congruent (p .q) (x + lack p s) y
 unfolding lack
-lack-gained p s x y h e =
-    let a : ℕ = s .weighs in
-    let t : ℕ = target p in
-    let f : x + (t + (p .q - 1) * a) + a ≡ y + a + a * p .q = omega (arith, times-pred (p .q) a h) in
-    cancel a (add (add (same x) (reduce (p .q) (t + (p .q - 1) * a))) (same a) then of-eq f then multiple (p .q) (y + a) a)
+lack-gained p s x y h e = add-remainder (p .q) x y (negℤ (s .excess)) h e
 
 pub lack-below : (p : Parameters) (s : Sums) → 1 ≤ p .q → lack p s < p .q
 unfolding lack
-lack-below p s h = mod-lt (target p + (p .q - 1) * s .weighs) h
+lack-below p s h = remainder-below (negℤ (s .excess)) (p .q) h
 
 pub update-here : (b : Bool) (y : ℕ) (f : Bool → ℕ) → update b y f b ≡ y
 update-here true y f = refl
@@ -136,8 +142,8 @@ update-other false y f = refl
 
 -- y, which is e more mod q, in place of the symbol at index k of the parity b moves the sums
 module _ (p : Parameters) (s : Sized p) {v : List ℕ} (n : length v ≡ codewordLength p) {t : Sums} (m : Summed p v t) (b : Bool)
-    (k y e a : ℕ) (l : k < positionCount p b) (small : e ≤ p .q) (gained : Congruent (p .q) (getD v (index b k) 0 + e) y)
-    (weighed : y + t .weighs ≡ getD v (index b k) 0 + a) where
+    (k y e : ℕ) (a : ℤ) (l : k < positionCount p b) (small : e ≤ p .q) (gained : Congruent (p .q) (getD v (index b k) 0 + e) y)
+    (weighed : (n : ℕ) → n + getD v (index b k) 0 ≡ weight (body p v) + y → a ≡ pos n -ℤ pos (target p)) where
   within : index b k < balancedLength p
   within = index-within p b k l
 
@@ -161,7 +167,7 @@ module _ (p : Parameters) (s : Sized p) {v : List ℕ} (n : length v ≡ codewor
   unfolding received
   summed-moved =
       record {
-        weighs = omega (arith, weight-body-set p v n (index b k) y within, m .weighs);
+        excess = weighed (weight (body p (set v (index b k) y))) (weight-body-set p v n (index b k) y within);
         asked =
             for-both b (λ c. update b ((t .asked b + e) % p .q) (t .asked) c ≡ checkSymbol (p .q) c (body p (set v (index b k) y)))
             (update-here b _ (t .asked) ∙ sym own-check) (update-other b _ (t .asked) ∙ sym other-check);
@@ -172,11 +178,15 @@ module _ (p : Parameters) (s : Sized p) {v : List ℕ} (n : length v ≡ codewor
 
 -- y in place of the symbol at index k of the parity b balances the body
 module _ (p : Parameters) (s : Sized p) {v : List ℕ} (n : length v ≡ codewordLength p) {t : Sums} (m : Summed p v t) (b : Bool) (k y : ℕ)
-    (l : k < positionCount p b) (e : y + t .weighs ≡ getD v (index b k) 0 + target p) where
-  pub changed : Summed p (set v (index b k) y) (movedSums p b k (lack p t) (target p) t)
+    (l : k < positionCount p b) (e : pos (getD v (index b k) 0) -ℤ t .excess ≡ pos y) where
+  balanced : y + weight (body p v) ≡ getD v (index b k) 0 + target p
+  balanced = less-difference (getD v (index b k) 0) (weight (body p v)) (target p) y (rw (m .excess) at e)
+
+  pub changed : Summed p (set v (index b k) y) (movedSums p b k (lack p t) (pos 0) t)
   changed =
-      summed-moved p s n m b k y (lack p t) (target p) l (le-of-lt (lack-below p t (q-positive p s)))
-      (lack-gained p t (getD v (index b k) 0) y (q-positive p s) e) e
+      summed-moved p s n m b k y (lack p t) (pos 0) l (le-of-lt (lack-below p t (q-positive p s)))
+      (lack-gained p t (getD v (index b k) 0) y (q-positive p s) e)
+      (λ a h. let g : a ≡ target p = omega (arith, balanced) in sym (no-difference g))
 
   pub changed-check : checkSymbol (p .q) b (body p (set v (index b k) y)) ≡ (t .asked b + lack p t) % p .q
   changed-check = sym (changed .asked b) ∙ update-here b _ (t .asked)

@@ -6,16 +6,19 @@ use mathlib.Core.Bool.{Bool, true, false, not}
 use mathlib.Core.List.{List}
 use Prim.Native.Nat.{ℕ, _≤_, _<_}
 use native.Mathlib.Nat.{not-le-of-lt}
-use lib.Dec.{T, eqb, ltb}
+use lib.Dec.{T, ltb}
 use lib.ListN.{getD}
+use lib.IntN.{pos}
 use borrow.Author.Tests.{eqb-true, eqb-false, ltb-true, ltb-false}
+use Rattle.modular_theory.specs.Level.{isZero}
+use Rattle.modular_theory.proofs.Integer.{zero-test, zero-fails}
 use Rattle.modular_theory.proofs.Search.{least-hit, least-some, holds}
 use Rattle.code_theory.specs.Parameters.{Parameters, Sized, codewordLength}
 use Rattle.code_theory.specs.Component.{isWord}
 use Rattle.code_theory.specs.Reading.{reading}
 use Rattle.code_theory.specs.Claims.{OneNear}
 use Rattle.decoding_theory.specs.Syndromes.{nearSyndromes, index}
-use Rattle.decoding_theory.specs.Decoded.{Sums, target, fits, positionCount, firstFit, decodedBody}
+use Rattle.decoding_theory.specs.Decoded.{Sums, fits, positionCount, firstFit, decodedBody}
 use Rattle.decoding_theory.specs.Decoded.{agrees, decodedBalanced, decodedUnbalanced, decodedBy, decoded}
 use Rattle.decoding_theory.proofs.Tests.{false-test, for-both}
 use Rattle.decoding_theory.proofs.Changed.{Summed, summed}
@@ -31,7 +34,7 @@ module _ (p : Parameters) (s : Sized p) (one : OneNear p) {v : List ℕ} (w : T 
   disagree : agrees t true ≡ false → agrees t false ≡ false → (b : Bool) → t .asked b ≢ t .arrived b
   disagree f g = for-both true (λ b. t .asked b ≢ t .arrived b) (eqb-false _ _ f) (eqb-false _ _ g)
 
-  body-decoded : (b : Bool) → t .weighs ≢ target p → agrees t (not b) ≡ true → decodedBody p t b v ≡ reading p v
+  body-decoded : (b : Bool) → t .excess ≢ pos 0 → agrees t (not b) ≡ true → decodedBody p t b v ≡ reading p v
   unfolding decodedBody firstFit
   body-decoded b a r = go (ltb (firstFit p t b v) (positionCount p b)) refl
     where
@@ -48,7 +51,7 @@ module _ (p : Parameters) (s : Sized p) (one : OneNear p) {v : List ℕ} (w : T 
           rw (e, decodedBody)
           (sym (unfit-refused p s one w m b a (eqb-true _ _ r) (λ k h o. not-le-of-lt (least-some test (positionCount p b) k h o) l)))
 
-  balanced-decoded : t .weighs ≡ target p → decodedBalanced p t v ≡ reading p v
+  balanced-decoded : t .excess ≡ pos 0 → decodedBalanced p t v ≡ reading p v
   unfolding decodedBalanced
   balanced-decoded a = go (nearSyndromes p (t .first) (t .second)) (agrees t true) (agrees t false) refl refl refl
     where
@@ -62,7 +65,7 @@ module _ (p : Parameters) (s : Sized p) (one : OneNear p) {v : List ℕ} (w : T 
           rw (e, decodedBalanced, f, g) (sym (check-reading p s one w m true a (holds _ e) (eqb-true _ _ g) (eqb-false _ _ f)))
       go true false false e f g = rw (e, decodedBalanced, f, g) (sym (checks-refused p s one w m a (disagree f g)))
 
-  unbalanced-decoded : t .weighs ≢ target p → decodedUnbalanced p t v ≡ reading p v
+  unbalanced-decoded : t .excess ≢ pos 0 → decodedUnbalanced p t v ≡ reading p v
   unfolding decodedUnbalanced
   unbalanced-decoded a = go (agrees t true) (agrees t false) refl refl
     where
@@ -75,11 +78,11 @@ module _ (p : Parameters) (s : Sized p) (one : OneNear p) {v : List ℕ} (w : T 
   -- by any sums of v
   pub decoded-by : decodedBy p t v ≡ reading p v
   unfolding decodedBy
-  decoded-by = go (eqb (t .weighs) (target p)) refl
+  decoded-by = go (isZero (t .excess)) refl
     where
-      go : (c : Bool) → eqb (t .weighs) (target p) ≡ c → decodedBy p t v ≡ reading p v
-      go true e = rw (e, decodedBy) (balanced-decoded (eqb-true _ _ e))
-      go false e = rw (e, decodedBy) (unbalanced-decoded (eqb-false _ _ e))
+      go : (c : Bool) → isZero (t .excess) ≡ c → decodedBy p t v ≡ reading p v
+      go true e = rw (e, decodedBy) (balanced-decoded (zero-test _ e))
+      go false e = rw (e, decodedBy) (unbalanced-decoded (zero-fails _ e))
 
 pub decoded-reading : (p : Parameters) → Sized p → OneNear p → (v : List ℕ) → T (isWord (p .q) (codewordLength p) v)
     → decoded p v ≡ reading p v

@@ -9,15 +9,18 @@ use native.Mathlib.Nat.{zero-add, one-mul, mul-comm}
 use native.Mathlib.Omega.{arith}
 use lib.Dec.{eqb}
 use lib.ListN.{length, getD, set}
+use lib.IntN.{ℤ, pos, _+ℤ_, _-ℤ_}
 use lib.Seq.{getD-set-same}
 use borrow.Author.Tests.{eq-eqb, ne-eqb, lt-ltb, le-ltb}
 use Rattle.modular_theory.specs.Sum.{weight}
 use Rattle.modular_theory.specs.Residue.{Congruent}
 use Rattle.modular_theory.proofs.Residue.{of-eq, same, _then_, add, reduce, scale}
+use Rattle.modular_theory.proofs.Integer.{difference-more}
 use Rattle.code_theory.specs.Parameters.{Parameters, Sized, balancedLength, codewordLength}
+use Rattle.code_theory.specs.Codeword.{body}
 use Rattle.code_theory.proofs.Columns.{q-positive}
 use Rattle.decoding_theory.specs.Syndromes.{columnEntry, moved, index, columnOf, times, movedOf}
-use Rattle.decoding_theory.specs.Decoded.{checkSymbol, checkIndex, Sums, update, gainBy, positionCount}
+use Rattle.decoding_theory.specs.Decoded.{checkSymbol, checkIndex, Sums, update, gainBy, target, positionCount}
 use Rattle.decoding_theory.specs.Filled.{addedByOne, Erased, inBody, asCheck, erasedAt, plusMultiple, sumsWith}
 use Rattle.decoding_theory.proofs.Tests.{for-both}
 use Rattle.decoding_theory.proofs.Value.{tabulate-at, tabulate-same}
@@ -94,7 +97,7 @@ module _ (p : Parameters) (s : Sized p) {v : List ℕ} (n : length v ≡ codewor
   check-with : (b : Bool) → Summed p (set v (checkIndex p b) y) (sumsWith p (asCheck b) y t)
   check-with b =
       record {
-        weighs = m .weighs ∙ ap weight (sym (body-kept p v b y));
+        excess = m .excess ∙ ap (λ (w : List ℕ). pos (weight w) -ℤ pos (target p)) (sym (body-kept p v b y));
         asked = λ c. m .asked c ∙ ap (checkSymbol (p .q) c) (sym (body-kept p v b y));
         arrived =
             for-both b (λ c. update b y (t .arrived) c ≡ getD (set v (checkIndex p b) y) (checkIndex p c) 0)
@@ -104,8 +107,16 @@ module _ (p : Parameters) (s : Sized p) {v : List ℕ} (n : length v ≡ codewor
         second = rw (received-kept p v b y false) (m .second);
       }
 
+  -- y more is y more of the excess
+  heavier : (b : Bool) (k : ℕ) → getD v (index b k) 0 ≡ 0 → (a : ℕ) → a + getD v (index b k) 0 ≡ weight (body p v) + y
+      → t .excess +ℤ pos y ≡ pos a -ℤ pos (target p)
+  heavier b k z a e =
+      let w : ℕ = weight (body p v) in
+      let f : w + y ≡ a = omega arith in
+      ap (λ (x : ℤ). x +ℤ pos y) (m .excess) ∙ difference-more w (target p) y ∙ ap (λ (x : ℕ). pos x -ℤ pos (target p)) f
+
   pub summed-with : {i : ℕ} {d : Erased} → AtIndex p i d → y ≤ p .q → getD v i 0 ≡ 0 → Summed p (set v i y) (sumsWith p d y t)
   summed-with (in-body b k l) h z =
       rw (plus-effect p (q-positive p s) true b k y h (t .first), plus-effect p (q-positive p s) false b k y h (t .second))
-      (summed-moved p s n m b k y y (t .weighs + y) l h (of-eq (ap (λ (x : ℕ). x + y) z ∙ zero-add y)) (omega arith))
+      (summed-moved p s n m b k y y (t .excess +ℤ pos y) l h (of-eq (ap (λ (x : ℕ). x + y) z ∙ zero-add y)) (heavier b k z))
   summed-with (as-check b) h z = check-with b

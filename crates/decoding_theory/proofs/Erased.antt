@@ -25,7 +25,7 @@ use Rattle.code_theory.proofs.Reading.{codeword-word}
 use Rattle.code_theory.proofs.Filling.{erasedSymbols, length-erased, erased-below, fill-agrees, fill-erased}
 use Rattle.code_theory.proofs.Erased.{erasures-filled}
 use Rattle.code_theory.proofs.Whole.{length-indices}
-use Rattle.decoding_theory.specs.Decoded.{Sums, target}
+use Rattle.decoding_theory.specs.Decoded.{Sums}
 use Rattle.decoding_theory.specs.Filled.{Erased, erasedAt, sumsWith, wanted, fillable, fillOne, firstLevel, fillTwo, fillAt}
 use Rattle.decoding_theory.specs.Filled.{setAll, changesBy, readFilled, cleared, decodedErased}
 use Rattle.decoding_theory.proofs.Tests.{false-test}
@@ -71,13 +71,13 @@ module _ (p : Parameters) (s : Sized p) (k : ℕ) (law : Fills p k) (v : List �
         f ys (length-erased v x ∙ sym as-many) (erased-below (p .q) v x below)
         (subst (λ (x : List ℕ). T (codeword p x)) (sym (fill-erased v x a) ∙ fill-is ys) h))
 
-  one-reading : (i : ℕ) → OneAt v i → readFilled p (i ∷ []) u (fillOne p (target p) (erasedAt p i) t) ≡ filledReading p v
+  one-reading : (i : ℕ) → OneAt v i → readFilled p (i ∷ []) u (fillOne p (erasedAt p i) t) ≡ filledReading p v
   unfolding fillOne
   one-reading i o =
-      cases (fillable p (target p) d t)
+      cases (fillable p d t)
       (λ e.
-      let h : T (fillable p (target p) d t) = holds _ e in
-      let ys : List ℕ = wanted (target p) d t ∷ [] in
+      let h : T (fillable p d t) = holds _ e in
+      let ys : List ℕ = wanted (p .q) d t ∷ [] in
       rw (e, fillOne)
       (wanted-read p s word m at (o .is-zero) h (filled (changesBy (i ∷ []) ys))
       ∙ sym (filled-reading (i ∷ []) (o .found) ys refl (wanted-codeword p s word m at (o .is-zero) h))))
@@ -89,22 +89,22 @@ module _ (p : Parameters) (s : Sized p) (k : ℕ) (law : Fills p k) (v : List �
       at : AtIndex p i d
       at = placed p i (subst (λ (x : ℕ). i < x) n (o .within))
 
-      none : fillable p (target p) d t ≡ false → (ys : List ℕ) → length ys ≡ 1 → Below (p .q) ys
+      none : fillable p d t ≡ false → (ys : List ℕ) → length ys ≡ 1 → Below (p .q) ys
           → T (codeword p (setAll (i ∷ []) ys u)) → ⊥
       none e [] l b h = omega arith
       none e (y ∷ []) l b h = false-test e (codeword-fillable p s word m at (o .is-zero) y (b 0) h)
       none e (y ∷ z ∷ ys) l b h = omega arith
 
   two-reading : (i j : ℕ) → TwoAt v i j
-      → readFilled p (i ∷ j ∷ []) u (fillTwo p (target p) (erasedAt p i) (erasedAt p j) t) ≡ filledReading p v
+      → readFilled p (i ∷ j ∷ []) u (fillTwo p (erasedAt p i) (erasedAt p j) t) ≡ filledReading p v
   unfolding fillTwo firstLevel
   two-reading i j o =
-      cases (ltb (firstLevel p (target p) d d′ t) (p .q))
+      cases (ltb (firstLevel p d d′ t) (p .q))
       (λ e.
-      let y : ℕ = firstLevel p (target p) d d′ t in
+      let y : ℕ = firstLevel p d d′ t in
       let l : y < p .q = ltb-true _ _ e in
       let h : T (test y) = least-hit test (p .q) l in
-      let ys : List ℕ = y ∷ wanted (target p) d′ (sumsWith p d y t) ∷ [] in
+      let ys : List ℕ = y ∷ wanted (p .q) d′ (sumsWith p d y t) ∷ [] in
       rw (e, fillTwo)
       (wanted-read p s (first-word y l) (first-sums y l) at′ (still y) h (filled (changesBy is ys))
       ∙ sym (filled-reading is (o .found) ys refl (wanted-codeword p s (first-word y l) (first-sums y l) at′ (still y) h))))
@@ -129,7 +129,7 @@ module _ (p : Parameters) (s : Sized p) (k : ℕ) (law : Fills p k) (v : List �
       at′ = placed p j inside
 
       test : ℕ → Bool
-      test y = fillable p (target p) d′ (sumsWith p d y t)
+      test y = fillable p d′ (sumsWith p d y t)
 
       -- the word with the first one filled
       first-word : (y : ℕ) → y < p .q → T (isWord (p .q) (codewordLength p) (set u i y))
@@ -141,7 +141,7 @@ module _ (p : Parameters) (s : Sized p) (k : ℕ) (law : Fills p k) (v : List �
       still : (y : ℕ) → getD (set u i y) j 0 ≡ 0
       still y = getD-set-other u i j y 0 (λ e. omega (arith, o .less)) ∙ o .second-zero
 
-      none : ltb (firstLevel p (target p) d d′ t) (p .q) ≡ false → (ys : List ℕ) → length ys ≡ 2 → Below (p .q) ys
+      none : ltb (firstLevel p d d′ t) (p .q) ≡ false → (ys : List ℕ) → length ys ≡ 2 → Below (p .q) ys
           → T (codeword p (setAll (i ∷ j ∷ []) ys u)) → ⊥
       none e [] l b h = omega arith
       none e (y ∷ []) l b h = omega arith

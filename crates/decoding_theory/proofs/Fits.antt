@@ -1,16 +1,19 @@
 -- An index of the body fits exactly where the symbol that balances there makes a codeword, if the other check symbol is right.
 -- Assumes nothing.
-use mathlib.Core.Path.{_≡_, sym, subst, _∙_}
+use mathlib.Core.Path.{_≡_, refl, sym, subst, _∙_}
 use mathlib.Core.Logic.{_≢_}
 use mathlib.Core.Bool.{Bool, not}
 use mathlib.Core.List.{List}
-use Prim.Native.Nat.{ℕ, _+_, _-_, _%_, _≤_, _<_}
+use Prim.Native.Nat.{ℕ, _+_, _%_, _<_}
 use native.Mathlib.Nat.{zero-add, add-zero, add-comm}
 use native.Mathlib.Omega.{arith}
-use lib.Dec.{T, eqb, leb, ltb, eqb→eq, leb→le, ltb→lt, le→leb, lt→ltb}
+use lib.Dec.{T, eqb, eqb→eq, ltb→lt, lt→ltb}
 use lib.ListN.{length, getD, set, length-set}
+use lib.IntN.{pos, _-ℤ_, +ℤ-idr}
+use Rattle.modular_theory.specs.Sum.{weight}
 use Rattle.modular_theory.specs.Residue.{Congruent}
-use Rattle.modular_theory.proofs.Search.{eq-test, and-left, and-right, and-intro}
+use Rattle.modular_theory.proofs.Search.{eq-test, and-right}
+use Rattle.modular_theory.proofs.Integer.{pos-same, level-is, is-level, difference-less}
 use Rattle.modular_theory.proofs.Residue.{of-eq, same, symm, _then_, add, reduce, small, cancel}
 use Rattle.code_theory.specs.Parameters.{Parameters, Sized, codewordLength}
 use Rattle.code_theory.specs.Component.{symbolsBelow, isWord}
@@ -24,11 +27,11 @@ use Rattle.decoding_theory.specs.Decoded.{inRange, offByLack, nearAfter,
 use Rattle.decoding_theory.proofs.Tests.{and-three, three-parts, for-both}
 use Rattle.decoding_theory.proofs.Answers.{Tests, codeword-tests, tests-codeword}
 use Rattle.decoding_theory.proofs.Changed.{index-within, weight-body-set, checks-kept, Summed}
-use Rattle.decoding_theory.proofs.Changed.{lack-gained, changed, changed-check, kept-check, changed-near}
+use Rattle.decoding_theory.proofs.Changed.{weighs-target, lack-gained, changed, changed-check, kept-check, changed-near}
 
 -- what the test says: y is the symbol that balances in place of x
 pub record Fit (p : Parameters) (s : Sums) (b : Bool) (k x y : ℕ) : Type 0 where
-  pub balances : y + s .weighs ≡ x + target p
+  pub balances : pos x -ℤ s .excess ≡ pos y
   pub below : y < p .q
   pub check : (s .asked b + lack p s) % p .q ≡ s .arrived b
   pub near : T (nearAfter p s b k)
@@ -37,19 +40,14 @@ pub fit : (p : Parameters) (s : Sums) (b : Bool) (k x : ℕ) → T (fits p s b k
 unfolding fits inRange balancingSymbol offByLack
 fit p s b k x t =
     let (r, c, n) = three-parts (inRange p s x) (offByLack p s b) (nearAfter p s b k) t in
-    let a : Bool = leb (s .weighs) (x + target p) in
-    let l : Bool = ltb (x + target p - s .weighs) (p .q) in
-    let g : s .weighs ≤ x + target p = leb→le _ _ (and-left a l r) in
-    record { balances = omega arith; below = ltb→lt _ _ (and-right a l r); check = eqb→eq _ _ c; near = n }
+    let below : balancingSymbol p s x < p .q = ltb→lt _ _ r in
+    record { balances = is-level (p .q) (pos x -ℤ s .excess) below; below = below; check = eqb→eq _ _ c; near = n }
 
 pub fit-test : (p : Parameters) (s : Sums) (b : Bool) (k x y : ℕ) → Fit p s b k x y → T (fits p s b k x)
 unfolding fits inRange balancingSymbol offByLack
 fit-test p s b k x y f =
-    let g : s .weighs ≤ x + target p = omega (arith, f .balances) in
-    let d : x + target p - s .weighs < p .q = omega (arith, f .balances, f .below) in
-    and-three (inRange p s x) (offByLack p s b) (nearAfter p s b k)
-    (and-intro (leb (s .weighs) (x + target p)) (ltb (x + target p - s .weighs) (p .q)) (le→leb (s .weighs) (x + target p) g)
-    (lt→ltb (x + target p - s .weighs) (p .q) d))
+    let is : balancingSymbol p s x ≡ y = level-is (p .q) y (f .balances) (f .below) in
+    and-three (inRange p s x) (offByLack p s b) (nearAfter p s b k) (lt→ltb (balancingSymbol p s x) (p .q) (rw is (f .below)))
     (eq-test (f .check)) (f .near)
 
 pub word-set : (p : Parameters) (v : List ℕ) (i y : ℕ) → T (isWord (p .q) (codewordLength p) v) → y < p .q
@@ -72,7 +70,7 @@ module _ (p : Parameters) (s : Sized p) {v : List ℕ} (w : T (isWord (p .q) (co
       tests-codeword p (set v (index b k) y)
       (record {
         word = word-set p v (index b k) y w (f .below);
-        weighs = sym (changed p s long m b k y l (f .balances) .weighs);
+        weighs = weighs-target (changed p s long m b k y l (f .balances)) refl;
         checks =
             for-both b (λ c. checkSymbol (p .q) c (body p (set v (index b k) y)) ≡ getD (set v (index b k) y) (checkIndex p c) 0)
             (changed-check p s long m b k y l (f .balances) ∙ f .check ∙ arrived-is b)
@@ -85,14 +83,18 @@ module _ (p : Parameters) (s : Sized p) {v : List ℕ} (w : T (isWord (p .q) (co
     tests : Tests p (set v (index b k) y)
     tests = codeword-tests p (set v (index b k) y) h
 
-    balances : y + t .weighs ≡ getD v (index b k) 0 + target p
-    balances = omega (arith, weight-body-set p v long (index b k) y (index-within p b k l), tests .weighs, m .weighs)
+    balances : pos (getD v (index b k) 0) -ℤ t .excess ≡ pos y
+    balances =
+        let x : ℕ = getD v (index b k) 0 in
+        let a : ℕ = weight (body p v) in
+        let e : y + a ≡ x + target p = omega (arith, weight-body-set p v long (index b k) y (index-within p b k l), tests .weighs) in
+        rw (m .excess) (difference-less x a (target p) y e)
 
     check : (t .asked b + lack p t) % p .q ≡ t .arrived b
     check = sym (changed-check p s long m b k y l balances) ∙ tests .checks b ∙ sym (arrived-is b)
 
-    pub unbalanced : t .weighs ≢ target p
-    unbalanced e = ne (omega (arith, balances))
+    pub unbalanced : t .excess ≢ pos 0
+    unbalanced e = ne (sym (pos-same (sym (+ℤ-idr (pos (getD v (index b k) 0))) ∙ rw e at balances)))
 
     pub other-agrees : t .asked (not b) ≡ t .arrived (not b)
     other-agrees = sym (kept-check p s long m b k y l balances) ∙ tests .checks (not b) ∙ sym (arrived-is (not b))

@@ -7,6 +7,7 @@ use mathlib.Core.List.{List}
 use Prim.Native.Nat.{ℕ, _<_}
 use lib.Dec.{T}
 use lib.ListN.{getD, set}
+use lib.IntN.{pos}
 use Rattle.modular_theory.specs.Sum.{weight}
 use Rattle.code_theory.specs.Parameters.{Parameters, Sized, codewordLength}
 use Rattle.code_theory.specs.Component.{isWord}
@@ -15,10 +16,10 @@ use Rattle.code_theory.specs.Reading.{unreadable, mends, reading}
 use Rattle.code_theory.specs.Claims.{OneNear}
 use Rattle.code_theory.proofs.Merge.{word-length}
 use Rattle.decoding_theory.specs.Syndromes.{nearSyndromes, index}
-use Rattle.decoding_theory.specs.Decoded.{checkSymbol, checkIndex, Sums, target, fits, positionCount}
+use Rattle.decoding_theory.specs.Decoded.{checkSymbol, checkIndex, Sums, fits, positionCount}
 use Rattle.decoding_theory.proofs.Components.{components-test}
 use Rattle.decoding_theory.proofs.Answers.{Tests, codeword-tests, reads-none}
-use Rattle.decoding_theory.proofs.Changed.{OfParity, of-parity, in-parity, index-cases, body-kept, other-kept, Summed}
+use Rattle.decoding_theory.proofs.Changed.{OfParity, of-parity, in-parity, index-cases, body-kept, other-kept, Summed, no-excess}
 use Rattle.decoding_theory.proofs.Fits.{unbalanced, other-agrees, own-disagrees, codeword-fit}
 
 -- a changed check symbol leaves the components
@@ -33,10 +34,10 @@ components-kept p v b y = rw (received-kept p v b y true, received-kept p v b y 
 -- what the tests of the algorithm say where a codeword is within one position of v: it arrived as sent, with a check symbol changed, or
 -- with a symbol of the body changed
 pub data Nearby (p : Parameters) (t : Sums) (v : List ℕ) : Type 0 where
-  as-sent : t .weighs ≡ target p → T (nearSyndromes p (t .first) (t .second)) → ((b : Bool) → t .asked b ≡ t .arrived b) → Nearby p t v
-  check-changed : (b : Bool) → t .weighs ≡ target p → T (nearSyndromes p (t .first) (t .second)) → t .asked (not b) ≡ t .arrived (not b)
+  as-sent : t .excess ≡ pos 0 → T (nearSyndromes p (t .first) (t .second)) → ((b : Bool) → t .asked b ≡ t .arrived b) → Nearby p t v
+  check-changed : (b : Bool) → t .excess ≡ pos 0 → T (nearSyndromes p (t .first) (t .second)) → t .asked (not b) ≡ t .arrived (not b)
       → Nearby p t v
-  body-changed : (b : Bool) (k : ℕ) → t .weighs ≢ target p → t .asked (not b) ≡ t .arrived (not b) → t .asked b ≢ t .arrived b
+  body-changed : (b : Bool) (k : ℕ) → t .excess ≢ pos 0 → t .asked (not b) ≡ t .arrived (not b) → t .asked b ≢ t .arrived b
       → k < positionCount p b → T (fits p t b k (getD v (index b k) 0)) → Nearby p t v
 
 module _ (p : Parameters) (s : Sized p) {v : List ℕ} (w : T (isWord (p .q) (codewordLength p) v)) {t : Sums} (m : Summed p v t) where
@@ -46,13 +47,13 @@ module _ (p : Parameters) (s : Sized p) {v : List ℕ} (w : T (isWord (p .q) (co
   sent-nearby : T (codeword p v) → Nearby p t v
   sent-nearby h =
       let c : Tests p v = codeword-tests p v h in
-      as-sent (m .weighs ∙ c .weighs) (subst T (sym near-is) (c .near)) (λ b. m .asked b ∙ c .checks b ∙ sym (m .arrived b))
+      as-sent (no-excess m (c .weighs)) (subst T (sym near-is) (c .near)) (λ b. m .asked b ∙ c .checks b ∙ sym (m .arrived b))
 
   check-nearby : (b : Bool) (y : ℕ) → T (codeword p (set v (checkIndex p b) y)) → Nearby p t v
   check-nearby b y h =
       let c : Tests p (set v (checkIndex p b) y) = codeword-tests p (set v (checkIndex p b) y) h in
       let e : body p v ≡ body p (set v (checkIndex p b) y) = sym (body-kept p v b y) in
-      check-changed b (m .weighs ∙ ap weight e ∙ c .weighs) (subst T (components-kept p v b y ∙ sym near-is) (c .near))
+      check-changed b (no-excess m (ap weight e ∙ c .weighs)) (subst T (components-kept p v b y ∙ sym near-is) (c .near))
       (m .asked (not b) ∙ ap (checkSymbol (p .q) (not b)) e ∙ c .checks (not b) ∙ other-kept p v b y ∙ sym (m .arrived (not b)))
 
   body-nearby : (i y : ℕ) → OfParity p i → y < p .q → y ≢ getD v i 0 → T (codeword p (set v i y)) → Nearby p t v

@@ -2,9 +2,12 @@
 -- Assumes nothing.
 use mathlib.Core.Bool.{Bool, true, false, _&&_}
 use mathlib.Core.List.{List}
-use Prim.Native.Nat.{ℕ, suc, _+_, _-_, _*_, _%_}
-use lib.Dec.{eqb, leb, ltb}
+use Prim.Native.Nat.{ℕ, suc, _+_, _%_}
+use lib.Dec.{eqb, ltb}
 use lib.ListN.{getD, set}
+use lib.IntN.{ℤ, pos, negℤ, _-ℤ_}
+use Rattle.modular_theory.specs.Residue.{remainder}
+use Rattle.modular_theory.specs.Level.{levelOf, isZero}
 use Rattle.modular_theory.specs.Search.{least}
 use Rattle.modular_theory.specs.Sum.{weight}
 use Rattle.code_theory.specs.Parameters.{Parameters, balancedLength, balancingValue}
@@ -25,8 +28,8 @@ checkIndex p false = balancedLength p + 1
 
 -- what is summed over a received word, once
 pub record Sums : Type 0 where
-  -- the weight of the body
-  pub weighs : ℕ
+  -- the weight of the body less its balancing value (01: middle): what the body exceeds it by
+  pub excess : ℤ
   -- the check symbols, as the body asks for and as received
   pub asked : Bool → ℕ
   pub arrived : Bool → ℕ
@@ -34,10 +37,14 @@ pub record Sums : Type 0 where
   pub first : List ℕ
   pub second : List ℕ
 
+-- the balancing value of the body
+abbrev pub target : Parameters → ℕ
+target p = balancingValue (p .q) (balancedLength p)
+
 abbrev pub sums : Parameters → List ℕ → Sums
 sums p v =
     record {
-      weighs = weight (body p v);
+      excess = pos (weight (body p v)) -ℤ pos (target p);
       asked = λ b. checkSymbol (p .q) b (body p v);
       arrived = λ b. getD v (checkIndex p b) 0;
       first = syndromes p (received p true v);
@@ -55,36 +62,32 @@ update false y f false = y
 abbrev pub gainBy : Parameters → ℕ → ℕ
 gainBy p e = e
 
--- the sums once the symbol at index k of the parity b is e more, mod q, and the body weighs a
-abbrev pub movedSums : Parameters → Bool → ℕ → ℕ → ℕ → Sums → Sums
+-- the sums once the symbol at index k of the parity b is e more, mod q, and the excess is a
+abbrev pub movedSums : Parameters → Bool → ℕ → ℕ → ℤ → Sums → Sums
 movedSums p b k e a t =
     record {
-      weighs = a;
+      excess = a;
       asked = update b ((t .asked b + e) % p .q) (t .asked);
       arrived = t .arrived;
       first = movedOf p true b k (gainBy p e) (t .first);
       second = movedOf p false b k (gainBy p e) (t .second);
     }
 
--- the balancing value of the body
-abbrev pub target : Parameters → ℕ
-target p = balancingValue (p .q) (balancedLength p)
-
--- what the changed symbol lacks, mod q: the target less the weight
+-- what the changed symbol lacks, mod q
 unfoldable pub lack : Parameters → Sums → ℕ
-lack p s = (target p + (p .q - 1) * s .weighs) % p .q
+lack p s = remainder (negℤ (s .excess)) (p .q)
 
 -- what the components gain where that is added to it
 abbrev pub gain : Parameters → Sums → ℕ
 gain p s = gainBy p (lack p s)
 
--- the symbol in place of x that balances the body
+-- the symbol in place of x that balances the body, by plain subtraction; q where it is no level
 unfoldable pub balancingSymbol : Parameters → Sums → ℕ → ℕ
-balancingSymbol p s x = x + target p - s .weighs
+balancingSymbol p s x = levelOf (p .q) (pos x -ℤ s .excess)
 
--- it is at least 0 and below q, by plain subtraction
+-- it is a level
 unfoldable pub inRange : Parameters → Sums → ℕ → Bool
-inRange p s x = leb (s .weighs) (x + target p) && ltb (balancingSymbol p s x) (p .q)
+inRange p s x = ltb (balancingSymbol p s x) (p .q)
 
 -- the check symbol of the parity b is off by as much as the weight, mod q
 unfoldable pub offByLack : Parameters → Sums → Bool → Bool
@@ -153,7 +156,7 @@ decodedUnbalanced p s v =
 
 -- the answer to v, by its sums
 unfoldable pub decodedBy : Parameters → Sums → List ℕ → Reading
-decodedBy p s v = elim (eqb (s .weighs) (target p)) [ true ↦ decodedBalanced p s v | false ↦ decodedUnbalanced p s v ]
+decodedBy p s v = elim (isZero (s .excess)) [ true ↦ decodedBalanced p s v | false ↦ decodedUnbalanced p s v ]
 
 unfoldable pub decoded : Parameters → List ℕ → Reading
 decoded p v = decodedBy p (sums p v) v

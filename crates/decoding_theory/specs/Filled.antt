@@ -3,15 +3,17 @@
 -- Assumes nothing.
 use mathlib.Core.Bool.{Bool, true, false, _&&_}
 use mathlib.Core.List.{List, [], _∷_}
-use Prim.Native.Nat.{ℕ, _+_, _-_, _*_, _/_, _%_}
+use Prim.Native.Nat.{ℕ, _+_, _*_, _/_, _%_}
 use lib.Dec.{eqb, ltb}
 use lib.ListN.{getD, set}
+use lib.IntN.{pos, _+ℤ_, _-ℤ_}
+use Rattle.modular_theory.specs.Level.{levelOf, isZero}
 use Rattle.modular_theory.specs.Search.{least}
 use Rattle.code_theory.specs.Parameters.{Parameters, balancedLength}
 use Rattle.code_theory.specs.Erasures.{erasedIndices, fill}
 use Rattle.code_theory.specs.Reading.{Change, change, filled, Reading, unreadable}
 use Rattle.decoding_theory.specs.Syndromes.{tabulate, nearSyndromes, movedOf}
-use Rattle.decoding_theory.specs.Decoded.{Sums, sums, update, gainBy, target, readBy, agrees}
+use Rattle.decoding_theory.specs.Decoded.{Sums, sums, update, gainBy, readBy, agrees}
 
 -- what one more of the symbol at index k of the parity b adds to component c's syndrome
 unfoldable pub addedByOne : Parameters → Bool → Bool → ℕ → List ℕ
@@ -38,31 +40,31 @@ plusMultiple p y E S = tabulate (λ j. (getD S j 0 + y * getD E j 0) % p .q) (p 
 abbrev pub sumsWith : Parameters → Erased → ℕ → Sums → Sums
 sumsWith p (inBody b E E′) y t =
     record {
-      weighs = t .weighs + y;
+      excess = t .excess +ℤ pos y;
       asked = update b ((t .asked b + y) % p .q) (t .asked);
       arrived = t .arrived;
       first = plusMultiple p y E (t .first);
       second = plusMultiple p y E′ (t .second);
     }
 sumsWith p (asCheck b) y t =
-    record { weighs = t .weighs; asked = t .asked; arrived = update b y (t .arrived); first = t .first; second = t .second }
+    record { excess = t .excess; asked = t .asked; arrived = update b y (t .arrived); first = t .first; second = t .second }
 
--- the body weighs g, and both check symbols are as asked
-unfoldable pub consistent : ℕ → Sums → Bool
-consistent g t = eqb (t .weighs) g && agrees t true && agrees t false
+-- the body is balanced, and both check symbols are as asked
+unfoldable pub consistent : Sums → Bool
+consistent t = isZero (t .excess) && agrees t true && agrees t false
 
--- the sums are those of a codeword, whose body weighs g
-unfoldable pub codewordSums : Parameters → ℕ → Sums → Bool
-codewordSums p g t = consistent g t && nearSyndromes p (t .first) (t .second)
+-- the sums are those of a codeword
+unfoldable pub codewordSums : Parameters → Sums → Bool
+codewordSums p t = consistent t && nearSyndromes p (t .first) (t .second)
 
--- the only symbol that can stand there: what the weight lacks of g, or the check symbol asked for
+-- the only symbol that can stand there: what takes the excess away, and q where it is no level; or the check symbol asked for
 abbrev pub wanted : ℕ → Erased → Sums → ℕ
-wanted g (inBody b E E′) t = g - t .weighs
-wanted g (asCheck b) t = t .asked b
+wanted q (inBody b E E′) t = levelOf q (pos 0 -ℤ t .excess)
+wanted q (asCheck b) t = t .asked b
 
 -- it is a level, and makes a codeword
-unfoldable pub fillable : Parameters → ℕ → Erased → Sums → Bool
-fillable p g d t = ltb (wanted g d t) (p .q) && codewordSums p g (sumsWith p d (wanted g d t) t)
+unfoldable pub fillable : Parameters → Erased → Sums → Bool
+fillable p d t = ltb (wanted (p .q) d t) (p .q) && codewordSums p (sumsWith p d (wanted (p .q) d t) t)
 
 -- what erased symbols are filled with, the symbols and the syndromes then; or nothing
 pub data Filling : Type 0 where
@@ -73,26 +75,27 @@ abbrev pub filledWith : List ℕ → Sums → Filling
 filledWith ys t = fills ys (t .first) (t .second)
 
 -- one erased symbol: what is wanted there, if it makes a codeword
-unfoldable pub fillOne : Parameters → ℕ → Erased → Sums → Filling
-fillOne p g d t =
-    elim (fillable p g d t) [ true ↦ filledWith (wanted g d t ∷ []) (sumsWith p d (wanted g d t) t) | false ↦ nothing ]
+unfoldable pub fillOne : Parameters → Erased → Sums → Filling
+fillOne p d t =
+    let y : ℕ = wanted (p .q) d t in
+    elim (fillable p d t) [ true ↦ filledWith (y ∷ []) (sumsWith p d y t) | false ↦ nothing ]
 
 -- two: the first level of the first for which the second can be filled; q where there is none
-unfoldable pub firstLevel : Parameters → ℕ → Erased → Erased → Sums → ℕ
-firstLevel p g d d′ t = least (λ y. fillable p g d′ (sumsWith p d y t)) (p .q)
+unfoldable pub firstLevel : Parameters → Erased → Erased → Sums → ℕ
+firstLevel p d d′ t = least (λ y. fillable p d′ (sumsWith p d y t)) (p .q)
 
-unfoldable pub fillTwo : Parameters → ℕ → Erased → Erased → Sums → Filling
-fillTwo p g d d′ t =
-    let y : ℕ = firstLevel p g d d′ t in
+unfoldable pub fillTwo : Parameters → Erased → Erased → Sums → Filling
+fillTwo p d d′ t =
+    let y : ℕ = firstLevel p d d′ t in
     let t₁ : Sums = sumsWith p d y t in
-    let z : ℕ = wanted g d′ t₁ in
+    let z : ℕ = wanted (p .q) d′ t₁ in
     elim (ltb y (p .q)) [ true ↦ filledWith (y ∷ z ∷ []) (sumsWith p d′ z t₁) | false ↦ nothing ]
 
 -- one or two erased symbols, by their indices, where the word with 0 there has the sums t
 abbrev pub fillAt : Parameters → List ℕ → Sums → Filling
 fillAt p [] t = nothing
-fillAt p (i ∷ []) t = fillOne p (target p) (erasedAt p i) t
-fillAt p (i ∷ j ∷ []) t = fillTwo p (target p) (erasedAt p i) (erasedAt p j) t
+fillAt p (i ∷ []) t = fillOne p (erasedAt p i) t
+fillAt p (i ∷ j ∷ []) t = fillTwo p (erasedAt p i) (erasedAt p j) t
 fillAt p (i ∷ j ∷ k ∷ is) t = nothing
 
 -- v with the symbols ys at these indices

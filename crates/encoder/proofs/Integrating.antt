@@ -77,8 +77,3 @@ module _ {q m : ℕ} {x sums d : List ℕ} (s : SymbolArray q m x) (w : PrefixSu
         room = le-refl 97;
         below = λ i h. rw (at i h) (mod-lt (getD sums i 0) (s .some));
       }
-
--- as its first ones are
-pub symbols-fewer : {q m : ℕ} {d : List ℕ} → SymbolArray q 97 d → m ≤ 97 → SymbolArray q m d
-symbols-fewer s h =
-    record { size = s .size; some = s .some; levels = s .levels; room = h; below = λ i l. s .below i (omega arith) }

@@ -1,6 +1,7 @@
 -- Balancing
 pub mod Integrating
 pub mod Raising
+pub mod Stepping
 pub mod Searching
 -- The word
 pub mod Writing

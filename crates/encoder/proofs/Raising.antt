@@ -1,44 +1,19 @@
--- A number added mod q to the symbols of a part of an array, and what that does to the weight.
+-- A number added mod q to the symbols of a part of an array.
 -- Assumes nothing.
 use mathlib.Core.Path.{_≡_, refl, sym, ap, _∙_}
 use mathlib.Core.Logic.{⊎-elim}
 use mathlib.Core.Bool.{Bool, true, false}
 use mathlib.Core.List.{List, [], _∷_}
-use Prim.Native.Nat.{ℕ, zero, suc, _+_, _*_, _%_, _≤_, _<_, zero-le}
+use Prim.Native.Nat.{ℕ, zero, suc, _+_, _%_, _≤_, _<_}
 use native.Mathlib.Nat.{not-suc-le-zero, le-of-suc-le-suc}
 use native.Mathlib.Numerals.{add-one}
 use native.Mathlib.Omega.{arith}
 use lib.ListN.{length, getD, take}
 use lib.Seq.{getD-take, ext-getD, length-take-le}
 use borrow.Author.Tests.{lt-ltb, le-ltb}
-use Rattle.modular_theory.specs.Sum.{weight}
 use Rattle.modular_theory.proofs.Search.{le-or-lt}
 use Rattle.code_theory.specs.Balance.{shifted, shiftedFrom}
 use Rattle.encoder.specs.Symbols.{SymbolArray, Raised, riseAt}
-
--- The weight, a symbol at a time.
-
-weight-more : (q by : ℕ) (d : List ℕ) (i : ℕ) → i < length d
-    → weight (shifted q by (take (suc i) d)) ≡ weight (shifted q by (take i d)) + (getD d i 0 + by) % q
-weight-more q by [] i l = absurd (not-suc-le-zero l)
-weight-more q by (a ∷ d) zero l = omega arith
-weight-more q by (a ∷ d) (suc i) l = omega (arith, weight-more q by d i (le-of-suc-le-suc l))
-
-pub record Weighed (q by m : ℕ) (d : List ℕ) (sum i : ℕ) : Type 0 where
-  pub within : i ≤ m
-  pub is : sum ≡ weight (shifted q by (take i d))
-  pub small : sum ≤ 15 * i
-
-pub weighed-none : (q by m : ℕ) (d : List ℕ) → Weighed q by m d 0 0
-weighed-none q by m d = record { within = zero-le; is = refl; small = zero-le }
-
-pub weighed-more : {q by m : ℕ} {d : List ℕ} {sum i : ℕ} → Weighed q by m d sum i → i < m → m ≤ length d → q ≤ 15
-    → {y : ℕ} → y ≡ (getD d i 0 + by) % q → y < q → Weighed q by m d (sum + y) (i + 1)
-weighed-more {q} {by} {m} {d} {sum} {i} w l room levels {y} e b =
-    let more = weight-more q by d i (omega arith) in
-    record { within = omega arith; is = rw add-one (omega (arith, w .is, more)); small = omega (arith, w .small) }
-
--- The symbols.
 
 rise-low : (from s i : ℕ) → i < from → riseAt from s i ≡ s
 rise-low from s i h = ap (λ (b : Bool). elim b as (λ _. ℕ) [ true ↦ s | false ↦ suc s ]) (lt-ltb i from h)

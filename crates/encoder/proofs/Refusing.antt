@@ -8,7 +8,7 @@ use lib.ListN.{length}
 use Rattle.code_theory.specs.Codeword.{encoded}
 use Rattle.code_theory.proofs.Refusal.{kept, wrote}
 use Rattle.code_theory.specs.Profiles.{profile}
-use Rattle.code_theory.specs.Operations.{Outcome, refusedBy, outcome, encodeRefusal, encodeOutput}
+use Rattle.code_theory.specs.Operations.{refusedBy, outcome, encodeRefusal, encodeOutput}
 
 -- a call that a number refuses
 some-outcome : (n : ℕ) → n ≢ 0 → refusedBy n ≡ outcome n

@@ -18,7 +18,7 @@ use Rattle.symbols.proofs.CheckSymbols.{checks-are}
 -- w stands in the first symbols, and after it those that its weights ask for
 pub checks-put : (t : Row) → Valid t → (w symbols : List ℕ) → length w ≡ 97 → length symbols ≡ 99
     → take (t .balanced) symbols ≡ take (t .balanced) w
-    → {c : Checks} → c ≡ checksOf (t .q) (t .delta) (weightsOf (take (min (t .balanced) 97) w))
+    → {c : Checks} → c ≡ checksOf (t .q) (t .delta) (weightsOf (t .target) (take (min (t .balanced) 97) w))
     → take (t .balanced + 2) (set (set symbols (t .balanced) (c .alpha)) (t .balanced + 1) (c .beta))
     ≡ withChecks (t .q) (take (t .balanced) w)
 unfolding withChecks
@@ -26,7 +26,7 @@ checks-put t valid w symbols long size copied {c} asked =
     let m : ℕ = t .balanced in
     let room : m ≤ 97 = omega (arith, valid .balanced, valid .length) in
     let is : c ≡ record { alpha = alpha (t .q) (take m w); beta = beta (t .q) (take m w) } =
-    asked ∙ checks-are w (q-positive (parameters t) (valid .sized)) room (length-take-le m w (omega arith)) (valid .delta) in
+    asked ∙ checks-are (t .target) w (q-positive (parameters t) (valid .sized)) room (length-take-le m w (omega arith)) (valid .delta) in
     let e : m + 2 ≡ suc (m + 1) = omega arith in
     let h : m < length symbols = omega arith in
     let l : m + 1 < length (set symbols m (c .alpha)) = omega (arith, length-set symbols m (c .alpha)) in

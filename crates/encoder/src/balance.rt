@@ -5,11 +5,11 @@ use modular::add;
 use modular::remainders;
 use modular::wide16;
 use profiles::Row;
+use symbols::weigh;
 ghost use mathlib.Core.Path.{_≡_};
 ghost use Prim.Native.Nat.{_≤_, _<_};
 ghost use lib.ListN.{take};
-ghost use Rattle.modular_theory.specs.Sum.{weight};
-ghost use Rattle.code_theory.specs.Balance.{integrate, shifted, balanced};
+ghost use Rattle.code_theory.specs.Balance.{integrate, balanced};
 ghost use Rattle.profiles.specs.Row.{parameters, Valid};
 ghost use Rattle.encoder.specs.Symbols.{SymbolArray, PrefixSums, Integral, Chosen, Raised, riseAt};
 
@@ -38,52 +38,6 @@ fn integrated(q: u8, m: usize, x: &[u8; 97]) -> [u8; 97]
     remainders(q, &sums)
 }
 
-// The weight of the first m symbols with `by` added mod q to each.
-fn weight_raised(q: u8, m: usize, d: &[u8; 97], by: u8) -> usize
-    requires { ⌜ SymbolArray q m (now d) × (by ≤ q) ⌝ }
-    ensures { λ r. ⌜ r ≡ weight (shifted q by (take m (now (d .entry)))) ⌝ }
-{
-    let mut sum: u16 = 0;
-    let mut i = 0;
-    while i < m {
-        sum += wide16(add(q, d[i], by));
-        i += 1;
-    }
-    sum as usize
-}
-
-// A choice: s is added to the first symbol, and 1 to the one at position v.
-pub(crate) struct Choice {
-    pub(crate) s: u8,
-    pub(crate) v: usize,
-}
-
-// 01: the choice used, the first whose w has weight middle, s before v. One exists, so the search ends at the label. From v to v + 1 the
-// symbol at v loses 1 mod q, and the weight with it: it gains q first where that symbol is 0. No word is weighed anew.
-fn earliest(row: Row, d: &[u8; 97]) -> Choice
-    requires { ⌜ Valid row × SymbolArray (row .q) (row .balanced) (now d) × Integral (parameters row) (take (row .balanced) (now d)) ⌝ }
-    ensures { λ c. ⌜ Chosen (parameters row) (take (row .balanced) (now (d .entry))) (c .s) (c .v) ⌝ }
-{
-    let m = row.balanced;
-    let mut s: u8 = 0;
-    let mut v: usize = 1;
-    'search: loop {
-        let mut gain = [0u8; 16];
-        gain[(row.q - 1 - s) as usize] = row.q;
-        let mut weight = weight_raised(row.q, m, d, s + 1);
-        v = 1;
-        while v <= m {
-            if weight == row.target {
-                break 'search;
-            }
-            weight = weight + gain[d[v - 1] as usize] as usize - 1;
-            v += 1;
-        }
-        s += 1;
-    }
-    Choice { s, v }
-}
-
 // s, and 1 more from an index on.
 fn rise(i: u8, from: u8, s: u8) -> u8
     requires { ⌜ s < 255 ⌝ }
@@ -106,6 +60,40 @@ fn raised(q: u8, d: &[u8; 97], s: u8, from: u8) -> [u8; 97]
         i += 1;
     }
     w
+}
+
+// A choice: s is added to the first symbol, and 1 to the one at position v.
+pub(crate) struct Choice {
+    pub(crate) s: u8,
+    pub(crate) v: usize,
+}
+
+// 01: the choice used, the first whose w has weight middle, s before v. One exists, so the search ends at the label. For each s the word
+// of v = 1 is weighed. From v to v + 1 the symbol at v loses 1 mod q, and the excess with it: it gains q first where that symbol is 0.
+fn earliest(row: Row, d: &[u8; 97]) -> Choice
+    requires { ⌜ Valid row × SymbolArray (row .q) 97 (now d) × Integral (parameters row) (take (row .balanced) (now d)) ⌝ }
+    ensures { λ c. ⌜ Chosen (parameters row) (take (row .balanced) (now (d .entry))) (c .s) (c .v) ⌝ }
+{
+    let m = row.balanced;
+    let mut s: u8 = 0;
+    let mut v: usize = 1;
+    'search: loop {
+        let mut gain = [0u8; 16];
+        gain[(row.q - 1 - s) as usize] = row.q;
+        let w = raised(row.q, d, s, 0);
+        let weight = weigh(&w, m, row.target);
+        let mut excess = weight.excess;
+        v = 1;
+        while v <= m {
+            if excess == 0 {
+                break 'search;
+            }
+            excess = excess + (gain[d[v - 1] as usize] as i32) - 1;
+            v += 1;
+        }
+        s += 1;
+    }
+    Choice { s, v }
 }
 
 // 01: w of the choice used.

@@ -21,7 +21,7 @@ pub(crate) fn with_checks(row: Row, w: &[u8; 97]) -> Word
         (take (u .len) (u .symbols) ≡ withChecks (row .q) (take (row .balanced) (now (w .entry)))) × (u .len ≡ row .codeword) ⌝ }
 {
     let m = row.balanced;
-    let checks = checks_of(row.q, row.delta, weigh(w, m));
+    let checks = checks_of(row.q, row.delta, weigh(w, m, row.target));
     let mut symbols = [0u8; 99];
     let mut i = 0;
     while i < 97 {

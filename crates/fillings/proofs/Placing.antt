@@ -5,6 +5,7 @@ use mathlib.Core.Bool.{Bool, true, false}
 use Prim.Native.Nat.{ℕ, _+_, _≤_}
 use Rattle.decoding_theory.specs.Decoded.{Sums, update}
 use Rattle.decoding_theory.specs.Filled.{inBody, plusMultiple, sumsWith}
+use Rattle.modular.specs.Remainder.{residue}
 use Rattle.modular.proofs.Dividing.{residue-is}
 use Rattle.symbols.specs.Syndromes.{fourRows, rows}
 use Rattle.symbols.specs.declared.checks.Checks.{Checks}
@@ -22,7 +23,7 @@ use Rattle.fillings.specs.Steps.{numbersOf, withCheck, heavier, numbersW
 abbrev pub sumsBy : Numbers → Syndromes → Sums
 sumsBy m s =
     record {
-      weighs = m .weight;
+      excess = m .excess;
       asked = checkOf (m .asked);
       arrived = checkOf (m .arrived);
       first = rows (s .first);
@@ -50,7 +51,13 @@ module _ (q n : ℕ) (some : 1 ≤ q) (y : ℕ) where
       → sumsWith (fourRows q n) (inBody b (rows (e .first)) (rows (e .second))) y (sumsBy m s)
       ≡ sumsBy (heavier q b y m) (syndromesPlus q y e s)
   body-is b e m s =
-      rw (plus-is (e .first) (s .first), plus-is (e .second) (s .second), ← residue-is (checkOf (m .asked) b + y) some, check-set)
+      let asked : ℕ = residue q (checkOf (m .asked) b + y) in
+      rw (
+        plus-is (e .first) (s .first),
+        plus-is (e .second) (s .second),
+        ← residue-is (checkOf (m .asked) b + y) some,
+        check-set b asked (m .asked),
+      )
 
   pub with-is : (e : Erased) (m : Numbers) (s : Syndromes)
       → sumsWith (fourRows q n) (erasedOf e) y (sumsBy m s) ≡ sumsBy (numbersWith q e y m) (syndromesWith q e y s)

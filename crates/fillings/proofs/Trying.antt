@@ -26,23 +26,23 @@ not-one (One z s) h e = miss (1 ∷ 2 ∷ []) 0 tt h
 not-one (Two z x s) h e = let no : _≡_ {A = ℕ} 0 1 = cc in omega arith
 not-one Nothing h e = let no : _≡_ {A = ℕ} 0 1 = cc in omega arith
 
-module _ (p : Parameters) (g : ℕ) (d : Erased) (t : Sums) where
+module _ (p : Parameters) (d : Erased) (t : Sums) where
   -- so the symbol that d wants does not fill it
   pub unfilled : (r : declared.Filling) → OneOf (1 ∷ 2 ∷ []) (tagOf the-type r)
-      → fillingOf r ≡ fillOne p g d t → fillable p g d t ≡ false
+      → fillingOf r ≡ fillOne p d t → fillable p d t ≡ false
   unfolding fillOne
-  unfilled r h e = at (fillable p g d t) refl
+  unfilled r h e = at (fillable p d t) refl
     where
-      at : (b : Bool) → fillable p g d t ≡ b → fillable p g d t ≡ false
+      at : (b : Bool) → fillable p d t ≡ b → fillable p d t ≡ false
       at true k = absurd (not-one r h (rw (k, fillOne) at e))
       at false k = k
 
   -- and where something fills it, that symbol does
-  fillable-of : {ys S S′ : List ℕ} → fills ys S S′ ≡ fillOne p g d t → fillable p g d t ≡ true
+  fillable-of : {ys S S′ : List ℕ} → fills ys S S′ ≡ fillOne p d t → fillable p d t ≡ true
   unfolding fillOne
-  fillable-of e = at (fillable p g d t) refl
+  fillable-of e = at (fillable p d t) refl
     where
-      at : (b : Bool) → fillable p g d t ≡ b → fillable p g d t ≡ true
+      at : (b : Bool) → fillable p d t ≡ b → fillable p d t ≡ true
       at true k = k
       at false k =
           let is = rw (k, fillOne) at e in
@@ -54,22 +54,22 @@ abbrev preceded : ℕ → Filling → Filling
 preceded y (fills ys S S′) = fills (y ∷ ys) S S′
 preceded y nothing = nothing
 
-module _ (p : Parameters) (g : ℕ) (d d′ : Erased) (t : Sums) where
+module _ (p : Parameters) (d d′ : Erased) (t : Sums) where
   -- the second can be filled once y stands at the first
   abbrev test : ℕ → Bool
-  test y = fillable p g d′ (sumsWith p d y t)
+  test y = fillable p d′ (sumsWith p d y t)
 
-  pub two-none : ((j : ℕ) → j < p .q → test j ≡ false) → nothing ≡ fillTwo p g d d′ t
+  pub two-none : ((j : ℕ) → j < p .q → test j ≡ false) → nothing ≡ fillTwo p d d′ t
   unfolding fillTwo firstLevel
   two-none none =
       let past = le-of-not-lt (λ l. false-test (none _ l) (least-hit test (p .q) l)) in
-      rw (le-ltb (firstLevel p g d d′ t) (p .q) past, fillTwo)
+      rw (le-ltb (firstLevel p d d′ t) (p .q) past, fillTwo)
 
   pub two-found : (y : ℕ) → y < p .q → ((j : ℕ) → j < y → test j ≡ false) → {z : ℕ} {S S′ : List ℕ}
-      → fills (z ∷ []) S S′ ≡ fillOne p g d′ (sumsWith p d y t) → fills (y ∷ z ∷ []) S S′ ≡ fillTwo p g d d′ t
+      → fills (z ∷ []) S S′ ≡ fillOne p d′ (sumsWith p d y t) → fills (y ∷ z ∷ []) S S′ ≡ fillTwo p d d′ t
   unfolding fillTwo firstLevel fillOne
   two-found y l none e =
-      let hit : test y ≡ true = fillable-of p g d′ (sumsWith p d y t) e in
-      let found : firstLevel p g d d′ t ≡ y = least-is test (p .q) y l (holds _ hit) (λ j b. false-test (none j b)) in
-      let below : ltb (firstLevel p g d d′ t) (p .q) ≡ true = ap (λ (x : ℕ). ltb x (p .q)) found ∙ lt-ltb y (p .q) l in
+      let hit : test y ≡ true = fillable-of p d′ (sumsWith p d y t) e in
+      let found : firstLevel p d d′ t ≡ y = least-is test (p .q) y l (holds _ hit) (λ j b. false-test (none j b)) in
+      let below : ltb (firstLevel p d d′ t) (p .q) ≡ true = ap (λ (x : ℕ). ltb x (p .q)) found ∙ lt-ltb y (p .q) l in
       rw (below, fillTwo, found) (ap (preceded y) (rw (hit, fillOne) at e))

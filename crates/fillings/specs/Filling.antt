@@ -21,7 +21,7 @@ erasedOf Beta = asCheck false
 abbrev pub fourRowSums : declared-sums.Sums → Sums
 fourRowSums t =
     record {
-      weighs = t .weight;
+      excess = t .excess;
       asked = checkOf (t .asked);
       arrived = checkOf (t .arrived);
       first = rows (t .syndromes .first);

@@ -4,9 +4,10 @@ use mathlib.Core.Path.{_≡_}
 use mathlib.Core.Bool.{Bool, true, false, _&&_}
 use Prim.Native.Nat.{ℕ, _+_, _*_, _≤_}
 use lib.Dec.{eqb}
+use lib.IntN.{pos, natAbs, _+ℤ_, _-ℤ_}
+use Rattle.modular_theory.specs.Level.{levelOf, isZero}
 use Rattle.decoding_theory.specs.Syndromes.{nearSyndromes}
 use Rattle.modular.specs.Remainder.{residue}
-use Rattle.modular.specs.Level.{level}
 use Rattle.symbols.specs.Syndromes.{fourRows, rows}
 use Rattle.symbols.specs.declared.checks.Checks.{Checks}
 use Rattle.symbols.specs.declared.sums.Syndrome.{Syndrome}
@@ -21,7 +22,7 @@ use Rattle.symbols.specs.Weight.{checkOf}
 
 -- the numbers of the sums
 abbrev pub numbersOf : Sums → Numbers
-numbersOf t = record { weight = t .weight; asked = t .asked; arrived = t .arrived }
+numbersOf t = record { excess = t .excess; asked = t .asked; arrived = t .arrived }
 
 -- the check symbol of the parity b set to y
 abbrev pub withCheck : Bool → ℕ → Checks → Checks
@@ -31,19 +32,19 @@ withCheck false y c = record { alpha = c .alpha; beta = y }
 -- a symbol y more of the parity b in the body
 abbrev pub heavier : ℕ → Bool → ℕ → Numbers → Numbers
 heavier q b y m =
-    record { weight = m .weight + y; asked = withCheck b (residue q (checkOf (m .asked) b + y)) (m .asked); arrived = m .arrived }
+    record { excess = m .excess +ℤ pos y; asked = withCheck b (residue q (checkOf (m .asked) b + y)) (m .asked); arrived = m .arrived }
 
 -- the numbers once y stands where the symbol is erased
 abbrev pub numbersWith : ℕ → Erased → ℕ → Numbers → Numbers
 numbersWith q (Odd s) y m = heavier q true y m
 numbersWith q (Even s) y m = heavier q false y m
-numbersWith q Alpha y m = record { weight = m .weight; asked = m .asked; arrived = withCheck true y (m .arrived) }
-numbersWith q Beta y m = record { weight = m .weight; asked = m .asked; arrived = withCheck false y (m .arrived) }
+numbersWith q Alpha y m = record { excess = m .excess; asked = m .asked; arrived = withCheck true y (m .arrived) }
+numbersWith q Beta y m = record { excess = m .excess; asked = m .asked; arrived = withCheck false y (m .arrived) }
 
 -- r are those numbers, a byte heavier at most
 pub record NumbersWith (q : ℕ) (e : Erased) (y : ℕ) (m r : Numbers) : Type 0 where
   pub are : r ≡ numbersWith q e y m
-  pub light : r .weight ≤ m .weight + 255
+  pub light : natAbs (r .excess) ≤ natAbs (m .excess) + 255
 
 -- y times e added to a syndrome s, row by row
 abbrev pub syndromePlus : ℕ → ℕ → Syndrome → Syndrome → Syndrome
@@ -65,16 +66,16 @@ syndromesWith q (Even e) y s = syndromesPlus q y e s
 syndromesWith q Alpha y s = s
 syndromesWith q Beta y s = s
 
--- what can stand there, where the body is to weigh g; q, or another number that is no level, where nothing can
-abbrev pub wantedBy : ℕ → ℕ → Erased → Numbers → ℕ
-wantedBy q g (Odd s) m = level q g (m .weight)
-wantedBy q g (Even s) m = level q g (m .weight)
-wantedBy q g Alpha m = m .asked .alpha
-wantedBy q g Beta m = m .asked .beta
+-- what can stand there; q where no level does
+abbrev pub wantedBy : ℕ → Erased → Numbers → ℕ
+wantedBy q (Odd s) m = levelOf q (pos 0 -ℤ m .excess)
+wantedBy q (Even s) m = levelOf q (pos 0 -ℤ m .excess)
+wantedBy q Alpha m = m .asked .alpha
+wantedBy q Beta m = m .asked .beta
 
--- the body weighs g, and both check symbols are as asked
-unfoldable pub consistentNumbers : ℕ → Numbers → Bool
-consistentNumbers g m = eqb (m .weight) g && eqb (m .asked .alpha) (m .arrived .alpha) && eqb (m .asked .beta) (m .arrived .beta)
+-- the body is balanced, and both check symbols are as asked
+unfoldable pub consistentNumbers : Numbers → Bool
+consistentNumbers m = isZero (m .excess) && eqb (m .asked .alpha) (m .arrived .alpha) && eqb (m .asked .beta) (m .arrived .beta)
 
 -- the symbol y, if the syndromes s are near
 unfoldable pub oneIfNear : ℕ → ℕ → ℕ → Syndromes → Filling

@@ -33,34 +33,26 @@ fn one_if_near(q: u8, n: usize, y: u8, s: Syndromes) -> Filling
 }
 
 // One erased symbol: what is wanted there, if it makes a codeword.
-pub fn fill_one(q: u8, n: usize, target: usize, erased: Erased, sums: Sums) -> Filling
-    ensures { λ r. ⌜ fillingOf r ≡ fillOne (fourRows q n) target (erasedOf erased) (fourRowSums sums) ⌝ }
+pub fn fill_one(q: u8, n: usize, erased: Erased, sums: Sums) -> Filling
+    ensures { λ r. ⌜ fillingOf r ≡ fillOne (fourRows q n) (erasedOf erased) (fourRowSums sums) ⌝ }
 {
     let numbers = numbers_of(sums);
-    let y = wanted(q, target, erased, numbers);
-    if !suits(q, target, erased, y, numbers) {
+    let y = wanted(q, erased, numbers);
+    if !suits(q, erased, y, numbers) {
         return Filling::Nothing;
     }
     one_if_near(q, n, y, syndromes_with(q, erased, y, sums.syndromes))
 }
 
 // The second of two, once y stands at the first.
-fn fill_second(
-    q: u8,
-    n: usize,
-    target: usize,
-    first: Erased,
-    second: Erased,
-    y: u8,
-    sums: Sums,
-) -> Filling
+fn fill_second(q: u8, n: usize, first: Erased, second: Erased, y: u8, sums: Sums) -> Filling
     requires { ⌜ y < q ⌝ }
     ensures { λ r. ⌜
-        fillingOf r ≡ fillOne (fourRows q n) target (erasedOf second) (sumsWith (fourRows q n) (erasedOf first) y (fourRowSums sums)) ⌝ }
+        fillingOf r ≡ fillOne (fourRows q n) (erasedOf second) (sumsWith (fourRows q n) (erasedOf first) y (fourRowSums sums)) ⌝ }
 {
     let numbers = numbers_with(q, first, y, numbers_of(sums));
-    let z = wanted(q, target, second, numbers);
-    if !suits(q, target, second, z, numbers) {
+    let z = wanted(q, second, numbers);
+    if !suits(q, second, z, numbers) {
         return Filling::Nothing;
     }
     let after = syndromes_with(q, first, y, sums.syndromes);
@@ -68,19 +60,12 @@ fn fill_second(
 }
 
 // Two: the first level of the first for which the second can be filled.
-pub fn fill_two(
-    q: u8,
-    n: usize,
-    target: usize,
-    first: Erased,
-    second: Erased,
-    sums: Sums,
-) -> Filling
-    ensures { λ r. ⌜ fillingOf r ≡ fillTwo (fourRows q n) target (erasedOf first) (erasedOf second) (fourRowSums sums) ⌝ }
+pub fn fill_two(q: u8, n: usize, first: Erased, second: Erased, sums: Sums) -> Filling
+    ensures { λ r. ⌜ fillingOf r ≡ fillTwo (fourRows q n) (erasedOf first) (erasedOf second) (fourRowSums sums) ⌝ }
 {
     let mut y = 0;
     while y < q {
-        if let Filling::One(z, s) = fill_second(q, n, target, first, second, y, sums) {
+        if let Filling::One(z, s) = fill_second(q, n, first, second, y, sums) {
             return Filling::Two(y, z, s);
         }
         y += 1;

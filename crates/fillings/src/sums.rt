@@ -1,5 +1,5 @@
 // What is summed over a word, and what a symbol put where 0 stood does to it.
-use modular::plain::offset;
+use modular::plain::less;
 use modular::remainder;
 use modular::wide;
 use symbols::Checks;
@@ -9,14 +9,15 @@ ghost use mathlib.Core.Path.{_≡_};
 ghost use mathlib.Core.Bool.{_&&_};
 ghost use Prim.Native.Nat.{_+_, _*_, _≤_};
 ghost use lib.Dec.{ltb};
+ghost use lib.IntN.{pos, natAbs, _+ℤ_};
 ghost use Rattle.modular.specs.Remainder.{residue};
 ghost use Rattle.fillings.specs.Steps.{numbersOf, NumbersWith, numbersWith, wantedBy, consistentNumbers};
 ghost use Rattle.fillings.specs.Steps.{syndromePlus, syndromesPlus, syndromesWith};
 
-// What is summed over a word: the weight of its body, its check symbols as the body asks for them and as received, and the syndromes of its
-// components.
+// What is summed over a word: what its body exceeds the balancing value by, its check symbols as the body asks for them and as received,
+// and the syndromes of its components.
 pub struct Sums {
-    pub weight: u16,
+    pub excess: i16,
     pub asked: Checks,
     pub arrived: Checks,
     pub syndromes: Syndromes,
@@ -30,21 +31,23 @@ pub enum Erased {
     Beta,
 }
 
-// The sums that are looked at before the syndromes. The weight is wide enough for two symbols more.
+// The sums that are looked at before the syndromes. The excess is wide enough for two symbols more.
 pub(crate) struct Numbers {
-    pub(crate) weight: usize,
+    pub(crate) excess: i32,
     pub(crate) asked: Checks,
     pub(crate) arrived: Checks,
 }
 
 // Those of the sums.
 pub(crate) fn numbers_of(sums: Sums) -> Numbers
-    ensures { λ r. ⌜ (r ≡ numbersOf sums) × (r .weight ≤ 65535) ⌝ }
+    ensures { λ r. ⌜ (r ≡ numbersOf sums) × (natAbs (r .excess) ≤ 32768) ⌝ }
 {
+    let narrow = sums.excess;
+    let excess = narrow as i32;
     let asked = sums.asked;
     let arrived = sums.arrived;
     Numbers {
-        weight: sums.weight as usize,
+        excess,
         asked,
         arrived,
     }
@@ -57,20 +60,31 @@ fn plus_multiple(q: u8, y: u8, e: u8, s: u8) -> u8
     remainder(q, wide(s) + wide(y) * wide(e))
 }
 
-// The numbers once y stands where the symbol is erased. Before it they weigh at most 16 bits and one symbol.
+// The excess with a symbol y more.
+fn excess_with(excess: i32, y: u8) -> i32
+    requires { ⌜ natAbs excess ≤ 33023 ⌝ }
+    ensures { λ r. ⌜ r ≡ excess +ℤ pos y ⌝ }
+{
+    excess + (y as i32)
+}
+
+// The numbers once y stands where the symbol is erased. Before it the excess is at most 16 bits and one symbol.
 pub(crate) fn numbers_with(q: u8, erased: Erased, y: u8, numbers: Numbers) -> Numbers
-    requires { ⌜ numbers .weight ≤ 65790 ⌝ }
+    requires { ⌜ natAbs (numbers .excess) ≤ 33023 ⌝ }
     ensures { λ r. ⌜ NumbersWith q erased y numbers r ⌝ }
 {
+    let excess = numbers.excess;
     let mut r = numbers;
     match erased {
         Erased::Odd(_) => {
-            r.weight = numbers.weight + wide(y);
+            let more = excess_with(excess, y);
+            r.excess = more;
             let alpha = plus_multiple(q, y, 1, numbers.asked.alpha);
             r.asked.alpha = alpha;
         }
         Erased::Even(_) => {
-            r.weight = numbers.weight + wide(y);
+            let more = excess_with(excess, y);
+            r.excess = more;
             let beta = plus_multiple(q, y, 1, numbers.asked.beta);
             r.asked.beta = beta;
         }
@@ -84,23 +98,25 @@ pub(crate) fn numbers_with(q: u8, erased: Erased, y: u8, numbers: Numbers) -> Nu
     r
 }
 
-// The only symbol that can stand there: what the weight lacks of the target, and q where that is no level; or the check symbol asked for.
-pub(crate) fn wanted(q: u8, target: usize, erased: Erased, numbers: Numbers) -> u8
-    ensures { λ r. ⌜ r ≡ wantedBy q target erased numbers ⌝ }
+// The only symbol that can stand there: what takes the excess away, and q where that is no level; or the check symbol asked for.
+pub(crate) fn wanted(q: u8, erased: Erased, numbers: Numbers) -> u8
+    ensures { λ r. ⌜ r ≡ wantedBy q erased numbers ⌝ }
 {
+    let excess = numbers.excess;
     match erased {
-        Erased::Odd(_) => offset(q, 0, target, numbers.weight),
-        Erased::Even(_) => offset(q, 0, target, numbers.weight),
+        Erased::Odd(_) => less(q, 0, excess),
+        Erased::Even(_) => less(q, 0, excess),
         Erased::Alpha => numbers.asked.alpha,
         Erased::Beta => numbers.asked.beta,
     }
 }
 
-// Whether the body weighs the target, and both check symbols are as asked.
-fn consistent(target: usize, numbers: Numbers) -> bool
-    ensures { λ b. ⌜ b ≡ consistentNumbers target numbers ⌝ }
+// Whether the body is balanced, and both check symbols are as asked.
+fn consistent(numbers: Numbers) -> bool
+    ensures { λ b. ⌜ b ≡ consistentNumbers numbers ⌝ }
 {
-    if numbers.weight != target {
+    let excess = numbers.excess;
+    if excess != 0 {
         return false;
     }
     if numbers.asked.alpha != numbers.arrived.alpha {
@@ -110,14 +126,14 @@ fn consistent(target: usize, numbers: Numbers) -> bool
 }
 
 // Whether y is a level, and the numbers are consistent once it stands there.
-pub(crate) fn suits(q: u8, target: usize, erased: Erased, y: u8, numbers: Numbers) -> bool
-    requires { ⌜ numbers .weight ≤ 65790 ⌝ }
-    ensures { λ b. ⌜ b ≡ (ltb y q && consistentNumbers target (numbersWith q erased y numbers)) ⌝ }
+pub(crate) fn suits(q: u8, erased: Erased, y: u8, numbers: Numbers) -> bool
+    requires { ⌜ natAbs (numbers .excess) ≤ 33023 ⌝ }
+    ensures { λ b. ⌜ b ≡ (ltb y q && consistentNumbers (numbersWith q erased y numbers)) ⌝ }
 {
     if q <= y {
         return false;
     }
-    consistent(target, numbers_with(q, erased, y, numbers))
+    consistent(numbers_with(q, erased, y, numbers))
 }
 
 // A syndrome s with y times e added, row by row.

@@ -11,7 +11,8 @@ unfolding packed
 header-bytes =
     record {
       clean-word = refl;
-      corrected-word = refl;
+      corrected-high = refl;
+      corrected-low = refl;
       one-filled = refl;
       two-filled = refl;
       unreadable-word = refl;

@@ -1,3 +1,4 @@
 pub mod Filled
+pub mod SignedByte
 pub mod Packing
 pub mod Claims

@@ -1,4 +1,4 @@
--- Decode's answer in eight bytes: each part of it is a byte, so taking bytes out gives the parts back.
+-- Decode's answer in eight bytes: each part of it fits its byte, so taking bytes out gives the parts back.
 -- Assumes nothing.
 use mathlib.Core.Path.{_≡_, refl, sym, ap, _∙_}
 use mathlib.Core.List.{List, [], _∷_}
@@ -9,11 +9,13 @@ use lib.ListN.{length, getD}
 use Rattle.code_theory.specs.Erasures.{erasures}
 use Rattle.code_theory.specs.Reading.{Change, change, Finding, clean, corrected, filled, changesOf, read, unreadable}
 use Rattle.code_theory.specs.Operations.{Answer, refused, answered, Report, refusal, failure, success, report, decodeAnswer}
-use Rattle.lines_theory.specs.Sizes.{ChangesWithin}
+use Rattle.lines_theory.specs.Sizes.{ChangesWithin, FindingWithin}
 use Rattle.lines_theory.proofs.Bounds.{SmallAnswer, decode-small}
-use Rattle.fogzurt.specs.Packed.{Parts, kindNumber, refusedParts, foundParts, partsOf, joined, byte, bytes, packed, unpacked, Within}
+use Rattle.fogzurt.specs.Packed.{Parts, kindNumber, refusedParts, foundParts, partsOf, joined, byte, twos, bytes, packed}
+use Rattle.fogzurt.specs.Packed.{unpacked, Within}
 use Rattle.fogzurt.specs.Claims.{Tells, Unpacks}
 use Rattle.fogzurt.proofs.Filled.{FillsAll, decode-fills}
+use Rattle.fogzurt.proofs.SignedByte.{twos-byte, signed-twos}
 
 -- a position has two digits, a symbol one
 change-within : (cs : List Change) (k : ℕ) → ChangesWithin 99 9 cs
@@ -27,8 +29,8 @@ kind-within clean = lit≤ tt
 kind-within (corrected c) = lit≤ tt
 kind-within (filled cs) = lit≤ tt
 
-found-within : (f : Finding) → ChangesWithin 99 9 (changesOf f) → Within (foundParts f)
-found-within f s =
+found-within : (f : Finding) → FindingWithin 99 9 f → Within (foundParts f)
+found-within f (s, e) =
     let c = change-within (changesOf f) 0 s in
     let d = change-within (changesOf f) 1 s in
     record {
@@ -38,11 +40,20 @@ found-within f s =
       symbol = c .1;
       secondPosition = d .0;
       secondSymbol = d .1;
+      error = omega (arith, e);
     }
 
 refused-within : (n : ℕ) → n ≤ 255 → Within (refusedParts n)
 refused-within n h =
-    record { number = h; kind = lit≤ tt; position = lit≤ tt; symbol = lit≤ tt; secondPosition = lit≤ tt; secondSymbol = lit≤ tt }
+    record {
+      number = h;
+      kind = lit≤ tt;
+      position = lit≤ tt;
+      symbol = lit≤ tt;
+      secondPosition = lit≤ tt;
+      secondSymbol = lit≤ tt;
+      error = lit≤ tt;
+    }
 
 within : (a : Answer) → SmallAnswer a → Within (partsOf (report a))
 within (refused k) s = refused-within k (omega (arith, s))
@@ -74,11 +85,11 @@ byte-joined (suc i) (b ∷ bs) h = ap (byte i) (others b (joined bs) (h .0)) ∙
 
 parts-back : (p : Parts) → Within p → unpacked (joined (bytes p)) ≡ p
 parts-back p w =
-    let zeros : AllBytes (0 ∷ 0 ∷ []) = (lit≤ tt, (lit≤ tt, tt)) in
-    let second : AllBytes (p .secondPosition ∷ p .secondSymbol ∷ 0 ∷ 0 ∷ []) = (w .secondPosition, (w .secondSymbol, zeros)) in
+    let last : AllBytes (twos (p .error) ∷ 0 ∷ []) = (twos-byte (p .error) (w .error), (lit≤ tt, tt)) in
+    let second : AllBytes (p .secondPosition ∷ p .secondSymbol ∷ twos (p .error) ∷ 0 ∷ []) = (w .secondPosition, (w .secondSymbol, last)) in
     let h : AllBytes (bytes p) = (w .number, (w .kind, (w .position, (w .symbol, second)))) in
     let g : (i : ℕ) → byte i (joined (bytes p)) ≡ getD (bytes p) i 0 = λ i. byte-joined i (bytes p) h in
-    rw (g 0, g 1, g 2, g 3, g 4, g 5) refl
+    rw (g 0, g 1, g 2, g 3, g 4, g 5, g 6, signed-twos (p .error) (w .error)) refl
 
 tells : (e : ℕ) (a : Report) (c : Parts) → FillsAll e a → c ≡ partsOf a → Tells e a c
 tells e (refusal n) c f t = t

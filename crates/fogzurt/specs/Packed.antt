@@ -1,12 +1,15 @@
 -- Decode's answer as one number of eight bytes, the lowest first: the number of 01 or 02, the kind (1 clean, 2 corrected, 3 filled), the
--- position, the symbol sent there, those of the second filled position, and two bytes that are 0. And how C takes it apart.
+-- position, the symbol sent there, those of the second filled position, the error (02, T-02: the fault), and a byte that is 0. And how C
+-- takes it apart.
 -- Assumes nothing.
 use mathlib.Core.Path.{_≡_}
 use mathlib.Core.Bool.{true, false}
 use mathlib.Core.List.{List, [], _∷_}
-use Prim.Native.Nat.{ℕ, zero, suc, _+_, _*_, _/_, _%_, _≤_}
+use Prim.Native.Nat.{ℕ, zero, suc, _+_, _-_, _*_, _/_, _%_, _≤_}
+use lib.Dec.{ltb}
 use lib.ListN.{length, getD}
-use Rattle.code_theory.specs.Reading.{Finding, clean, corrected, filled, Change, change, changesOf}
+use lib.IntN.{ℤ, pos, negsuc, natAbs, _-ℤ_}
+use Rattle.code_theory.specs.Reading.{Finding, clean, corrected, filled, Change, change, changesOf, errorOf}
 use Rattle.code_theory.specs.Operations.{Report, refusal, failure, success, decodeAnswer, report, decodeOutput}
 
 -- what C sees of an answer; a part that it does not have is 0
@@ -17,6 +20,7 @@ pub record Parts : Type 0 where
   pub symbol : ℕ
   pub secondPosition : ℕ
   pub secondSymbol : ℕ
+  pub error : ℤ
 
 abbrev pub kindNumber : Finding → ℕ
 kindNumber clean = 1
@@ -25,7 +29,7 @@ kindNumber (filled cs) = 3
 
 -- the parts of a refusal
 abbrev pub refusedParts : ℕ → Parts
-refusedParts n = record { number = n; kind = 0; position = 0; symbol = 0; secondPosition = 0; secondSymbol = 0 }
+refusedParts n = record { number = n; kind = 0; position = 0; symbol = 0; secondPosition = 0; secondSymbol = 0; error = pos 0 }
 
 -- the parts of what was found
 abbrev pub foundParts : Finding → Parts
@@ -39,6 +43,7 @@ foundParts f =
       symbol = c .symbol;
       secondPosition = d .position;
       secondSymbol = d .symbol;
+      error = errorOf f;
     }
 
 abbrev pub partsOf : Report → Parts
@@ -56,8 +61,17 @@ abbrev pub byte : ℕ → ℕ → ℕ
 byte zero n = n % 256
 byte (suc i) n = byte i (n / 256)
 
+-- an integer in a byte, by two's complement: -n is 256 - n
+abbrev pub twos : ℤ → ℕ
+twos (pos n) = n
+twos (negsuc n) = 256 - suc n
+
+-- and back
+abbrev pub signed : ℕ → ℤ
+signed b = elim (ltb b 128) [ true ↦ pos b | false ↦ pos b -ℤ pos 256 ]
+
 abbrev pub bytes : Parts → List ℕ
-bytes p = p .number ∷ p .kind ∷ p .position ∷ p .symbol ∷ p .secondPosition ∷ p .secondSymbol ∷ 0 ∷ 0 ∷ []
+bytes p = p .number ∷ p .kind ∷ p .position ∷ p .symbol ∷ p .secondPosition ∷ p .secondSymbol ∷ twos (p .error) ∷ 0 ∷ []
 
 unfoldable pub packed : Report → ℕ
 packed a = joined (bytes (partsOf a))
@@ -79,9 +93,10 @@ unpacked n =
       symbol = byte 3 n;
       secondPosition = byte 4 n;
       secondSymbol = byte 5 n;
+      error = signed (byte 6 n);
     }
 
--- each part is a byte
+-- each part fits its byte
 pub record Within (p : Parts) : Type 0 where
   pub number : p .number ≤ 255
   pub kind : p .kind ≤ 255
@@ -89,3 +104,4 @@ pub record Within (p : Parts) : Type 0 where
   pub symbol : p .symbol ≤ 255
   pub secondPosition : p .secondPosition ≤ 255
   pub secondSymbol : p .secondSymbol ≤ 255
+  pub error : natAbs (p .error) ≤ 127

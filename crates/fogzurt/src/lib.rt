@@ -1,13 +1,15 @@
 // The C entry points, one for each operation. include/fogzurt.h says what C sees of them.
 ghost use mathlib.Core.Path.{_≡_};
 ghost use mathlib.Core.List.{[], _∷_};
+ghost use Prim.Native.Nat.{_≤_};
 ghost use lib.ListN.{length};
+ghost use lib.IntN.{natAbs};
 ghost use Rattle.code_theory.specs.Reading.{filled};
 ghost use Rattle.code_theory.specs.Operations.{encodeRefusal, encodeOutput, outcomeNumber, success};
 ghost use Rattle.queue_theory.specs.Allowed.{FormatAllows, EnqueueAllows, PeekAllows, DequeueAllows};
 ghost use Rattle.encoder.specs.Answer.{encodedOutcome};
 ghost use Rattle.decoder.specs.Decode.{changesIn, decodedReport};
-ghost use Rattle.fogzurt.specs.Packed.{partsOf, joined, packed, PackedAllows, Within};
+ghost use Rattle.fogzurt.specs.Packed.{partsOf, joined, twos, packed, PackedAllows, Within};
 use decoder::Changes;
 use decoder::Decoded;
 use encoder::Encoded;
@@ -53,7 +55,7 @@ pub extern "C" fn fogzurt_decode(
     pack(decoder::decode(profile, word, first, second))
 }
 
-// The six lowest bytes of an answer, the number lowest.
+// The seven lowest bytes of an answer, the number lowest.
 fn join(
     number: u8,
     kind: u8,
@@ -61,8 +63,9 @@ fn join(
     symbol: u8,
     second_position: u8,
     second_symbol: u8,
+    error: u8,
 ) -> u64
-    ensures { λ r. ⌜ r ≡ joined (number ∷ kind ∷ position ∷ symbol ∷ «second_position» ∷ «second_symbol» ∷ 0 ∷ 0 ∷ []) ⌝ }
+    ensures { λ r. ⌜ r ≡ joined (number ∷ kind ∷ position ∷ symbol ∷ «second_position» ∷ «second_symbol» ∷ error ∷ 0 ∷ []) ⌝ }
 {
     wide64(number)
         + wide64(kind) * 256
@@ -70,6 +73,18 @@ fn join(
         + wide64(symbol) * 16777216
         + wide64(second_position) * 4294967296
         + wide64(second_symbol) * 1099511627776
+        + wide64(error) * 281474976710656
+}
+
+// A signed number in a byte: -n is 256 - n.
+fn byte_of(e: i16) -> u8
+    requires { ⌜ natAbs e ≤ 127 ⌝ }
+    ensures { λ r. ⌜ r ≡ twos e ⌝ }
+{
+    if e < 0 {
+        return (e + 256) as u8;
+    }
+    e as u8
 }
 
 // A filled word, in one number.
@@ -78,7 +93,7 @@ fn pack_filled(changes: Changes) -> u64
     ensures { λ r. ⌜ r ≡ packed (success (filled (changesIn changes))) ⌝ }
 {
     match changes {
-        Changes::One(c) => join(0, FILLED, c.position as u8, c.symbol, 0, 0),
+        Changes::One(c) => join(0, FILLED, c.position as u8, c.symbol, 0, 0, 0),
         Changes::Two(c, d) => join(
             0,
             FILLED,
@@ -86,6 +101,7 @@ fn pack_filled(changes: Changes) -> u64
             c.symbol,
             d.position as u8,
             d.symbol,
+            0,
         ),
     }
 }
@@ -96,11 +112,14 @@ fn pack(answer: Decoded) -> u64
     ensures { λ r. ⌜ r ≡ packed (decodedReport answer) ⌝ }
 {
     match answer {
-        Decoded::Clean => join(0, CLEAN, 0, 0, 0, 0),
-        Decoded::Corrected(c) => join(0, CORRECTED, c.position as u8, c.symbol, 0, 0),
+        Decoded::Clean => join(0, CLEAN, 0, 0, 0, 0, 0),
+        Decoded::Corrected(c) => {
+            let error = byte_of(c.error);
+            join(0, CORRECTED, c.position as u8, c.symbol, 0, 0, error)
+        }
         Decoded::Filled(changes) => pack_filled(changes),
-        Decoded::Unreadable => join(4, 0, 0, 0, 0, 0),
-        Decoded::Refused(number) => join(number, 0, 0, 0, 0, 0),
+        Decoded::Unreadable => join(4, 0, 0, 0, 0, 0, 0),
+        Decoded::Refused(number) => join(number, 0, 0, 0, 0, 0, 0),
     }
 }
 

@@ -1,4 +1,4 @@
--- What a reading prints is small: a place has at most two digits, its symbol and the symbols of the messages one.
+-- What a reading prints is small: a place has at most two digits, its symbol, the error and the symbols of the messages one.
 -- Assumes nothing.
 use mathlib.Core.Path.{_≡_, refl, subst}
 use mathlib.Core.Bool.{Bool, true, false, _&&_}
@@ -10,15 +10,16 @@ use native.Mathlib.Omega.{arith}
 use lib.Dec.{lit≤, T, leb, ltb, eqb, leb→le, eqb→eq}
 use lib.ListN.{length, set, getD, drop}
 use lib.Seq.{getD-drop}
-use borrow.Author.Tests.{ltb-true}
+use borrow.Author.Tests.{ltb-true, eqb-true}
 use Rattle.modular_theory.specs.Search.{allBelow}
 use Rattle.modular_theory.specs.Digits.{digits}
 use Rattle.modular_theory.proofs.Search.{and-left, and-right, least-le}
 use Rattle.modular_theory.proofs.Residue.{minus-below}
+use Rattle.modular_theory.proofs.Integer.{difference-within}
 use Rattle.modular_theory.proofs.Digits.{digits-below}
 use Rattle.code_theory.specs.Parameters.{Parameters, messageLength, codewordLength}
 use Rattle.code_theory.specs.Refusal.{Test, firstRefusal}
-use Rattle.code_theory.specs.Component.{Below, message, inCode, erasure}
+use Rattle.code_theory.specs.Component.{Below, isReceived, message, inCode, erasure}
 use Rattle.code_theory.specs.Balance.{differences}
 use Rattle.code_theory.specs.Codeword.{alternate, received, restored, carried, codeword, body}
 use Rattle.code_theory.specs.Erasures.{erasures, fill, filling, firstFilling}
@@ -29,9 +30,11 @@ use Rattle.code_theory.specs.Profiles.{profiles, isProfile, profile}
 use Rattle.code_theory.specs.Operations.{Answer, refused, answered, decodeTests, readUnless, decodeAnswer}
 use Rattle.code_theory.proofs.Refusal.{AllPass, passed-every, number-most}
 use Rattle.code_theory.proofs.Weights.{differences-below}
+use Rattle.code_theory.proofs.Symbols.{symbol-below}
 use Rattle.code_theory.proofs.Merge.{cases, below-keep}
+use Rattle.code_theory.proofs.Whole.{received-levels}
 use Rattle.code_theory.proofs.Profiles.{every-profile}
-use Rattle.lines_theory.specs.Sizes.{ChangesWithin}
+use Rattle.lines_theory.specs.Sizes.{ChangesWithin, FindingWithin}
 
 -- The symbols of a message are below q.
 
@@ -63,30 +66,34 @@ below-carried p h b u =
 -- A reading.
 
 SmallReading : ℕ → ℕ → Reading → Type 0
-SmallReading n q (read f a b) = ChangesWithin n q (changesOf f) × Below q a × Below q b
+SmallReading n q (read f a b) = FindingWithin n q f × Below q a × Below q b
 SmallReading n q unreadable = Unit {0}
 
-read-as : (p : Parameters) → 1 ≤ p .q → (f : Finding) (n : ℕ) (u : List ℕ) → ChangesWithin n (p .q) (changesOf f)
+read-as : (p : Parameters) → 1 ≤ p .q → (f : Finding) (n : ℕ) (u : List ℕ) → FindingWithin n (p .q) f
     → SmallReading n (p .q) (readAs p f u)
 unfolding SmallReading
 read-as p h f n u s = (s, below-carried p h true u, below-carried p h false u)
 
-near-small : (p : Parameters) → 1 ≤ p .q → (u : List ℕ) → SmallReading (length u) (p .q) (nearReading p u)
+-- the error is the difference of two levels
+near-small : (p : Parameters) → 1 ≤ p .q → (u : List ℕ) → Below (p .q) u → SmallReading (length u) (p .q) (nearReading p u)
 unfolding nearReading SmallReading sentAt
-near-small p h u =
+near-small p h u b =
     let i = changedAt p u in
-    let found = corrected (correctionAt i (getD u i 0) (sentAt p u i)) in
+    let x = getD u i 0 in
+    let y = sentAt p u i in
+    let level : y ≤ p .q = least-le (mends p u i) (p .q) in
+    let error = difference-within (p .q) x y (le-of-lt (b i)) level in
     cases (ltb i (length u))
     (λ e.
     rw (e, nearReading)
-    (read-as p h found (length u) _ (rw add-one (ltb-true i (length u) e), least-le (mends p u i) (p .q), tt)))
+    (read-as p h (corrected (correctionAt i x y)) (length u) _ ((rw add-one (ltb-true i (length u) e), level, tt), error)))
     (λ e. rw (e, nearReading) tt)
 
-reading-small : (p : Parameters) → 1 ≤ p .q → (u : List ℕ) → SmallReading (length u) (p .q) (reading p u)
+reading-small : (p : Parameters) → 1 ≤ p .q → (u : List ℕ) → Below (p .q) u → SmallReading (length u) (p .q) (reading p u)
 unfolding reading
-reading-small p h u =
-    cases (codeword p u) (λ e. rw (e, reading) (read-as p h clean (length u) u (zero-le, zero-le, tt)))
-    (λ e. rw (e, reading) (near-small p h u))
+reading-small p h u b =
+    cases (codeword p u) (λ e. rw (e, reading) (read-as p h clean (length u) u ((zero-le, zero-le, tt), zero-le)))
+    (λ e. rw (e, reading) (near-small p h u b))
 
 -- the symbols at erased positions are those that fill them, whatever the others are
 changes-within : (n q i : ℕ) (v ys : List ℕ) → i + length v ≤ suc n → Below q ys → ChangesWithin n q (changesAt i v (fill v ys))
@@ -104,13 +111,17 @@ filled-small p h v =
     let e = firstFilling p v in
     let ys = digits (p .q) (erasures v) e in
     let small = changes-within (length v) (p .q) 1 v ys (omega arith) (λ j. digits-below (p .q) (erasures v) e j h) in
-    cases (ltb e (p .q ^ erasures v)) (λ t. rw (t, filledReading) (read-as p h (filled (changesAt 1 v (fill v ys))) (length v) _ small))
+    let found = filled (changesAt 1 v (fill v ys)) in
+    cases (ltb e (p .q ^ erasures v)) (λ t. rw (t, filledReading) (read-as p h found (length v) _ (small, zero-le)))
     (λ t. rw (t, filledReading) tt)
 
-received-small : (p : Parameters) → 1 ≤ p .q → (v : List ℕ) → SmallReading (length v) (p .q) (receivedReading p v)
+received-small : (p : Parameters) → 1 ≤ p .q → (v : List ℕ) → T (isReceived p v)
+    → SmallReading (length v) (p .q) (receivedReading p v)
 unfolding receivedReading
-received-small p h v =
-    cases (eqb (erasures v) 0) (λ e. rw (e, receivedReading) (reading-small p h v)) (λ e. rw (e, receivedReading) (filled-small p h v))
+received-small p h v r =
+    cases (eqb (erasures v) 0)
+    (λ e. rw (e, receivedReading) (reading-small p h v (symbol-below (p .q) h v (received-levels (p .q) v r (eqb-true _ _ e)))))
+    (λ e. rw (e, receivedReading) (filled-small p h v))
 
 -- An answer.
 
@@ -136,16 +147,16 @@ small-changes : (n q : ℕ) (cs : List Change) → n ≤ 99 → q ≤ 9 → Chan
 small-changes n q [] h g s = tt
 small-changes n q (c ∷ cs) h g s = (le-trans (s .0) h, le-trans (s .1) g, small-changes n q cs h g (s .2))
 
--- at most two digits for a refusal's number and for a position, one for a symbol
+-- at most two digits for a refusal's number and for a position, one for a symbol and for the error
 abbrev pub SmallAnswer : Answer → Type 0
 SmallAnswer (refused n) = n ≤ 99
 SmallAnswer (answered unreadable) = Unit {0}
-SmallAnswer (answered (read f a b)) = ChangesWithin 99 9 (changesOf f) × Below 10 a × Below 10 b
+SmallAnswer (answered (read f a b)) = FindingWithin 99 9 f × Below 10 a × Below 10 b
 
 small-reading : (n q : ℕ) (r : Reading) → n ≤ 99 → q ≤ 9 → SmallReading n q r → SmallAnswer (answered r)
 unfolding SmallReading
 small-reading n q (read f a b) h g s = (
-  small-changes n q (changesOf f) h g (s .0),
+  (small-changes n q (changesOf f) h g (s .0 .0), le-trans (s .0 .1) g),
   (λ i. le-trans (s .1 i) (le-trans g (lit≤ tt))),
   (λ i. le-trans (s .2 i) (le-trans g (lit≤ tt))),
 )
@@ -159,12 +170,13 @@ decode-small i u k l = go (firstRefusal tests) refl
     tests = decodeTests i u k l
 
     full : AllPass (decodeTests i u k l) → SmallAnswer (answered (receivedReading (profile i) u))
-    full (known, (lengths, rest)) =
+    full (known, (lengths, (symbols, rest))) =
         let n = codewordLength (profile i) in
         let (few, some, low) = small-row i known in
         let two = eqb (length u) n && eqb k (messageLength (profile i)) in
         let long : length u ≡ n = eqb→eq _ _ (and-left (eqb (length u) n) _ (and-left two _ lengths)) in
-        small-reading (length u) (profile i .q) (receivedReading (profile i) u) (rw long few) low (received-small (profile i) some u)
+        let small = received-small (profile i) some u symbols in
+        small-reading (length u) (profile i .q) (receivedReading (profile i) u) (rw long few) low small
 
     go : (n : ℕ) → firstRefusal tests ≡ n → SmallAnswer (readUnless n (receivedReading (profile i) u))
     go zero e = full (passed-every tests tt e)

@@ -1,4 +1,4 @@
--- 01's example, words with question marks and short inputs, computed.
+-- 01's example, words with question marks, errors of +2 and -2 and short inputs, computed.
 -- Assumes nothing.
 use mathlib.Core.Path.{refl}
 use Rattle.modular_theory.specs.Residue.{minus}
@@ -18,4 +18,4 @@ pub examples-print : AllPrint examples
 unfolding minus balancingValue delta syndrome inCode isCheck message alpha beta body received nearCode restored isBalanced hasChecks
     nearComponents hasComponents codeword carried mends changedAt sentAt nearReading reading filling firstFilling filledReading
     receivedReading profile decodeAnswer hasForm decimal refusalLine readingLine readAnswer lineAnswer streamOutput
-examples-print = (refl, (refl, (refl, (refl, (refl, (refl, (refl, (refl, (refl, (refl, tt))))))))))
+examples-print = (refl, (refl, (refl, (refl, (refl, (refl, (refl, (refl, (refl, (refl, (refl, (refl, tt))))))))))))

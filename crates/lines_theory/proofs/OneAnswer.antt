@@ -6,13 +6,14 @@ use mathlib.Core.List.{List, [], _∷_, _++_, map}
 use Prim.Native.Nat.{ℕ, zero, suc, _+_, _/_, _%_}
 use native.Mathlib.Omega.{arith}
 use lib.Dec.{eqb, ltb}
+use lib.IntN.{ℤ, pos, negsuc}
 use borrow.Author.Tests.{ne-eqb}
-use Rattle.code_theory.specs.Reading.{Change, Finding, clean, corrected, filled, changesOf, read, unreadable, receivedReading}
+use Rattle.code_theory.specs.Reading.{Change, Finding, clean, corrected, filled, changesOf, errorOf, read, unreadable, receivedReading}
 use Rattle.code_theory.specs.Profiles.{profile}
 use Rattle.code_theory.specs.Refusal.{firstRefusal}
 use Rattle.code_theory.specs.Operations.{Answer, refused, answered, readUnless}
 use Rattle.code_theory.proofs.Merge.{cases}
-use Rattle.lines_theory.specs.Line.{digitByte, decimalBefore, decimal, letter, refusalLine}
+use Rattle.lines_theory.specs.Line.{digitByte, decimalBefore, decimal, signedDecimal, letter, refusalLine}
 use Rattle.lines_theory.specs.Line.{changesBefore, readingLine, answerLine, profileOf, symbolsOf}
 use Rattle.lines_theory.specs.Line.{lineTests, lineAnswer}
 use Rattle.lines_theory.specs.Feed.{Partial, held, tooLong, answerTo, answerAtEnd, lineAfterAll, lineEnds, lastLines}
@@ -38,6 +39,12 @@ ends-decimal : (n : ℕ) (t : List ℕ) → lineEnds (decimal n t) ≡ lineEnds 
 unfolding decimal
 ends-decimal n t = ends-decimal-before 20 n t
 
+-- nor is a sign
+ends-signed : (e : ℤ) (t : List ℕ) → lineEnds (signedDecimal e t) ≡ lineEnds t
+ends-signed (pos zero) t = ends-decimal 0 t
+ends-signed (pos (suc n)) t = ends-decimal (suc n) t
+ends-signed (negsuc n) t = ends-decimal (suc n) t
+
 -- an answer has one byte 10
 
 ends-refusal : (n : ℕ) → lineEnds (refusalLine n) ≡ 1
@@ -58,17 +65,18 @@ ends-changes (c ∷ cs) t =
     let rest : List ℕ = 32 ∷ changesBefore cs t in
     ends-decimal (c .position) (32 ∷ decimal (c .symbol) rest) ∙ ends-decimal (c .symbol) rest ∙ ends-changes cs t
 
-ends-reading : (i : ℕ) (f : Finding) (cs : List Change) (a b : List ℕ) → lineEnds (readingLine i (letter f) cs a b) ≡ 1
+ends-reading : (i : ℕ) (f : Finding) (cs : List Change) (e : ℤ) (a b : List ℕ) → lineEnds (readingLine i (letter f) cs e a b) ≡ 1
 unfolding readingLine
-ends-reading i f cs a b =
-    let words : List ℕ = map digitByte a ++ 32 ∷ (map digitByte b ++ 10 ∷ []) in
-    let rest : List ℕ = 32 ∷ changesBefore cs words in
-    ends-digit i (32 ∷ letter f ∷ rest) ∙ ends-letter f rest ∙ ends-changes cs words ∙ ends-words a b
+ends-reading i f cs e a b =
+    let words : List ℕ = 32 ∷ (map digitByte a ++ 32 ∷ (map digitByte b ++ 10 ∷ [])) in
+    let error : List ℕ = signedDecimal e words in
+    let rest : List ℕ = 32 ∷ changesBefore cs error in
+    ends-digit i (32 ∷ letter f ∷ rest) ∙ ends-letter f rest ∙ ends-changes cs error ∙ ends-signed e words ∙ ends-words a b
 
 ends-answer : (i : ℕ) (a : Answer) → lineEnds (answerLine i a) ≡ 1
 ends-answer i (refused n) = ends-refusal n
 ends-answer i (answered unreadable) = ends-refusal 4
-ends-answer i (answered (read f a b)) = ends-reading i f (changesOf f) a b
+ends-answer i (answered (read f a b)) = ends-reading i f (changesOf f) (errorOf f) a b
 
 ends-line : (l : List ℕ) → lineEnds (lineAnswer l) ≡ 1
 unfolding lineAnswer

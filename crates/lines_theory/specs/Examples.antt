@@ -1,4 +1,5 @@
--- Document 01's example of the line program, byte for byte, words with 02's question marks, and short inputs that end in every way.
+-- Document 01's example of the line program, byte for byte, with the errors that 02 adds; words with 02's question marks; and short inputs
+-- that end in every way.
 -- Assumes nothing.
 use mathlib.Core.Path.{_≡_}
 use mathlib.Core.List.{List, [], _∷_, _++_}
@@ -20,8 +21,8 @@ exampleInput =
 -- and what is printed for each
 abbrev pub exampleOutput : List ℕ
 exampleOutput =
-    (49 ∷ 32 ∷ 67 ∷ 32 ∷ 48 ∷ 32 ∷ 48 ∷ 32 ∷ 48 ∷ 48 ∷ 48 ∷ 48 ∷ 48 ∷ 32 ∷ 48 ∷ 48 ∷ 48 ∷ 48 ∷ 48 ∷ 10 ∷ [])
-    ++ (49 ∷ 32 ∷ 77 ∷ 32 ∷ 54 ∷ 32 ∷ 49 ∷ 32 ∷ 48 ∷ 48 ∷ 48 ∷ 48 ∷ 49 ∷ 32 ∷ 48 ∷ 48 ∷ 48 ∷ 48 ∷ 48 ∷ 10 ∷ [])
+    (49 ∷ 32 ∷ 67 ∷ 32 ∷ 48 ∷ 32 ∷ 48 ∷ 32 ∷ 48 ∷ 32 ∷ 48 ∷ 48 ∷ 48 ∷ 48 ∷ 48 ∷ 32 ∷ 48 ∷ 48 ∷ 48 ∷ 48 ∷ 48 ∷ 10 ∷ [])
+    ++ (49 ∷ 32 ∷ 77 ∷ 32 ∷ 54 ∷ 32 ∷ 49 ∷ 32 ∷ 43 ∷ 49 ∷ 32 ∷ 48 ∷ 48 ∷ 48 ∷ 48 ∷ 49 ∷ 32 ∷ 48 ∷ 48 ∷ 48 ∷ 48 ∷ 48 ∷ 10 ∷ [])
     ++ (82 ∷ 32 ∷ 52 ∷ 10 ∷ [])
     ++ (82 ∷ 32 ∷ 51 ∷ 10 ∷ [])
     ++ (82 ∷ 32 ∷ 49 ∷ 10 ∷ [])
@@ -43,13 +44,27 @@ erasedInput =
 -- and what is printed for each
 abbrev pub erasedOutput : List ℕ
 erasedOutput =
-    (49 ∷ 32 ∷ 70 ∷ 32 ∷ 54 ∷ 32 ∷ 49 ∷ 32 ∷ 48 ∷ 48 ∷ 48 ∷ 48 ∷ 49 ∷ 32 ∷ 48 ∷ 48 ∷ 48 ∷ 48 ∷ 48 ∷ 10 ∷ [])
-    ++ (49 ∷ 32 ∷ 70 ∷ 32 ∷ 49 ∷ 32 ∷ 49 ∷ 32 ∷ 51 ∷ 32 ∷ 48 ∷ 32 ∷ 48 ∷ 48 ∷ 48 ∷ 48 ∷ 49 ∷ 32 ∷ 48 ∷ 48 ∷ 48 ∷ 48 ∷ 48 ∷ 10 ∷ [])
+    (49 ∷ 32 ∷ 70 ∷ 32 ∷ 54 ∷ 32 ∷ 49 ∷ 32 ∷ 48 ∷ 32 ∷ 48 ∷ 48 ∷ 48 ∷ 48 ∷ 49 ∷ 32 ∷ 48 ∷ 48 ∷ 48 ∷ 48 ∷ 48 ∷ 10 ∷ [])
+    ++ (49 ∷ 32 ∷ 70 ∷ 32 ∷ 49 ∷ 32 ∷ 49 ∷ 32 ∷ 51 ∷ 32 ∷ 48 ∷ 32 ∷ 48 ∷ 32 ∷ 48 ∷ 48 ∷ 48 ∷ 48 ∷ 49 ∷ 32 ∷ replicate 5 48 ++ 10 ∷ [])
     ++ (82 ∷ 32 ∷ 52 ∷ 10 ∷ [])
     ++ (82 ∷ 32 ∷ 49 ∷ 49 ∷ 10 ∷ [])
     ++ (82 ∷ 32 ∷ 50 ∷ 10 ∷ [])
     ++ (82 ∷ 32 ∷ 57 ∷ 10 ∷ [])
     ++ (82 ∷ 32 ∷ 57 ∷ 10 ∷ [])
+
+-- a symbol that rose by two levels: place 4 of 01's second line, without its fault
+abbrev pub risenInput : List ℕ
+risenInput = 49 ∷ 32 ∷ 49 ∷ 50 ∷ 48 ∷ 50 ∷ 48 ∷ replicate 10 49 ++ (50 ∷ 50 ∷ 50 ∷ 48 ∷ [])
+
+abbrev pub risenOutput : List ℕ
+risenOutput = 49 ∷ 32 ∷ 77 ∷ 32 ∷ 52 ∷ 32 ∷ 48 ∷ 32 ∷ 43 ∷ 50 ∷ 32 ∷ replicate 4 48 ++ 49 ∷ 32 ∷ replicate 5 48 ++ 10 ∷ []
+
+-- a check symbol that fell by two: the zero word of profile 1 with its last symbol as 0
+abbrev pub fallenInput : List ℕ
+fallenInput = 49 ∷ 32 ∷ replicate 17 49 ++ (48 ∷ 48 ∷ [])
+
+abbrev pub fallenOutput : List ℕ
+fallenOutput = 49 ∷ 32 ∷ 77 ∷ 32 ∷ 49 ∷ 57 ∷ 32 ∷ 50 ∷ 32 ∷ 45 ∷ 50 ∷ 32 ∷ replicate 5 48 ++ 32 ∷ replicate 5 48 ++ 10 ∷ []
 
 -- "R 9" and byte 10
 abbrev pub nine : List ℕ
@@ -67,12 +82,14 @@ AllPrint (c ∷ cs) = (streamOutput (c .input) ≡ c .output) × AllPrint cs
 abbrev example : List ℕ → List ℕ → Example
 example s o = record { input = s; output = o }
 
--- 01's example; question marks; no input; one byte 10 and two; an unended line; a line of 101 bytes (refused by 4) and lines of 102, ended
--- and not
+-- 01's example; question marks; errors of +2 and -2; no input; one byte 10 and two; an unended line; a line of 101 bytes (refused by 4) and
+-- lines of 102, ended and not
 abbrev pub examples : List Example
 examples =
     example exampleInput exampleOutput
     ∷ example erasedInput erasedOutput
+    ∷ example risenInput risenOutput
+    ∷ example fallenInput fallenOutput
     ∷ example [] []
     ∷ example (10 ∷ []) nine
     ∷ example (10 ∷ 10 ∷ []) (nine ++ nine)

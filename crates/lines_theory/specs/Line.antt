@@ -5,11 +5,12 @@ use mathlib.Core.List.{List, [], _∷_, _++_, map}
 use Prim.Native.Nat.{ℕ, zero, suc, _+_, _-_, _/_, _%_}
 use lib.Dec.{leb, ltb, eqb}
 use lib.ListN.{length, getD, drop}
+use lib.IntN.{ℤ, pos, negsuc}
 use Rattle.code_theory.specs.Parameters.{messageLength}
 use Rattle.code_theory.specs.Profiles.{profile}
 use Rattle.code_theory.specs.Component.{erasure}
 use Rattle.code_theory.specs.Refusal.{Test, asks, firstRefusal}
-use Rattle.code_theory.specs.Reading.{Change, Finding, clean, corrected, filled, changesOf, read, unreadable, receivedReading}
+use Rattle.code_theory.specs.Reading.{Change, Finding, clean, corrected, filled, changesOf, errorOf, read, unreadable, receivedReading}
 use Rattle.code_theory.specs.Operations.{Answer, refused, answered, decodeTests, readUnless, decodeAnswer}
 
 -- What goes in. A line is the list of its bytes, without the byte 10 that ends it.
@@ -67,6 +68,12 @@ decimalBefore (suc k) n after =
 unfoldable pub decimal : ℕ → List ℕ → List ℕ
 decimal n after = decimalBefore 20 n after
 
+-- 02: a number "with its sign" (bytes 43 and 45), and 0 "plain", with what follows it
+abbrev pub signedDecimal : ℤ → List ℕ → List ℕ
+signedDecimal (pos zero) after = decimal 0 after
+signedDecimal (pos (suc n)) after = 43 ∷ decimal (suc n) after
+signedDecimal (negsuc n) after = 45 ∷ decimal (suc n) after
+
 -- the letter of a kind, C or M (01: clean, mended); 02: "The kind is F"
 abbrev pub letter : Finding → ℕ
 letter clean = 67
@@ -82,16 +89,17 @@ abbrev pub changesBefore : List Change → List ℕ → List ℕ
 changesBefore [] after = after
 changesBefore (c ∷ cs) after = decimal (c .position) (32 ∷ decimal (c .symbol) (32 ∷ changesBefore cs after))
 
--- profile, the kind's letter, place and sent symbol of each change, first word, second word
-unfoldable pub readingLine : ℕ → ℕ → List Change → List ℕ → List ℕ → List ℕ
-readingLine i c cs a b =
-    digitByte i ∷ 32 ∷ c ∷ 32 ∷ changesBefore cs (map digitByte a ++ 32 ∷ (map digitByte b ++ 10 ∷ []))
+-- profile, the kind's letter, place and sent symbol of each change, error, first word, second word
+unfoldable pub readingLine : ℕ → ℕ → List Change → ℤ → List ℕ → List ℕ → List ℕ
+readingLine i c cs e a b =
+    let words = map digitByte a ++ 32 ∷ (map digitByte b ++ 10 ∷ []) in
+    digitByte i ∷ 32 ∷ c ∷ 32 ∷ changesBefore cs (signedDecimal e (32 ∷ words))
 
 -- the output for what Read answers of a word of profile i
 abbrev pub answerLine : ℕ → Answer → List ℕ
 answerLine i (refused n) = refusalLine n
 answerLine i (answered unreadable) = refusalLine 4
-answerLine i (answered (read f a b)) = readingLine i (letter f) (changesOf f) a b
+answerLine i (answered (read f a b)) = readingLine i (letter f) (changesOf f) (errorOf f) a b
 
 -- Read, with outputs of the profile's length: what is tested, and what is answered
 abbrev pub readTests : ℕ → List ℕ → List Test

@@ -7,58 +7,51 @@ use Prim.Native.Nat.{ℕ, zero, suc, _+_, _-_, _*_, _/_, _%_, _≤_, _<_, suc-le
 use native.Mathlib.Nat.{le-refl, mod-lt, mod-add-div', mul-le-mul, div-le-self, not-suc-le-zero, le-of-suc-le-suc}
 use native.Mathlib.Numerals.{add-one}
 use native.Mathlib.Omega.{arith}
+use lib.Dec.{eqb}
+use lib.IntN.{ℤ, pos, negsuc, negℤ, _-ℤ_}
 use lib.ListN.{length, getD, replicate}
 use lib.Seq.{ext-getD}
 use borrow.Author.Tests.{ne-eqb}
-use Rattle.modular_theory.specs.Residue.{Congruent, minus}
-use Rattle.modular_theory.proofs.Residue.{of-eq, same, symm, _then_, add, reduce, multiple, cancel}
-use Rattle.modular_theory.proofs.Residue.{small, already-reduced, wrapped, minus-below, minus-add}
-use Rattle.modular.specs.Byte.{byteDifference}
-use Rattle.modular.specs.Remainder.{residue, residuesOf, residueOfDifference}
+use Rattle.modular_theory.specs.Residue.{Congruent, remainder}
+use Rattle.modular_theory.proofs.Residue.{of-eq, symm, _then_, multiple, already-reduced, wrapped}
+use Rattle.modular_theory.proofs.Integer.{difference-ge}
+use Rattle.modular.specs.Remainder.{residue, residuesOf, residueOfInteger, residueOfNegative}
 use Rattle.modular.proofs.Filling.{FilledTo}
-use Rattle.modular.proofs.Bytes.{byte-difference}
 
 -- Where there are levels, they are remainders.
 
+levels-there : {q : ℕ} (n : ℕ) → 1 ≤ q → elim (eqb q 0) as (λ _. ℕ) [ true ↦ 0 | false ↦ n ] ≡ n
+levels-there {q} n h = ap (λ (b : Bool). elim b as (λ _. ℕ) [ true ↦ 0 | false ↦ n ]) (ne-eqb q 0 (λ e. omega arith))
+
 pub residue-is : {q : ℕ} (sum : ℕ) → 1 ≤ q → residue q sum ≡ sum % q
 unfolding residue
-residue-is {q} sum h = ap (λ (b : Bool). elim b as (λ _. ℕ) [ true ↦ 0 | false ↦ sum % q ]) (ne-eqb q 0 (λ e. omega arith))
+residue-is {q} sum h = levels-there (sum % q) h
 
 pub residue-below : {q : ℕ} (sum : ℕ) → 1 ≤ q → residue q sum < q
 residue-below sum h = rw (residue-is sum h) (mod-lt sum h)
 
-module _ {q : ℕ} (a b : ℕ) (h : 1 ≤ q) where
-  meant : residueOfDifference q a b ≡ minus q a b
-  unfolding residueOfDifference
-  meant = ap (λ (t : Bool). elim t as (λ _. ℕ) [ true ↦ 0 | false ↦ minus q a b ]) (ne-eqb q 0 (λ e. omega arith))
+integer-is : {q : ℕ} (z : ℤ) → 1 ≤ q → residueOfInteger q z ≡ remainder z q
+unfolding residueOfInteger
+integer-is {q} z h = levels-there (remainder z q) h
 
-  -- a number that makes a of b mod q is their difference
-  unique : {y : ℕ} → y < q → Congruent q (y + b) a → y ≡ residueOfDifference q a b
-  unique l c = small l (minus-below q a b h) (cancel b (c then symm (minus-add q a b h))) ∙ sym meant
+pub negative-is : {q : ℕ} (e : ℤ) → 1 ≤ q → residueOfNegative q e ≡ remainder (negℤ e) q
+unfolding residueOfNegative
+negative-is e h = integer-is (negℤ e) h
 
-  -- to take b away is to add q - 1 times b
-  pub difference-is : residueOfDifference q a b ≡ (a + (q - 1) * b) % q
-  difference-is =
-      let p : ℕ = q - 1 in
-      let f : p + 1 ≡ q = omega arith in
-      let e : a + p * b + b ≡ a + b * q = omega (arith, ap (λ (x : ℕ). b * x) f) in
-      sym (unique (mod-lt (a + (q - 1) * b) h) (add (reduce q (a + (q - 1) * b)) (same b) then of-eq e then multiple q a b))
+-- What the code answers for an integer, by its sign.
 
-  -- and the difference of the remainders is that of the numbers
-  difference-of : q ≤ 255 → {r : ℕ} → r ≡ byteDifference q (residue q a) (residue q b) → r ≡ residueOfDifference q a b
-  difference-of narrow e =
-      let l : residue q b ≤ q = omega (arith, residue-below b h) in
-      let d = byte-difference (residue-below a h) l narrow e in
-      unique (d .1)
-      (add (of-eq (d .0)) (symm (reduce q b) then of-eq (sym (residue-is b h)))
-      then minus-add q (residue q a) (residue q b) h
-      then of-eq (residue-is a h)
-      then reduce q a)
+pub integer-above : (q : ℕ) {z : ℤ} {n : ℕ} → z ≡ pos n → residue q n ≡ residueOfInteger q z
+unfolding residue residueOfInteger
+integer-above q e = ap (residueOfInteger q) (sym e)
 
-pub differs : (q a b : ℕ) → q ≤ 255 → {r : ℕ} → r ≡ byteDifference q (residue q a) (residue q b) → r ≡ residueOfDifference q a b
-unfolding byteDifference residue residueOfDifference
-differs zero a b l e = e
-differs (suc q) a b l e = let h : 1 ≤ suc q = suc-le-suc zero-le in difference-of a b h l e
+-- how far below -1 it is
+pub down-from : {z : ℤ} (n : ℕ) → z ≡ negsuc n → negsuc 0 -ℤ z ≡ pos n
+down-from n e =
+    let back : suc n - 1 ≡ n = omega arith in
+    rw e (difference-ge (suc n) 1 (suc-le-suc zero-le) ∙ ap pos back)
+
+pub integer-below : {q : ℕ} {z : ℤ} (n : ℕ) → z ≡ negsuc n → 1 ≤ q → q - (residue q n + 1) ≡ residueOfInteger q z
+integer-below {q} n e h = ap (λ (r : ℕ). q - (r + 1)) (residue-is n h) ∙ sym (rw e (integer-is (negsuc n) h))
 
 -- The quotient by the inverse k.
 

@@ -4,5 +4,6 @@ pub mod Filling
 pub mod Bytes
 -- Sums mod q
 pub mod Dividing
--- Levels
+-- Signed numbers, and levels among them
+pub mod Signed
 pub mod Levels

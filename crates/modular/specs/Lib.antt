@@ -1,3 +1,2 @@
 pub mod Byte
 pub mod Remainder
-pub mod Level

@@ -4,7 +4,8 @@ use mathlib.Core.Bool.{true, false}
 use mathlib.Core.List.{List, [], _∷_}
 use Prim.Native.Nat.{ℕ, zero, suc, _%_}
 use lib.Dec.{eqb}
-use Rattle.modular_theory.specs.Residue.{minus}
+use lib.IntN.{ℤ, negℤ}
+use Rattle.modular_theory.specs.Residue.{remainder}
 
 -- a sum mod q
 unfoldable pub residue : ℕ → ℕ → ℕ
@@ -15,6 +16,10 @@ abbrev pub residuesOf : ℕ → (ℕ → ℕ) → ℕ → List ℕ
 residuesOf q sum zero = []
 residuesOf q sum (suc n) = residue q (sum 0) ∷ residuesOf q (λ i. sum (suc i)) n
 
--- a - b mod q
-unfoldable pub residueOfDifference : ℕ → ℕ → ℕ → ℕ
-residueOfDifference q a b = elim (eqb q 0) [ true ↦ 0 | false ↦ minus q a b ]
+-- an integer mod q
+unfoldable pub residueOfInteger : ℕ → ℤ → ℕ
+residueOfInteger q z = elim (eqb q 0) [ true ↦ 0 | false ↦ remainder z q ]
+
+-- -e mod q
+unfoldable pub residueOfNegative : ℕ → ℤ → ℕ
+residueOfNegative q e = residueOfInteger q (negℤ e)

@@ -8,7 +8,7 @@ mod width;
 pub use byte::add;
 pub use byte::sub;
 pub use sum::SumArray;
-pub use sum::difference;
+pub use sum::negative;
 pub use sum::remainder;
 pub use sum::remainders;
 pub use width::wide;

@@ -1,33 +1,26 @@
 // Subtraction that must stay among the levels (01: by plain subtraction that must stay within 0 to q-1).
-use crate::width::wide;
 ghost use mathlib.Core.Path.{_≡_};
-ghost use Prim.Native.Nat.{_+_};
-ghost use Rattle.modular.specs.Level.{level};
+ghost use lib.IntN.{pos, _-ℤ_};
+ghost use Rattle.modular_theory.specs.Level.{levelOf};
 
-// a - b where it is one of the q levels, and q where it is none: nothing wraps.
-fn difference(q: u8, a: usize, b: usize) -> u8
-    ensures { λ r. ⌜ r ≡ level q a b ⌝ }
+// z where it is one of the q levels, and q where it is none: nothing wraps.
+fn level(q: u8, z: i64) -> u8
+    ensures { λ r. ⌜ r ≡ levelOf q z ⌝ }
 {
-    if a < b {
+    if z < 0 {
         return q;
     }
-    if a - b < wide(q) {
-        return (a - b) as u8;
+    if z < (q as i64) {
+        return z as u8;
     }
     q
 }
 
-// x with `more` added and `less` taken away where that is one of the q levels, and q where it is none.
-pub fn offset(q: u8, x: u8, more: usize, less: usize) -> u8
-    ensures { λ r. ⌜ r ≡ level q (x + more) less ⌝ }
+// x less e as a level. In 64 bits it fits for every e.
+pub fn less(q: u8, x: u8, e: i32) -> u8
+    ensures { λ r. ⌜ r ≡ levelOf q (pos x -ℤ e) ⌝ }
 {
-    let y = wide(x);
-    if more < less {
-        return difference(q, y, less - more);
-    }
-    let up = more - less;
-    if up < wide(q) {
-        return difference(q, y + up, 0);
-    }
-    q
+    let z = e as i64;
+    let y = (x as i64) - z;
+    level(q, y)
 }

@@ -1,12 +1,11 @@
 // Sums mod q. To divide a sum of 16 bits by q is to multiply it by an inverse of q and to drop 16 bits: the quotient is then
 // right, or one too low.
-use crate::byte::sub;
 use crate::width::wide;
 use crate::width::wide16;
 ghost use mathlib.Core.Path.{_≡_};
 ghost use Prim.Native.Nat.{_/_, _%_, _≤_};
 ghost use lib.ListN.{getD};
-ghost use Rattle.modular.specs.Remainder.{residue, residuesOf, residueOfDifference};
+ghost use Rattle.modular.specs.Remainder.{residue, residuesOf, residueOfInteger, residueOfNegative};
 
 // A sum for each symbol of an array that w fits (01: an array of 97 holds w).
 pub type SumArray = [u16; 97];
@@ -74,9 +73,25 @@ pub fn remainders(q: u8, sums: &SumArray) -> [u8; 97]
     d
 }
 
-// a - b mod q, of sums, and 0 where there are no levels.
-pub fn difference(q: u8, a: usize, b: usize) -> u8
-    ensures { λ r. ⌜ r ≡ residueOfDifference q a b ⌝ }
+// An integer mod q, and 0 where there are no levels. One below 0 is counted down from -1, which has the highest remainder. `plain` has a
+// function of this name, by plain subtraction: to take one for the other is the wrong turn that 01 names.
+pub(crate) fn level(q: u8, z: i64) -> u8
+    ensures { λ r. ⌜ r ≡ residueOfInteger q z ⌝ }
 {
-    sub(q, remainder(q, a), remainder(q, b))
+    if q == 0 {
+        return 0;
+    }
+    if z < 0 {
+        let down = remainder(q, (-1 - z) as usize);
+        return q - (down + 1);
+    }
+    remainder(q, z as usize)
+}
+
+// -e mod q, and 0 where there are no levels. In 64 bits 0 - e fits for every e.
+pub fn negative(q: u8, e: i32) -> u8
+    ensures { λ r. ⌜ r ≡ residueOfNegative q e ⌝ }
+{
+    let z = e as i64;
+    level(q, 0 - z)
 }

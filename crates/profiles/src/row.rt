@@ -13,7 +13,7 @@ pub struct Row {
     // 01: N
     pub codeword: usize,
     // 01: middle
-    pub target: usize,
+    pub target: u16,
     // 01: δ
     pub delta: u8,
 }
@@ -81,7 +81,7 @@ const ROWS: [Entry; 4] = [
     },
 ];
 
-// The row in the numbers that lengths and weights are compared with.
+// The row in the numbers that lengths are compared with.
 fn widened(e: Entry) -> Row
     ensures { λ t. ⌜ numbers t ≡ entries e ⌝ }
 {
@@ -92,7 +92,7 @@ fn widened(e: Entry) -> Row
         message: e.message as usize,
         balanced: e.balanced as usize,
         codeword: e.codeword as usize,
-        target: e.target as usize,
+        target: e.target,
         delta: e.delta,
     }
 }

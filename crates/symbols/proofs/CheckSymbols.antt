@@ -13,12 +13,12 @@ use Rattle.modular.proofs.Dividing.{residue-is}
 use Rattle.symbols.specs.declared.weight.Weight.{Weight}
 use Rattle.symbols.specs.Weight.{weightsOf, checksOf}
 
-module _ {q d m : ℕ} (w : List ℕ) (some : 1 ≤ q) (room : m ≤ 97) (long : length (take m w) ≡ m) (row : d ≡ delta q m) where
-  pub checks-are : checksOf q d (weightsOf (take (min m 97) w)) ≡ record { alpha = alpha q (take m w); beta = beta q (take m w) }
+module _ {q d m : ℕ} (g : ℕ) (w : List ℕ) (some : 1 ≤ q) (room : m ≤ 97) (long : length (take m w) ≡ m) (row : d ≡ delta q m) where
+  pub checks-are : checksOf q d (weightsOf g (take (min m 97) w)) ≡ record { alpha = alpha q (take m w); beta = beta q (take m w) }
   unfolding checksOf alpha beta
   checks-are =
       let l : List ℕ = take m w in
-      let whole : weightsOf (take (min m 97) w) ≡ weightsOf l = ap (λ (k : ℕ). weightsOf (take k w)) (min-eq-left room) in
+      let whole : weightsOf g (take (min m 97) w) ≡ weightsOf g l = ap (λ (k : ℕ). weightsOf g (take k w)) (min-eq-left room) in
       let sum : d ≡ delta q (length l) = row ∙ ap (delta q) (sym long) in
       ap (λ (s : Weight). checksOf q d s) whole
       ∙ ap₂ (λ (a b : ℕ). record { alpha = a; beta = b })

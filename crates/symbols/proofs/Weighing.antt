@@ -1,10 +1,11 @@
 -- A word weighed symbol by symbol: what is summed and what is left make the whole.
 -- Assumes nothing.
-use mathlib.Core.Path.{_≡_, refl, ap, ap₂, _∙_}
+use mathlib.Core.Path.{_≡_, refl, ap, _∙_}
 use mathlib.Core.Bool.{true, false}
 use mathlib.Core.List.{List, [], _∷_}
 use Prim.Native.Nat.{ℕ, zero, suc, _+_, _-_, _*_, _%_, _≤_, zero-le}
 use native.Mathlib.Omega.{arith}
+use lib.IntN.{ℤ, pos, _-ℤ_}
 use lib.ListN.{length, getD, drop, drop-of-length-le}
 use Rattle.modular_theory.specs.Sum.{weight}
 use Rattle.code_theory.specs.Codeword.{alternate}
@@ -65,11 +66,13 @@ module _ {t : List ℕ} {all even i : ℕ} (w : Weighing t all even i) where
         small = omega (arith, w .small);
       }
 
-  pub weighing-all : length t ≤ i → record { odd = all - even; even = even } ≡ weightsOf t
-  weighing-all h =
+  pub weighing-all : length t ≤ i → (g : ℕ) {z : ℤ} → z ≡ pos all -ℤ pos g
+      → record { odd = all - even; even = even; excess = z } ≡ weightsOf g t
+  weighing-all h g e =
       let n : drop i t ≡ [] = drop-of-length-le t h in
       let a : weight (drop i t) ≡ 0 = ap weight n in
       let b : evenFrom (i % 2) (drop i t) ≡ 0 = ap (evenFrom (i % 2)) n in
-      let odd-is : all - even ≡ weight (alternate true t) = omega (arith, w .all-left, w .even-left, alternate-weight t) in
+      let all-is : all ≡ weight t = omega (arith, w .all-left) in
+      let odd-is : all - even ≡ weight (alternate true t) = omega (arith, w .even-left, all-is, alternate-weight t) in
       let even-is : even ≡ weight (alternate false t) = omega (arith, w .even-left) in
-      ap₂ (λ (x y : ℕ). record { odd = x; even = y }) odd-is even-is
+      rw (odd-is, even-is, e ∙ ap (λ (x : ℕ). pos x -ℤ pos g) all-is)

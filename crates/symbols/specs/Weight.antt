@@ -3,15 +3,16 @@
 use mathlib.Core.Bool.{Bool, true, false}
 use mathlib.Core.List.{List}
 use Prim.Native.Nat.{ℕ, _+_}
+use lib.IntN.{pos, _-ℤ_}
 use Rattle.modular_theory.specs.Sum.{weight}
 use Rattle.code_theory.specs.Codeword.{alternate}
 use Rattle.modular.specs.Remainder.{residue}
 use Rattle.symbols.specs.declared.weight.Weight.{Weight}
 use Rattle.symbols.specs.declared.checks.Checks.{Checks}
 
--- the sums over the odd and over the even positions
-abbrev pub weightsOf : List ℕ → Weight
-weightsOf w = record { odd = weight (alternate true w); even = weight (alternate false w) }
+-- the sums over the odd and over the even positions, and the weight less the balancing value g (01: middle)
+abbrev pub weightsOf : ℕ → List ℕ → Weight
+weightsOf g w = record { odd = weight (alternate true w); even = weight (alternate false w); excess = pos (weight w) -ℤ pos g }
 
 -- 01: α and β of a word with these weights
 unfoldable pub checksOf : ℕ → ℕ → Weight → Checks

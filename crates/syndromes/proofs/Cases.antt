@@ -1,38 +1,36 @@
--- The verdict on a balanced word, case by case.
+-- What is said of a balanced word, case by case.
 -- Assumes nothing.
-use mathlib.Core.Path.{_≡_, refl, ap, _∙_}
+use mathlib.Core.Path.{_≡_}
 use mathlib.Core.Bool.{Bool, true, false}
-use Prim.Native.Nat.{ℕ}
+use Prim.Native.Nat.{ℕ, _+_}
+use lib.IntN.{pos, _-ℤ_}
+use Rattle.code_theory.specs.Reading as model
+use Rattle.code_theory.specs.Reading.{corrected}
+use Rattle.code_theory.specs.Operations.{Report, failure, success}
 use Rattle.symbols.specs.declared.checks.Checks.{Checks}
-use Rattle.syndromes.specs.declared.checks.Verdict.{Verdict}
-use Rattle.syndromes.specs.declared.checks.Verdict.the-variants.{Clean, Alpha, Beta, Unreadable}
-use Rattle.syndromes.specs.Verdict.{verdictOf, verdictReport, balancedReport, Verdicts}
+use Rattle.syndromes.specs.Judgement.{balancedReport}
 
-pub far : {near : Bool} (alpha beta : Bool) → near ≡ false → Unreadable ≡ verdictOf near alpha beta
-far alpha beta n = rw n
+module _ (m : ℕ) (asked arrived : Checks) (near alpha beta : Bool) where
+  abbrev says : Report → Type 0
+  says r = r ≡ balancedReport m asked arrived near alpha beta
 
-module _ {near alpha beta : Bool} (n : near ≡ true) where
-  pub clean : alpha ≡ true → beta ≡ true → Clean ≡ verdictOf near alpha beta
-  clean e f = rw (n, e, f)
+  pub far : near ≡ false → says failure
+  far n = rw n
 
-  pub beta-wrong : alpha ≡ true → beta ≡ false → Beta ≡ verdictOf near alpha beta
-  beta-wrong e f = rw (n, e, f)
+  module _ (n : near ≡ true) where
+    pub clean : alpha ≡ true → beta ≡ true → says (success model.clean)
+    clean e f = rw (n, e, f)
 
-  pub alpha-wrong : alpha ≡ false → beta ≡ true → Alpha ≡ verdictOf near alpha beta
-  alpha-wrong e f = rw (n, e, f)
+    -- at position k, counted from 1
+    pub beta-wrong : alpha ≡ true → beta ≡ false → {k : ℕ} → k ≡ m + 1 + 1 → {c : model.Correction}
+        → c ≡ record { position = k; symbol = asked .beta; error = pos (arrived .beta) -ℤ pos (asked .beta) }
+        → says (success (corrected c))
+    beta-wrong e f g h = rw (n, e, f, h, g)
 
-  pub both-wrong : alpha ≡ false → beta ≡ false → Unreadable ≡ verdictOf near alpha beta
-  both-wrong e f = rw (n, e, f)
+    pub alpha-wrong : alpha ≡ false → beta ≡ true → {k : ℕ} → k ≡ m + 1 → {c : model.Correction}
+        → c ≡ record { position = k; symbol = asked .alpha; error = pos (arrived .alpha) -ℤ pos (asked .alpha) }
+        → says (success (corrected c))
+    alpha-wrong e f g h = rw (n, e, f, h, g)
 
--- what the verdict says
-says : (m : ℕ) (asked arrived : Checks) (near a b : Bool)
-    → verdictReport m asked arrived (verdictOf near a b) ≡ balancedReport m asked arrived near a b
-says m x y false a b = refl
-says m x y true true true = refl
-says m x y true true false = refl
-says m x y true false true = refl
-says m x y true false false = refl
-
-pub verdicts : {asked arrived : Checks} {near a b : Bool} {r : Verdict} → r ≡ verdictOf near a b → Verdicts asked arrived near a b r
-verdicts {asked} {arrived} {near} {a} {b} e =
-    record { is = e; says = λ m. ap (verdictReport m asked arrived) e ∙ says m asked arrived near a b }
+    pub both-wrong : alpha ≡ false → beta ≡ false → says failure
+    both-wrong e f = rw (n, e, f)

@@ -1,2 +1,3 @@
 pub mod FourRows
-pub mod Verdict
+pub mod Correction
+pub mod Judgement

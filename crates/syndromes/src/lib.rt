@@ -1,11 +1,13 @@
 // What the two syndromes of a received word say: whether they are those of near components, and with the check symbols what a balanced word
-// is. Each function is total.
+// is, and what is said of a corrected symbol. Each function is total.
 mod balanced;
-mod checks;
+mod correction;
 mod syndrome;
 
-pub use balanced::verdict;
-pub use checks::Verdict;
+pub use balanced::Judgement;
+pub use balanced::judge_balanced;
+pub use correction::Correction;
+pub use correction::corrected;
 pub use syndrome::is_zero;
 pub use syndrome::near;
 pub use syndrome::position;

@@ -6,7 +6,7 @@ use crate::erasure::{erased_positions, MOST_ERASURES};
 use crate::fillings::fillings;
 use crate::profile::Profile;
 use crate::refusal::{require, Refusal};
-use crate::text::digits;
+use crate::text::{digits, signed};
 
 /// A position, and the symbol sent there.
 #[derive(Debug, Clone, Copy, PartialEq, Eq)]
@@ -17,31 +17,45 @@ pub struct Sent {
 
 /// "a kind (clean or mended), the place (0 if clean) and the symbol sent there (0 if clean)".
 #[derive(Debug, Clone, Copy, PartialEq, Eq)]
-pub enum Decoded {
+pub enum Kind {
     Clean,
     /// 01: mended.
-    Corrected {
-        position: usize,
-        symbol: u8,
-    },
+    Corrected(Sent),
     /// T-01: "The kind is F, followed for each marked place, in rising order, by the place and the
     /// symbol sent." There are one or two.
     Filled(Sent, Option<Sent>),
 }
 
+/// What is answered to a word that is read, besides its pair.
+#[derive(Debug, Clone, Copy, PartialEq, Eq)]
+pub struct Decoded {
+    pub kind: Kind,
+    /// T-02: "received minus sent as a signed number, from −(q−1) to q−1 and never 0, for check
+    /// symbols as well. Clean and filled words carry 0."
+    pub error: i16,
+}
+
 impl Decoded {
+    pub const CLEAN: Decoded = Decoded { kind: Kind::Clean, error: 0 };
+
+    /// A word that has another symbol at one position than the codeword sent.
+    pub fn corrected(sent: Sent, received: u8) -> Decoded {
+        let error = i16::from(received) - i16::from(sent.symbol);
+        Decoded { kind: Kind::Corrected(sent), error }
+    }
+
     /// A word with these erased positions, of which this codeword was sent.
     pub fn filled(codeword: &[u8], erased: &[usize]) -> Decoded {
         let sent = |&position: &usize| Sent { position, symbol: codeword[position - 1] };
-        Decoded::Filled(sent(&erased[0]), erased.get(1).map(sent))
+        Decoded { kind: Kind::Filled(sent(&erased[0]), erased.get(1).map(sent)), error: 0 }
     }
 
     /// Where the codeword has another symbol than the received word, in rising order.
     pub fn sent(self) -> impl Iterator<Item = Sent> {
-        let (one, other) = match self {
-            Decoded::Clean => (None, None),
-            Decoded::Corrected { position, symbol } => (Some(Sent { position, symbol }), None),
-            Decoded::Filled(one, other) => (Some(one), other),
+        let (one, other) = match self.kind {
+            Kind::Clean => (None, None),
+            Kind::Corrected(sent) => (Some(sent), None),
+            Kind::Filled(one, other) => (Some(one), other),
         };
         one.into_iter().chain(other)
     }
@@ -52,15 +66,17 @@ impl Decoded {
     }
 
     /// "kind C or M, place, sent symbol, first word, second word (the digits of a word run
-    /// together), single spaces between"; T-01 has kind F with one or two places.
+    /// together), single spaces between"; T-01 has kind F with one or two places. T-02: "prints the
+    /// number after the symbol sent .. a filled word prints it after its last symbol".
     pub fn answer(self, first: &[u8], second: &[u8]) -> String {
-        let kind = match self {
-            Decoded::Clean => "C 0 0",
-            Decoded::Corrected { .. } => "M",
-            Decoded::Filled(..) => "F",
+        let kind = match self.kind {
+            Kind::Clean => "C 0 0",
+            Kind::Corrected(_) => "M",
+            Kind::Filled(..) => "F",
         };
         let sent = self.sent().map(|sent| format!(" {} {}", sent.position, sent.symbol));
-        format!("{kind}{} {} {}", sent.collect::<String>(), digits(first), digits(second))
+        let sent: String = sent.collect();
+        format!("{kind}{sent} {} {} {}", signed(self.error), digits(first), digits(second))
     }
 }
 
@@ -79,11 +95,11 @@ pub fn within_one<'a>(
     let neighbours = (1..=word.len()).flat_map(move |position| {
         let others = (0..profile.q).filter(move |&symbol| symbol != word[position - 1]);
         others.map(move |symbol| {
-            let decoded = Decoded::Corrected { position, symbol };
+            let decoded = Decoded::corrected(Sent { position, symbol }, word[position - 1]);
             (decoded, replaced(word, position, symbol))
         })
     });
-    [(Decoded::Clean, word.to_vec())].into_iter().chain(neighbours)
+    [(Decoded::CLEAN, word.to_vec())].into_iter().chain(neighbours)
 }
 
 /// The pair of the one word tried that is a codeword, and how it was found. Both texts speak of one

@@ -12,10 +12,10 @@ pub const BOXLINES_INPUT: &str = "\
 
 ";
 
-/// The example output of "The line program", "whole".
+/// The example output of "The line program", "whole", with T-02's number ("+1 in 01's mended line").
 pub const BOXLINES_OUTPUT: &str = "\
-1 C 0 0 00000 00000
-1 M 6 1 00001 00000
+1 C 0 0 0 00000 00000
+1 M 6 1 +1 00001 00000
 R 4
 R 3
 R 1
@@ -39,11 +39,12 @@ pub fn encoded() -> Vec<(u8, [String; 2], String)> {
 }
 
 /// Received words of profile 1, from "Checked by hand" and the line program's example, and what
-/// reading them answers: kind, place, symbol sent and both user words, or R and the number.
+/// reading them answers: kind, place, symbol sent, T-02's number and both user words, or R and the
+/// number of the refusal.
 pub const DECODED: [(&str, &str); 5] = [
-    ("1111111111111111102", "C 0 0 00000 00000"),
-    ("1200021111111112220", "M 6 1 00001 00000"),
-    ("1111111111111111101", "M 19 2 00000 00000"),
+    ("1111111111111111102", "C 0 0 0 00000 00000"),
+    ("1200021111111112220", "M 6 1 +1 00001 00000"),
+    ("1111111111111111101", "M 19 2 -1 00000 00000"),
     ("1111111111111111111", "R 4"),
     ("2211111111111111102", "R 4"),
 ];
@@ -52,19 +53,33 @@ pub const DECODED: [(&str, &str); 5] = [
 /// are 01's words with symbols erased, which are then the only ones that agree; and words that no
 /// filling balances, or whose unerased check symbols the only balanced filling contradicts.
 pub const ERASED: [(&str, &str); 13] = [
-    ("?111111111111111102", "F 1 1 00000 00000"),
-    ("11111111111111111?2", "F 18 0 00000 00000"),
-    ("111111111111111110?", "F 19 2 00000 00000"),
-    ("?1?1111111111111102", "F 1 1 3 1 00000 00000"),
-    ("?11111111111111110?", "F 1 1 19 2 00000 00000"),
-    ("11111111111111111??", "F 18 0 19 2 00000 00000"),
-    ("1200?1111111111222?", "F 5 0 19 0 00001 00000"),
+    ("?111111111111111102", "F 1 1 0 00000 00000"),
+    ("11111111111111111?2", "F 18 0 0 00000 00000"),
+    ("111111111111111110?", "F 19 2 0 00000 00000"),
+    ("?1?1111111111111102", "F 1 1 3 1 0 00000 00000"),
+    ("?11111111111111110?", "F 1 1 19 2 0 00000 00000"),
+    ("11111111111111111??", "F 18 0 19 2 0 00000 00000"),
+    ("1200?1111111111222?", "F 5 0 19 0 0 00001 00000"),
     ("1200?2111111111222?", "R 4"),
     ("2?11111111111111102", "R 4"),
     ("?111111111111111101", "R 4"),
     ("11111111111111111?1", "R 4"),
     ("???1111111111111102", "R 11"),
     ("???3111111111111102", "R 3"),
+];
+
+/// 01's word 1200011111111112220 with one symbol too high or too low, by one level and by two, in w
+/// and at both check symbols; and T-02's number, worked out by hand.
+pub const ERRORS: [(&str, &str); 9] = [
+    ("2200011111111112220", "M 1 1 +1 00001 00000"),
+    ("0200011111111112220", "M 1 1 -1 00001 00000"),
+    ("1000011111111112220", "M 2 2 -2 00001 00000"),
+    ("1202011111111112220", "M 4 0 +2 00001 00000"),
+    ("1200011111111112120", "M 17 2 -1 00001 00000"),
+    ("1200011111111112210", "M 18 2 -1 00001 00000"),
+    ("1200011111111112200", "M 18 2 -2 00001 00000"),
+    ("1200011111111112221", "M 19 0 +1 00001 00000"),
+    ("1200011111111112222", "M 19 0 +2 00001 00000"),
 ];
 
 /// "Checked by hand": user words of profile 1 and their halves.

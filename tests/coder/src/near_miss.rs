@@ -1,12 +1,12 @@
 //! A second decoder, by 002's steps (section IV-B) as 01 corrects them, in which one step can be
 //! got wrong on purpose. Without a slip it must answer as the search in `decode` does; with one it
 //! shows that a test word tells the right decoder from that near miss. What it does with erasures
-//! stands in `near_miss_erasures`.
+//! stands in `near_miss_erasures`, and what it says of errors in `near_miss_errors`.
 
 use crate::balance::{subtract, weight};
 use crate::codeword::{components_of, Messages};
 use crate::component::{message_in, syndrome};
-use crate::decode::{replaced, Decoded};
+use crate::decode::{replaced, Decoded, Sent};
 use crate::encode::encoded_word;
 use crate::profile::Profile;
 use crate::refusal::{require, Refusal};
@@ -61,9 +61,9 @@ impl Decoder<'_> {
         }
         let off = self.check_sums_off(w, received);
         if excess == 0 {
-            self.decode_balanced(w, received, off)
+            self.decode_balanced(word, off)
         } else {
-            self.decode_unbalanced(w, excess, off)
+            self.decode_unbalanced(word, excess, off)
         }
     }
 
@@ -84,19 +84,17 @@ impl Decoder<'_> {
 
     /// A balanced w has no wrong symbol; one wrong check symbol is corrected, "two wrong check
     /// symbols are refused".
-    fn decode_balanced(
-        &self,
-        w: &[u8],
-        received: &[u8],
-        off: [u8; 2],
-    ) -> Option<(Decoded, Messages)> {
-        let corrected = |index: usize| Decoded::Corrected {
-            position: w.len() + 1 + index,
-            symbol: self.reduce(i64::from(received[index]) + i64::from(off[index])),
+    fn decode_balanced(&self, word: &[u8], off: [u8; 2]) -> Option<(Decoded, Messages)> {
+        let (w, received) = word.split_at(self.profile.m());
+        let corrected = |index: usize| {
+            let received = i64::from(received[index]);
+            let symbol = self.reduce(received + i64::from(off[index]));
+            let sent = Sent { position: w.len() + 1 + index, symbol };
+            self.corrected(word, sent, received - i64::from(symbol))
         };
         let decoded = match off {
-            [0, 0] => Decoded::Clean,
-            _ if self.slips(Slip::BalanceIsClean) => Decoded::Clean,
+            [0, 0] => Decoded::CLEAN,
+            _ if self.slips(Slip::BalanceIsClean) => Decoded::CLEAN,
             [_, 0] => corrected(0),
             [0, _] => corrected(1),
             _ => return None,
@@ -107,10 +105,11 @@ impl Decoder<'_> {
     /// Step 3: the positions of the parity whose check sum is off, in rising order.
     fn decode_unbalanced(
         &self,
-        w: &[u8],
+        word: &[u8],
         excess: i64,
         off: [u8; 2],
     ) -> Option<(Decoded, Messages)> {
+        let w = &word[..self.profile.m()];
         let (start, off) = match off {
             [0, 0] => return None,
             [odd, 0] => (1, odd),
@@ -123,7 +122,7 @@ impl Decoder<'_> {
         (start..=w.len()).step_by(2).find_map(|position| {
             let symbol = self.remove(w[position - 1], excess)?;
             let messages = self.undo(&replaced(w, position, symbol))?;
-            Some((Decoded::Corrected { position, symbol }, messages))
+            Some((self.corrected(word, Sent { position, symbol }, excess), messages))
         })
     }
 

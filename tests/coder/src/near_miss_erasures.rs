@@ -5,7 +5,7 @@
 
 use crate::codeword::{check_symbols, components_of, messages_of, Messages};
 use crate::component::message_in;
-use crate::decode::{replaced, Decoded};
+use crate::decode::{replaced, Decoded, Kind};
 use crate::erasure::{erased_positions, MOST_ERASURES};
 use crate::fillings::fillings;
 use crate::near_miss::Decoder;
@@ -15,6 +15,11 @@ use crate::slip::Slip;
 
 /// The most erasures that a slip fills; more would have too many fillings.
 const MOST_FILLED: usize = 4;
+
+/// The word with 0 at its erased positions.
+pub(crate) fn with_zeros(word: &[u8], erased: &[usize]) -> Vec<u8> {
+    erased.iter().fold(word.to_vec(), |word, &position| replaced(&word, position, 0))
+}
 
 impl Decoder<'_> {
     /// Numbers 3, 11 and 4, or the pair and how it was found.
@@ -41,10 +46,7 @@ impl Decoder<'_> {
     /// The pair of the filling that is a codeword, for one or two erasures.
     fn fill(&self, word: &[u8], erased: &[usize]) -> Option<(Decoded, Messages)> {
         match self.slip {
-            Some(Slip::ErasureIsZero) => {
-                let zero = |word: Vec<u8>, &position: &usize| replaced(&word, position, 0);
-                return self.decode_levels(&erased.iter().fold(word.to_vec(), zero));
-            }
+            Some(Slip::ErasureIsZero) => return self.decode_levels(&with_zeros(word, erased)),
             Some(Slip::UnerasedCorrected) => return self.fill_and_correct(word, erased),
             _ => (),
         }
@@ -113,15 +115,16 @@ impl Decoder<'_> {
         self.undo(w).or_else(|| self.slips(Slip::ComponentsUntested).then(untested))
     }
 
-    /// The positions and symbols that are answered.
+    /// The positions and symbols that are answered, and the error.
     fn report(&self, filled: &[u8], erased: &[usize]) -> Decoded {
-        match (Decoded::filled(filled, erased), self.slip) {
-            (Decoded::Filled(one, _), Some(Slip::FirstReported)) => Decoded::Filled(one, None),
-            (Decoded::Filled(one, Some(other)), Some(Slip::FallingOrder)) => {
-                Decoded::Filled(other, Some(one))
+        let kind = match (Decoded::filled(filled, erased).kind, self.slip) {
+            (Kind::Filled(one, _), Some(Slip::FirstReported)) => Kind::Filled(one, None),
+            (Kind::Filled(one, Some(other)), Some(Slip::FallingOrder)) => {
+                Kind::Filled(other, Some(one))
             }
             (right, _) => right,
-        }
+        };
+        Decoded { kind, error: self.error_of_filled(filled, erased) }
     }
 
     /// More than two erasures: number 11, but for slips.

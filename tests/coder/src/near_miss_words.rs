@@ -9,7 +9,9 @@ use crate::erased_words::Draw;
 use crate::erasure::erased_at;
 use crate::near_miss::printed_delta;
 use crate::profile::Profile;
-use crate::random_words::{changed_at, codeword, components, excess, off_by_q, Receive};
+use crate::random_words::{
+    changed_at, codeword, components, excess, off_by_q, with_changes, Receive,
+};
 use crate::rng::Rng;
 
 /// A word with right check symbols whose weight is off by q, with one more symbol changed: away
@@ -30,6 +32,11 @@ pub fn off_balance_erased(profile: &Profile, rng: &mut Rng, draw: Draw) -> Optio
     let x = interleave(&components(profile, rng));
     let word = with_check_symbols(profile, &off_by_q(profile, &x, rng)?);
     Some(erased_at(&word, &draw(profile, rng)))
+}
+
+/// A codeword with another level at one position.
+pub fn one_changed(profile: &Profile, rng: &mut Rng) -> Option<Vec<u8>> {
+    Some(with_changes(profile, 1, rng))
 }
 
 /// A codeword with one symbol of w changed, and the check symbol of that parity too.

@@ -10,7 +10,9 @@ use crate::erased_words::{
 use crate::examples::POSITION_ZERO_W;
 use crate::near_miss::{self, Slip};
 use crate::profile::{Profile, PROFILES};
-use crate::random_words::{both_check_symbols, by_another_choice, codeword, with_changes, Build};
+use crate::random_words::{
+    both_check_symbols, by_another_choice, codeword, one_check_symbol, Build,
+};
 use crate::rng::Rng;
 use crate::text::symbols;
 
@@ -43,7 +45,7 @@ pub const NEAR_MISSES: [NearMiss; 13] = [
         "syndrome of zeros with a last 1; the first word has w = 00200111222111021"),
     refuses(Slip::BalanceIsClean, both_check_symbols,
         "both check symbols wrong on a balanced word"),
-    decodes(Slip::FirstInRange, |profile, rng| Some(with_changes(profile, 1, rng)),
+    decodes(Slip::FirstInRange, one_changed,
         "the first position in range is not the right one"),
     decodes(Slip::EncodedWordOnly, by_another_choice,
         "codeword by a choice that the encoder does not make"),
@@ -102,6 +104,34 @@ pub const ERASURE_NEAR_MISSES: [NearMiss; 15] = [
         "codeword with three erasures"),
 ];
 
+/// Those of T-02, the request for the error.
+#[rustfmt::skip]
+pub const ERROR_NEAR_MISSES: [NearMiss; 9] = [
+    decodes(Slip::ErrorSignTurned, one_changed,
+        "one symbol wrong: the error is received minus sent"),
+    decodes(Slip::ErrorSizeAlone, one_changed,
+        "one symbol too low: the error is below 0"),
+    decodes(Slip::ErrorReduced, one_changed,
+        "one symbol too low: the error is below 0, and no remainder"),
+    decodes(Slip::ErrorByteUnsigned, one_changed,
+        "one symbol too low: the error is below 0, in a byte too"),
+    decodes(Slip::ErrorIsSymbolSent, one_changed,
+        "one symbol wrong by another number than the symbol sent"),
+    decodes(Slip::ErrorOfNextPosition, one_changed,
+        "one symbol wrong, and the next one has another level"),
+    decodes(Slip::CheckErrorZero, one_check_symbol,
+        "one check symbol wrong, of which the weight knows nothing"),
+    decodes(Slip::CheckErrorIsSumOff, one_check_symbol,
+        "one check symbol wrong: the error is not what its check sum is off by"),
+    decodes(Slip::FilledCarriesError, |profile, rng| Some(with_erasures(profile, [2, 0], rng)),
+        "codeword with two erasures, which carries 0"),
+];
+
+/// Those of 01 and of every request.
+pub fn every_near_miss() -> impl Iterator<Item = &'static NearMiss> {
+    NEAR_MISSES.iter().chain(&ERASURE_NEAR_MISSES).chain(&ERROR_NEAR_MISSES)
+}
+
 /// How many words are built before a slip is taken to do no harm in a profile.
 const ATTEMPTS: usize = 4000;
 
@@ -128,6 +158,7 @@ mod tests {
     use crate::balance::subtract;
     use crate::codeword::{check_symbols, components_of};
     use crate::component::syndrome;
+    use crate::decode::{Decoded, Kind};
     use crate::random_words::excess;
     use crate::refusal::Refusal;
 
@@ -138,7 +169,7 @@ mod tests {
     #[test]
     fn every_slip_is_told() {
         let rng = &mut Rng::new(1);
-        for near_miss in NEAR_MISSES.iter().chain(&ERASURE_NEAR_MISSES) {
+        for near_miss in every_near_miss() {
             for profile in &PROFILES {
                 let words = near_miss.words(profile, 3, rng);
                 let harmless = near_miss.slip == Slip::PrintedDelta && profile.q == 3;
@@ -168,6 +199,37 @@ mod tests {
             }
             Slip::BalanceIsClean => excess == 0 && !off.contains(&0),
             _ => true,
+        }
+    }
+
+    /// A slip of T-02 gets the error wrong and nothing else, and its words are as they are called.
+    #[test]
+    fn a_slip_of_the_error_leaves_the_rest() {
+        let rng = &mut Rng::new(2);
+        for near_miss in &ERROR_NEAR_MISSES {
+            let NearMiss { slip, name, .. } = near_miss;
+            for profile in &PROFILES {
+                for word in near_miss.words(profile, 20, rng) {
+                    let (right, messages) = decode_word(profile, &word).unwrap();
+                    let (wrong, read) = near_miss::decode(profile, &word, Some(*slip)).unwrap();
+                    assert_eq!((wrong.kind, read), (right.kind, messages));
+                    assert!(has_error_as_called(profile, *slip, right), "{name}");
+                }
+            }
+        }
+    }
+
+    /// Whether the right answer's position and error are as the name of the slip's words says.
+    fn has_error_as_called(profile: &Profile, slip: Slip, right: Decoded) -> bool {
+        match (slip, right.kind) {
+            (Slip::FilledCarriesError, kind) => matches!(kind, Kind::Filled(_, Some(_))),
+            (Slip::ErrorSizeAlone | Slip::ErrorReduced | Slip::ErrorByteUnsigned, _) => {
+                right.error < 0
+            }
+            (Slip::CheckErrorZero | Slip::CheckErrorIsSumOff, Kind::Corrected(sent)) => {
+                sent.position > profile.m()
+            }
+            _ => right.error != 0,
         }
     }
 

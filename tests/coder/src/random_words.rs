@@ -68,6 +68,13 @@ pub fn with_changes(profile: &Profile, count: usize, rng: &mut Rng) -> Vec<u8> {
     changed(profile, &word, count, rng)
 }
 
+/// A codeword with another level at one check symbol.
+pub fn one_check_symbol(profile: &Profile, rng: &mut Rng) -> Option<Vec<u8>> {
+    let word = codeword(profile, rng);
+    let position = profile.m() + rng.from_one_to(2);
+    Some(changed_at(profile, &word, &[position], rng))
+}
+
 /// A codeword with another level at both check symbols.
 pub fn both_check_symbols(profile: &Profile, rng: &mut Rng) -> Option<Vec<u8>> {
     let word = codeword(profile, rng);

@@ -1,7 +1,7 @@
 //! The steps of a decoder that can be got wrong.
 
 /// One step got wrong: 01's "Wrong turns seen in drafts", and others of their kind; then those that
-/// the erasures of T-01 invite.
+/// the erasures of T-01 and the error of T-02 invite.
 #[derive(Debug, Clone, Copy, PartialEq, Eq)]
 pub enum Slip {
     /// δ is 002's printed 2(q−1)(2−m).
@@ -61,4 +61,22 @@ pub enum Slip {
     ManyFilled,
     /// Three erasures are allowed.
     ThreeAllowed,
+    /// T-02, here and below. The error is sent minus received.
+    ErrorSignTurned,
+    /// The error is answered without its sign.
+    ErrorSizeAlone,
+    /// The error is reduced mod q, and so never negative.
+    ErrorReduced,
+    /// The byte of the error is read as one without a sign: 255 for -1.
+    ErrorByteUnsigned,
+    /// The symbol sent is answered in place of the error.
+    ErrorIsSymbolSent,
+    /// The position, which counts from 1, is taken for an index: the next symbol minus the one sent.
+    ErrorOfNextPosition,
+    /// The error is what the weight is off by, also at a check symbol: 0.
+    CheckErrorZero,
+    /// At a check symbol the error is what the check sum is off by: sent minus received, mod q.
+    CheckErrorIsSumOff,
+    /// A filled word carries what its weight is off by with 0 at the erasures.
+    FilledCarriesError,
 }

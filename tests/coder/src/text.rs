@@ -16,6 +16,14 @@ pub fn digits(word: &[u8]) -> String {
     word.iter().map(|&symbol| char::from(byte(symbol))).collect()
 }
 
+/// T-02: "with its sign (+1 in 01's mended line), and prints 0 plain".
+pub fn signed(number: i16) -> String {
+    match number {
+        0 => "0".to_string(),
+        _ => format!("{number:+}"),
+    }
+}
+
 /// The byte that a symbol is written as.
 fn byte(symbol: u8) -> u8 {
     match symbol {

@@ -1,11 +1,12 @@
-//! Every case of document 01, starred or not, against the coder, and words with erasures (T-01).
+//! Every case of document 01, starred or not, against the coder, words with erasures (T-01) and
+//! words with errors of both signs (T-02).
 
 use coder::balance::{balanced_words, weight, BalancingChoice};
 use coder::codeword::codewords;
 use coder::component::encode_component;
 use coder::encode::encode;
 use coder::examples::{
-    encoded, BOXLINES_INPUT, BOXLINES_OUTPUT, COMPONENTS, DECODED, ERASED, PROFILE_TABLE,
+    encoded, BOXLINES_INPUT, BOXLINES_OUTPUT, COMPONENTS, DECODED, ERASED, ERRORS, PROFILE_TABLE,
 };
 use coder::lines::{answer, boxlines};
 use coder::profile::PROFILES;
@@ -58,7 +59,7 @@ fn the_choice_for_a_pair_of_profile_1() {
 
 #[test]
 fn received_words_of_profile_1() {
-    for (word, expected) in DECODED.into_iter().chain(ERASED) {
+    for (word, expected) in DECODED.into_iter().chain(ERASED).chain(ERRORS) {
         let line = answer(format!("1 {word}").as_bytes());
         assert_eq!(line.strip_prefix("1 ").unwrap_or(&line), expected);
     }

@@ -1,7 +1,7 @@
 //! What T-01 says of words with erasures (marks), tried on samples.
 
 use coder::codeword::{all_messages, codewords, Messages};
-use coder::decode::{decode, decode_word, Decoded, Sent};
+use coder::decode::{decode, decode_word, Decoded, Kind, Sent};
 use coder::erased_words::{erased, erased_and_changed};
 use coder::erasure::erased_at;
 use coder::near_miss;
@@ -11,14 +11,15 @@ use coder::refusal::Refusal;
 use coder::rng::Rng;
 
 /// What decoding answers to a codeword with these positions erased, in rising order, is what was
-/// sent there, and its pair. "The outputs then hold its first and second user word".
+/// sent there, T-02's 0, and its pair. "The outputs then hold its first and second user word".
 fn assert_filled(profile: &Profile, messages: &Messages, codeword: &[u8], positions: &[usize]) {
     let received = erased_at(codeword, positions);
     let [mut first, mut second] = [0, 255].map(|filler| vec![filler; profile.k()]);
     let decoded = decode(profile.number, &received, &mut first, &mut second);
     let mut sent =
         positions.iter().map(|&position| Sent { position, symbol: codeword[position - 1] });
-    let expected = Decoded::Filled(sent.next().unwrap(), sent.next());
+    let kind = Kind::Filled(sent.next().unwrap(), sent.next());
+    let expected = Decoded { kind, error: 0 };
     assert_eq!((decoded, &[first, second]), (Ok(expected), messages));
 }
 

@@ -7,7 +7,7 @@ use coder::codeword::{check_symbols, codewords, messages_of};
 use coder::component::{
     check_positions, component_with_syndrome, encode_component, in_code, message_in, syndrome,
 };
-use coder::decode::{decode, search, within_one, Decoded};
+use coder::decode::{decode, search, within_one, Decoded, Kind, Sent};
 use coder::encode::encoded_word;
 use coder::near_miss::{self, printed_delta, Slip};
 use coder::profile::PROFILES;
@@ -30,7 +30,8 @@ fn a_message_fixes_its_component() {
 }
 
 /// Whatever choice made a codeword, it is read as its pair, also with any one symbol at any other
-/// level. "The outputs then hold its first and second user word, whatever they held before."
+/// level, of which T-02's number is "received minus sent .. for check symbols as well". "The outputs
+/// then hold its first and second user word, whatever they held before."
 #[test]
 fn every_codeword_is_read_as_its_pair() {
     let rng = &mut Rng::new(3);
@@ -45,12 +46,14 @@ fn every_codeword_is_read_as_its_pair() {
         for (change, received) in within_one(profile, sent) {
             let [mut first, mut second] = [0, 255].map(|filler| vec![filler; profile.k()]);
             let decoded = decode(profile.number, &received, &mut first, &mut second);
-            let expected = match change {
-                Decoded::Clean => Decoded::Clean,
-                Decoded::Corrected { position, .. } => {
-                    Decoded::Corrected { position, symbol: sent[position - 1] }
+            let expected = match change.kind {
+                Kind::Clean => Decoded { kind: Kind::Clean, error: 0 },
+                Kind::Corrected(Sent { position, .. }) => {
+                    let symbol = sent[position - 1];
+                    let error = i16::from(received[position - 1]) - i16::from(symbol);
+                    Decoded { kind: Kind::Corrected(Sent { position, symbol }), error }
                 }
-                Decoded::Filled(..) => unreachable!("nothing is erased"),
+                Kind::Filled(..) => unreachable!("nothing is erased"),
             };
             assert_eq!((decoded, [first, second]), (Ok(expected), messages.clone()));
         }
@@ -97,7 +100,7 @@ fn check_symbols_are_balanced_with_the_right_delta_only() {
 fn balance_is_no_proof_of_a_clean_word() {
     let word = symbols("1111111111111111111");
     let slipped = near_miss::decode(&PROFILES[0], &word, Some(Slip::BalanceIsClean));
-    assert_eq!(slipped.map(|(decoded, _)| decoded), Ok(Decoded::Clean));
+    assert_eq!(slipped.map(|(decoded, _)| decoded), Ok(Decoded::CLEAN));
     assert_eq!(search(&PROFILES[0], &word), None);
 }
 

@@ -1,6 +1,6 @@
 //! Encoding and decoding by a coder's entry points and by the separate coder.
 
-use coder::decode::{Decoded, Sent};
+use coder::decode::{Decoded, Kind, Sent};
 use coder::refusal::Refusal;
 use fogzurt::{EntryPoints, PackedAnswer, PositionAndSymbol};
 
@@ -19,12 +19,16 @@ pub fn number_of(answer: Result<(), Refusal>) -> u64 {
 
 /// What decoding has to answer, packed.
 pub fn packed(answer: Result<Decoded, Refusal>) -> PackedAnswer {
-    match answer {
-        Err(refusal) => PackedAnswer::refused(refusal.number()),
-        Ok(Decoded::Clean) => PackedAnswer::clean(),
-        Ok(Decoded::Corrected { position, symbol }) => PackedAnswer::corrected(position, symbol),
-        Ok(Decoded::Filled(one, other)) => PackedAnswer::filled(sent(one), other.map(sent)),
-    }
+    let Decoded { kind, error } = match answer {
+        Err(refusal) => return PackedAnswer::refused(refusal.number()),
+        Ok(decoded) => decoded,
+    };
+    let read = match kind {
+        Kind::Clean => PackedAnswer::clean(),
+        Kind::Corrected(Sent { position, symbol }) => PackedAnswer::corrected(position, symbol),
+        Kind::Filled(one, other) => PackedAnswer::filled(sent(one), other.map(sent)),
+    };
+    read.with_error(error as i8)
 }
 
 fn sent(Sent { position, symbol }: Sent) -> PositionAndSymbol {

@@ -137,8 +137,10 @@ fn check_part(tried: &EntryPoints, codewords: &Codewords, first: u32) -> Checked
             }
             Mark::Codeword => (0, PackedAnswer::clean()),
             Mark::Neighbour(index, symbol) => {
-                sent[usize::from(index)] = symbol;
-                (1, PackedAnswer::corrected(usize::from(index) + 1, symbol))
+                let index = usize::from(index);
+                sent[index] = symbol;
+                let error = received[index] as i8 - symbol as i8;
+                (1, PackedAnswer::corrected(index + 1, symbol).with_error(error))
             }
         };
         let row = codewords.binary_search_by_key(&value(&sent), |(listed, _)| *listed);

@@ -3,7 +3,7 @@
 //! nothing is searched for.
 
 use coder::codeword::{all_messages, Messages};
-use coder::decode::{within_one, Decoded};
+use coder::decode::{within_one, Decoded, Kind, Sent};
 use coder::encode::encoded_word;
 use coder::erasure::erased_at;
 use coder::profile::PROFILES;
@@ -44,9 +44,10 @@ fn check_pair<'a>(
     let number = u64::from(profile.number);
     encode(tried, number, [first, second], profile.word_length())?;
     let sent = encoded_word(profile, messages);
-    let changed = within_one(profile, &sent).map(|(change, received)| match change {
-        Decoded::Corrected { position, .. } => {
-            (Decoded::Corrected { position, symbol: sent[position - 1] }, received)
+    let changed = within_one(profile, &sent).map(|(change, received)| match change.kind {
+        Kind::Corrected(Sent { position, .. }) => {
+            let sent = Sent { position, symbol: sent[position - 1] };
+            (Decoded::corrected(sent, received[position - 1]), received)
         }
         _ => (change, received),
     });

@@ -141,7 +141,7 @@ fn off_balance(
 #[cfg(test)]
 mod tests {
     use coder::near_miss::{self, Slip};
-    use coder::near_misses::{ERASURE_NEAR_MISSES, NEAR_MISSES};
+    use coder::near_misses::every_near_miss;
 
     use super::*;
 
@@ -151,8 +151,7 @@ mod tests {
     fn every_slip_of_a_decoder_is_told() {
         for profile in &PROFILES {
             let rng = &mut Rng::new(1);
-            let near_misses = NEAR_MISSES.iter().chain(&ERASURE_NEAR_MISSES);
-            let mut untold: Vec<Slip> = near_misses.map(|near_miss| near_miss.slip).collect();
+            let mut untold: Vec<Slip> = every_near_miss().map(|near_miss| near_miss.slip).collect();
             for _ in 0..PAIRS / 50 {
                 let messages = rng.messages(profile);
                 for word in received_words(profile, &messages, rng) {

@@ -3,7 +3,7 @@
 use std::fmt;
 
 /// Eight bytes, as the header has them, the lowest first: number, kind, position, symbol sent there,
-/// second position, symbol sent there, and two that are 0.
+/// second position, symbol sent there, error, and one that is 0.
 #[derive(Debug, Clone, Copy, PartialEq, Eq)]
 pub struct PackedAnswer(pub u64);
 
@@ -18,6 +18,9 @@ pub type PositionAndSymbol = (usize, u8);
 
 /// What stands where there is none.
 const NONE: PositionAndSymbol = (0, 0);
+
+/// The error's byte, which holds a two's complement.
+const ERROR: usize = 6;
 
 impl PackedAnswer {
     const fn of(number: u8, kind: u8, sent: [PositionAndSymbol; 2]) -> PackedAnswer {
@@ -55,6 +58,14 @@ impl PackedAnswer {
         PackedAnswer::of(0, FILLED, [one, other.unwrap_or(NONE)])
     }
 
+    /// The same with this error (02: the fault): the symbol received minus the symbol sent. All but
+    /// corrected words carry 0.
+    pub const fn with_error(self, error: i8) -> PackedAnswer {
+        let mut bytes = self.0.to_le_bytes();
+        bytes[ERROR] = error as u8;
+        PackedAnswer(u64::from_le_bytes(bytes))
+    }
+
     /// 0 if the word was read, else the number of the refusal.
     pub const fn number(self) -> u64 {
         self.0 & 255
@@ -64,11 +75,13 @@ impl PackedAnswer {
 impl fmt::Display for PackedAnswer {
     fn fmt(&self, text: &mut fmt::Formatter) -> fmt::Result {
         let PackedAnswer(packed) = *self;
-        let [number, kind, position, symbol, second, second_symbol, ..] = packed.to_le_bytes();
+        let [number, kind, position, symbol, second, second_symbol, error, last] =
+            packed.to_le_bytes();
         write!(
             text,
             "{packed} (number {number}, kind {kind}, position {position}, symbol {symbol}, \
-             second position {second}, symbol {second_symbol})"
+             second position {second}, symbol {second_symbol}, error {}, last byte {last})",
+            error as i8
         )
     }
 }

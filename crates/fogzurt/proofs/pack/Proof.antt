@@ -1,8 +1,16 @@
--- `fogzurt::pack` meets its contract: an arm for each case of the report, and a position that fits a byte.
+-- `fogzurt::pack` meets its contract: an arm for each case of the report, and a position and an error that fit a byte.
 -- Assumes nothing.
+use mathlib.Core.Path.{_≡_, ap, _∙_}
 use native.Mathlib.Omega.{arith}
+use mir.Syntax.{w16}
+use mir.Val.{toZ, ofZ}
 use borrow.Author.Needs.{needs}
-use Rattle.fogzurt.specs.Packed.{packed}
+use Rattle.modular.proofs.Signed.{value, fits-within, read}
+use Rattle.code_theory.specs.Reading.{corrected}
+use Rattle.code_theory.specs.Operations.{success}
+use Rattle.syndromes.specs.declared.correction.Correction as declared
+use Rattle.syndromes.specs.Correction.{correctionOf}
+use Rattle.fogzurt.specs.Packed.{partsOf, twos, packed, Within}
 use Rattle.fogzurt.proofs.pack.Statement.{statement}
 use Rattle.fogzurt.proofs.pack.Tie as tie
 
@@ -15,11 +23,22 @@ join-requires c κs = search needs
 enum-known-answer : tie.Need-enum-known-answer
 enum-known-answer c = search needs
 
+-- where the answer is a correction
+module _ (matched : tie.After-answer) where
+  abbrev correction : declared.Correction
+  correction = matched .answer .given .0 .0
+
+  within : Within (partsOf (success (corrected (correctionOf correction))))
+  within = rw (matched .answer .given .1) at (matched .before .before .pre)
+
+  error-read : toZ w16 (ofZ w16 (correction .error)) ≡ correction .error
+  error-read = read (value (fits-within 127 tt (within .error)))
+
+byte-of-requires : tie.Need-byte-of-requires
+byte-of-requires c κs = let matched = c .before .before in rw (error-read matched) (within matched .error)
+
 cast-join : tie.Need-cast-join
-cast-join c =
-    let matched = c .before .before in
-    let within = rw (matched .answer .given .1) at (matched .before .before .pre) in
-    omega (arith, within .position)
+cast-join c = let matched = c .before .before .before .before in omega (arith, within matched .position)
 
 join-requires-2 : tie.Need-join-requires-2
 join-requires-2 c κs = search needs
@@ -50,7 +69,11 @@ returns c = rw (c .before .enum-told .given .1) (c .join .ensures)
 
 returns-2 : tie.Need-returns-2
 unfolding packed
-returns-2 c = let matched = c .before .before .before in rw (matched .answer .given .1) (c .join2 .ensures)
+returns-2 c =
+    let called = c .before .before in
+    let matched = called .before .before .before in
+    let byte : called .byte-of .result ≡ twos (correction matched .error) = called .byte-of .ensures ∙ ap twos (error-read matched) in
+    rw (matched .answer .given .1, ← byte) (c .join2 .ensures)
 
 returns-3 : tie.Need-returns-3
 returns-3 c = rw (c .before .before .answer2 .given .1) (c .pack-filled .ensures)
@@ -66,5 +89,5 @@ returns-5 c = rw (c .before .before .answer3 .given .1) (c .join4 .ensures)
 pub pack-spec : {M : Type 1} → statement M
 pack-spec =
     tie.close
-    (tie.spec enum-told join-requires enum-known-answer cast-join join-requires-2 enum-known-answer-2 pack-filled-requires enum-told-2
-    join-requires-3 enum-known-answer-3 join-requires-4 returns returns-2 returns-3 returns-4 returns-5)
+    (tie.spec enum-told join-requires enum-known-answer byte-of-requires cast-join join-requires-2 enum-known-answer-2 pack-filled-requires
+    enum-told-2 join-requires-3 enum-known-answer-3 join-requires-4 returns returns-2 returns-3 returns-4 returns-5)

@@ -9,7 +9,7 @@ use std::process::ExitCode;
 
 use coder::balance::weight;
 use coder::codeword::{all_messages, codewords, Messages};
-use coder::decode::{replaced, search, Decoded};
+use coder::decode::{replaced, search, Kind};
 use coder::encode::encoded_word;
 use coder::erased_words::erased_and_changed;
 use coder::erasure::ERASURE;
@@ -43,7 +43,7 @@ const ERASED_OUTCOMES: [&str; 3] = ["R 4", "F, another pair", "F, the pair sent"
 
 fn outcome(profile: &Profile, sent: &Messages, received: &[u8]) -> usize {
     search(profile, received).map_or(0, |(decoded, read)| {
-        1 + 2 * usize::from(decoded == Decoded::Clean) + usize::from(read == *sent)
+        1 + 2 * usize::from(decoded.kind == Kind::Clean) + usize::from(read == *sent)
     })
 }
 

@@ -1,8 +1,20 @@
 -- `answers::respond::write_decoded` meets its contract: an arm for each case of the report.
 -- Assumes nothing.
+use mathlib.Core.Path.{_≡_}
+use lib.IntN.{ℤ}
+use mir.Syntax.{w16}
+use mir.Val.{toZ, ofZ}
 use borrow.Author.Needs.{needs}
+use Rattle.modular.proofs.Signed.{value, read}
 use Rattle.answers.proofs.respond.write_decoded.Statement.{statement}
 use Rattle.answers.proofs.respond.write_decoded.Tie as tie
+
+-- the error of a correction, and what is read from its field
+abbrev error-of : tie.After-struct-told → ℤ
+error-of c = c .before .before .decoded .given .0 .0 .error
+
+error-read : (c : tie.After-struct-told) → toZ w16 (ofZ w16 (error-of c)) ≡ error-of c
+error-read c = read (value (record { sfits = c .struct-told .given .1 .1 .0 .1 }))
 
 enum-told : tie.Need-enum-told
 enum-told c = search needs
@@ -12,19 +24,20 @@ reading-line-requires c κs =
     let clean = c .before in
     let start = clean .before .before .before .before .before in
     let sizes = start .pre .0 in
-    let (changes, first, second) = rw (clean .enum-told .given .1) at (start .pre .1) in
-    ((sizes .0, changes, sizes .1), search needs)
+    let ((changes, error), first, second) = rw (clean .enum-told .given .1) at (start .pre .1) in
+    ((sizes .0, changes, sizes .1), (error, search needs))
 
 enum-known-decoded : tie.Need-enum-known-decoded
 enum-known-decoded c = search needs
 
 reading-line-requires-2 : tie.Need-reading-line-requires-2
 reading-line-requires-2 c κs =
-    let corrected = c .before .before in
+    let told = c .before in
+    let corrected = told .before .before in
     let start = corrected .before .before .before .before .before in
     let sizes = start .pre .0 in
-    let (changes, first, second) = rw (corrected .decoded .given .1) at (start .pre .1) in
-    ((sizes .0, changes, sizes .1), search needs)
+    let ((changes, error), first, second) = rw (corrected .decoded .given .1) at (start .pre .1) in
+    ((sizes .0, changes, sizes .1), (rw (error-read told) error, search needs))
 
 enum-known-decoded-2 : tie.Need-enum-known-decoded-2
 enum-known-decoded-2 c = search needs
@@ -34,8 +47,8 @@ reading-line-requires-3 c κs =
     let filled = c .before .before in
     let start = filled .before .before .before .before .before in
     let sizes = start .pre .0 in
-    let (changes, first, second) = rw (filled .decoded2 .given .1) at (start .pre .1) in
-    ((sizes .0, changes, sizes .1), search needs)
+    let ((changes, error), first, second) = rw (filled .decoded2 .given .1) at (start .pre .1) in
+    ((sizes .0, changes, sizes .1), (error, search needs))
 
 enum-told-2 : tie.Need-enum-told-2
 enum-told-2 c = search needs
@@ -63,7 +76,10 @@ same-length-2 : tie.Need-same-length-2
 same-length-2 c = search needs
 
 returns-2 : tie.Need-returns-2
-returns-2 c = let written = c .before .before in rw (written .before .before .before .decoded .given .1) (written .reading-line2 .ensures)
+returns-2 c =
+    let written = c .before .before in
+    let told = written .before .before in
+    rw (told .before .before .decoded .given .1) (rw (error-read told) at (written .reading-line2 .ensures))
 
 same-length-3 : tie.Need-same-length-3
 same-length-3 c = search needs

@@ -2,7 +2,7 @@
 -- Assumes nothing.
 use borrow.Author.Needs.{needs}
 use denote.Ref.{now}
-use Rattle.decoder.proofs.Totalling.{row-columns, target-is}
+use Rattle.decoder.proofs.Totalling.{row-columns}
 use Rattle.decoder.proofs.Filling.{found-one}
 use Rattle.decoder.proofs.erased.find_one.Statement.{statement}
 use Rattle.decoder.proofs.erased.find_one.Tie as tie
@@ -42,7 +42,7 @@ returns c =
     record {
       held = summed .sums-of .ensures .held;
       filling =
-          found-one _ valid u (c .before .sums-in .ensures) (summed .sums-of .ensures .are) (target-is valid) _
+          found-one _ valid u (c .before .sums-in .ensures) (summed .sums-of .ensures .are) _
           (erased .erased-at .ensures) (c .fill-one .ensures);
     }
 

@@ -2,7 +2,7 @@
 -- Assumes nothing.
 use borrow.Author.Needs.{needs}
 use denote.Ref.{now}
-use Rattle.decoder.proofs.Totalling.{row-columns, target-is}
+use Rattle.decoder.proofs.Totalling.{row-columns}
 use Rattle.decoder.proofs.Filling.{found-two}
 use Rattle.decoder.proofs.erased.find_two.Statement.{statement}
 use Rattle.decoder.proofs.erased.find_two.Tie as tie
@@ -49,7 +49,7 @@ returns c =
     record {
       held = summed .sums-of .ensures .held;
       filling =
-          found-two _ valid u (c .before .sums-in .ensures) (summed .sums-of .ensures .are) (target-is valid) _ _
+          found-two _ valid u (c .before .sums-in .ensures) (summed .sums-of .ensures .are) _ _
           (erased .erased-at .ensures) (other .erased-at2 .ensures) (c .fill-two .ensures);
     }
 

@@ -1,9 +1,12 @@
 -- `decoder::word::correct` meets its contract: the index fits, so its symbol is a level and the moved syndromes are near.
 -- Assumes nothing.
 use borrow.Author.Needs.{needs}
-use mathlib.Core.Path.{refl}
+use mathlib.Core.Path.{ap}
 use mathlib.Core.Bool.{true, false}
 use native.Mathlib.Omega.{arith}
+use Rattle.code_theory.specs.Reading as model
+use Rattle.code_theory.specs.Reading.{Correction}
+use Rattle.code_theory.specs.Operations.{Report, success}
 use Rattle.decoder.proofs.Differencing.{components-corrected}
 use Rattle.decoder.proofs.Answering.{answers-read, messages-of}
 use Rattle.decoder.proofs.Finding.{fit-index, fit-small, fit-level, fit-near, fit-read}
@@ -20,6 +23,10 @@ sent c = c .before .before
 
 abbrev corrected : tie.After-write-pair → tie.After-correct-differences
 corrected c = c .before .before .before .before
+
+-- what is said of a correction
+abbrev told : Correction → Report
+told c = success (model.corrected c)
 
 mul-i : tie.Need-mul-i
 mul-i c = let found = c .before .before .before .pre .0 in omega (arith, fit-small found)
@@ -48,11 +55,19 @@ write-pair-requires c κs =
       record { first-long = outputs .first-long; second-long = outputs .second-long },
     )
 
-add-position : tie.Need-add-position
-add-position c =
+add-corrected : tie.Need-add-corrected
+add-corrected c =
     let written = c .before .before .before .before in
     let found = start (sent (corrected written)) .pre .0 in
     omega (arith, fit-small found, found .given .parity-number)
+
+shared-slice-read-corrected : tie.Need-shared-slice-read-corrected
+shared-slice-read-corrected c =
+    let found = start (sent (corrected (c .before .before .before .before .before))) .pre .0 in
+    omega (arith, fit-index found, found .is .long, found .is .valid .balanced)
+
+corrected-requires : tie.Need-corrected-requires
+corrected-requires c κs = search needs
 
 same-length : tie.Need-same-length
 same-length c = search needs
@@ -62,15 +77,15 @@ same-length-2 c = search needs
 
 returns : tie.Need-returns
 returns c =
-    let written = c .before .before .before .before in
+    let written = c .before .before .before .before .before .before in
     let body = corrected written in
     let (found, after, held, outputs) = start (sent body) .pre in
     let level = fit-level found (sent body .balancing-symbol .ensures) in
     let parts = components-corrected _ _ (found .is) level held (body .correct-differences .ensures) .parts in
     answers-read _ _ (fit-read found after (sent body .balancing-symbol .ensures))
-    (messages-of (parts true) (parts false) (written .write-pair .ensures)) refl
+    (messages-of (parts true) (parts false) (written .write-pair .ensures)) (ap told (c .corrected .ensures))
 
 pub correct-spec : {M : Type 1} → statement M
 correct-spec =
     tie.close (tie.spec mul-i add-i shared-slice-read-balancing-symbol balancing-symbol-requires correct-differences-requires
-    write-pair-requires add-position same-length same-length-2 returns)
+    write-pair-requires add-corrected shared-slice-read-corrected corrected-requires same-length same-length-2 returns)

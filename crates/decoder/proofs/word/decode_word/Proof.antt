@@ -2,6 +2,9 @@
 -- Assumes nothing.
 use borrow.Author.Needs.{needs}
 use denote.Ref.{now}
+use mir.Syntax.{w32}
+use mir.Val.{ofZ}
+use Rattle.modular.proofs.Signed.{Holds, fits-within, value, zero-read, other-read}
 use Rattle.symbols.specs.Columns.{Columns}
 use Rattle.decoder.specs.Outputs.{Outputs}
 use Rattle.decoder.proofs.Differencing.{zero-array}
@@ -19,8 +22,8 @@ matrix : (c : tie.After-columns) → Columns (start c .args .row .q) (start c .a
 matrix c = row-columns (start c .pre .0 .valid) (c .columns .ensures)
 
 -- the moment after the sums, and where their columns were built
-abbrev summed : tie.After-struct-known2 → tie.After-sums-of
-summed c = c .before .before
+abbrev summed : tie.After-struct-told → tie.After-sums-of
+summed c = c .before
 
 abbrev built : tie.After-sums-of → tie.After-columns
 built c = c .before .before .before
@@ -28,6 +31,10 @@ built c = c .before .before .before
 -- and the start of all
 abbrev begun : tie.After-sums-of → tie.Start
 begun c = start (built c)
+
+-- the excess, as its bits are tested
+held-excess : (c : tie.After-struct-told) → let e = summed c .sums-of .result .excess in Holds w32 (ofZ w32 e) e
+held-excess c = value (fits-within 1358 tt (summed c .sums-of .ensures .totalled .light))
 
 -- the outputs are as long as the row's messages
 outputs : (c : tie.After-sums-of) → Outputs (begun c .args .row) (now (begun c .args .first)) (now (begun c .args .second))
@@ -62,10 +69,12 @@ returns : tie.Need-returns
 returns c =
     let done = c .before .before .before .before in
     let unbalanced = done .before .before .before .before .before in
-    let m = summed (unbalanced .before) in
+    let told = unbalanced .before in
+    let m = summed told in
     let a = begun m in
     let sums = m .sums-of in
-    let answer = unbalanced-answer (a .pre .0 .valid) (now (a .args .word)) (sums .result) (sums .ensures .are) (unbalanced .if1 .taken) in
+    let excess = other-read (held-excess told) (unbalanced .if1 .taken) in
+    let answer = unbalanced-answer _ (now (a .args .word)) (sums .result) (sums .ensures .are) excess in
     answers-as answer (done .decode-unbalanced .ensures)
 
 decode-balanced-requires : tie.Need-decode-balanced-requires
@@ -84,10 +93,12 @@ returns-2 : tie.Need-returns-2
 returns-2 c =
     let done = c .before .before .before .before in
     let balanced = done .before .before .before .before in
-    let m = summed (balanced .before) in
+    let told = balanced .before in
+    let m = summed told in
     let a = begun m in
     let sums = m .sums-of in
-    let answer = balanced-answer (a .pre .0 .valid) (now (a .args .word)) (sums .result) (sums .ensures .are) (balanced .if1 .left) in
+    let none = zero-read (held-excess told) (balanced .if1 .left) in
+    let answer = balanced-answer _ (now (a .args .word)) (sums .result) (sums .ensures .are) none in
     answers-as answer (done .decode-balanced .ensures .to (now (a .args .word)) (sums .ensures .held .parts))
 
 pub decode-word-spec : {M : Type 1} → statement M

@@ -8,7 +8,6 @@ use lib.ListN.{take}
 use denote.Ref.{now}
 use borrow.Author.Needs.{needs}
 use Rattle.encoder.proofs.Raising.{raised-is}
-use Rattle.encoder.proofs.Integrating.{symbols-fewer}
 use Rattle.encoder.proofs.Searching.{row-size}
 use Rattle.encoder.proofs.balance.balanced.Statement.{statement}
 use Rattle.encoder.proofs.balance.balanced.Tie as tie
@@ -27,7 +26,7 @@ earliest-requires : tie.Need-earliest-requires
 earliest-requires c κs =
     let integral = c .before .integrated .ensures in
     let a = c .before .before in
-    (a .pre .0, symbols-fewer (integral .1) (a .pre .1 .room), record { of = word a; is = integral .0 })
+    (a .pre .0, integral .1, record { of = word a; is = integral .0 })
 
 sub-raised : tie.Need-sub-raised
 sub-raised c = c .before .before .earliest .ensures .from

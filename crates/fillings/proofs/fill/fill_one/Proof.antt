@@ -22,7 +22,7 @@ returns c =
     let tested = c .before in
     let begun = tested .before .before in
     let args = begun .before .args in
-    unsuited _ _ _ (has-own (args .sums) (begun .numbers-of .ensures .0)) (args .erased) (tested .before .wanted .ensures)
+    unsuited _ _ (has-own (args .sums) (begun .numbers-of .ensures .0)) (args .erased) (tested .before .wanted .ensures)
     (tested .suits .ensures) (not-true _ (c .if1 .taken))
 
 syndromes-with-requires : tie.Need-syndromes-with-requires
@@ -37,7 +37,7 @@ returns-2 c =
     let tested = moved .before .before in
     let begun = tested .before .before in
     let args = begun .before .args in
-    suited _ _ _ (has-own (args .sums) (begun .numbers-of .ensures .0)) (args .erased) (tested .before .wanted .ensures)
+    suited _ _ (has-own (args .sums) (begun .numbers-of .ensures .0)) (args .erased) (tested .before .wanted .ensures)
     (tested .suits .ensures) (not-false _ (moved .before .if1 .left)) (moved .syndromes-with .ensures) (c .one-if-near .ensures)
 
 pub fill-one-spec : {M : Type 1} → statement M

@@ -45,7 +45,7 @@ returns : tie.Need-returns
 returns c =
     let tested = c .before in
     let moved = tested .before .before in
-    unsuited _ _ _ (has moved) (start moved .args .second) (tested .before .wanted .ensures) (tested .suits .ensures)
+    unsuited _ _ (has moved) (start moved .args .second) (tested .before .wanted .ensures) (tested .suits .ensures)
     (not-true _ (c .if1 .taken))
 
 syndromes-with-requires : tie.Need-syndromes-with-requires
@@ -65,7 +65,7 @@ returns-2 c =
     let moved = tested .before .before in
     let z = tested .before .wanted in
     let second = syndromesWith (start moved .args .q) (start moved .args .second) (z .result) in
-    suited _ _ _ (has moved) (start moved .args .second) (z .ensures) (tested .suits .ensures) (not-false _ (first .before .if1 .left))
+    suited _ _ (has moved) (start moved .args .second) (z .ensures) (tested .suits .ensures) (not-false _ (first .before .if1 .left))
     (both .syndromes-with2 .ensures ∙ ap second (first .syndromes-with .ensures)) (c .one-if-near .ensures)
 
 pub fill-second-spec : {M : Type 1} → statement M

@@ -14,13 +14,13 @@ use Rattle.fillings.proofs.fill.fill_two.Statement.{statement}
 use Rattle.fillings.proofs.fill.fill_two.Tie as tie
 
 abbrev Inv-loop : tie.InvT-loop
-Inv-loop q n target first second sums y₀ y =
+Inv-loop q n first second sums y₀ y =
     (y ≤ q)
     × ((j : ℕ) → j < y
-    → fillable (fourRows q n) target (erasedOf second) (sumsWith (fourRows q n) (erasedOf first) j (fourRowSums sums)) ≡ false)
+    → fillable (fourRows q n) (erasedOf second) (sumsWith (fourRows q n) (erasedOf first) j (fourRowSums sums)) ≡ false)
 
 abbrev μ-loop : tie.MeasureT-loop
-μ-loop q n target first second sums y₀ y = q - y
+μ-loop q n first second sums y₀ y = q - y
 
 loop-holds : tie.Need-loop-holds Inv-loop μ-loop
 loop-holds c = (search needs, below-none _)
@@ -36,7 +36,7 @@ returns c =
     let known = c .before in
     let answered = known .before .before in
     let inside = answered .before in
-    two-found _ _ _ _ _ _ (inside .loop-test .taken) (inside .before .loop .inv .1)
+    two-found _ _ _ _ _ (inside .loop-test .taken) (inside .before .loop .inv .1)
     (rw (known .z .given .1) at (answered .fill-second .ensures))
 
 add-y : tie.Need-add-y Inv-loop μ-loop
@@ -49,13 +49,13 @@ loop-again : tie.Need-loop-again Inv-loop μ-loop
 loop-again c =
     let answered = c .before in
     let passed = answered .before .before in
-    let here = unfilled _ _ _ _ (answered .fill-second .result) (c .match .keys2) (answered .fill-second .ensures) in
+    let here = unfilled _ _ _ (answered .fill-second .result) (c .match .keys2) (answered .fill-second .ensures) in
     (search needs, below-more _ _ (passed .loop .inv .1) here)
 
 returns-2 : tie.Need-returns-2 Inv-loop μ-loop
 returns-2 c =
     let passed = c .before in
-    two-none _ _ _ _ _ (λ j l. passed .loop .inv .1 j (omega (arith, l, c .loop-test .left)))
+    two-none _ _ _ _ (λ j l. passed .loop .inv .1 j (omega (arith, l, c .loop-test .left)))
 
 pub fill-two-spec : {M : Type 1} → statement M
 fill-two-spec =

@@ -20,7 +20,7 @@ consistent-requires c κs = search needs
 returns-2 : tie.Need-returns-2
 returns-2 c =
     let moved = c .before in
-    rw (lt-ltb _ _ (moved .before .if1 .left)) (c .consistent .ensures ∙ ap (consistentNumbers _) (moved .numbers-with .ensures .are))
+    rw (lt-ltb _ _ (moved .before .if1 .left)) (c .consistent .ensures ∙ ap consistentNumbers (moved .numbers-with .ensures .are))
 
 pub suits-spec : {M : Type 1} → statement M
 suits-spec = tie.close (tie.spec returns numbers-with-requires consistent-requires returns-2)

@@ -1,8 +1,8 @@
 -- `symbols::weight::available` meets its contract: the smallest of three, by two comparisons.
 -- Assumes nothing.
-use mathlib.Core.Path.{_≡_, refl, sym, ap, _∙_}
+use mathlib.Core.Path.{_≡_, refl}
 use mathlib.Core.Logic.{inl, inr, ⊎-elim}
-use Prim.Native.Nat.{ℕ, min}
+use Prim.Native.Nat.{min}
 use Rattle.symbols.proofs.Capped.{capped}
 use Rattle.symbols.proofs.weight.available.Statement.{statement}
 use Rattle.symbols.proofs.weight.available.Tie as tie

@@ -1,8 +1,8 @@
 -- `symbols::weight::if_odd` meets its contract: a product with 0 or 1.
 -- Assumes nothing.
 use borrow.Author.Needs.{needs}
-use mathlib.Core.Path.{_≡_, ap}
-use Prim.Native.Nat.{ℕ, _*_, _%_, _≤_}
+use mathlib.Core.Path.{ap}
+use Prim.Native.Nat.{ℕ, _*_, _≤_}
 use native.Mathlib.Omega.{arith}
 use Rattle.symbols.proofs.Weighing.{part-small}
 use Rattle.symbols.proofs.weight.if_odd.Statement.{statement}

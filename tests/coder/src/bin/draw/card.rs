@@ -25,9 +25,9 @@ type Row = (&'static str, &'static str, &'static [&'static str]);
 #[rustfmt::skip]
 const WORD_ANSWERS: [Row; 9] = [
     ("C", "clean", &["Release or hold, as the two messages say."]),
-    ("M", "mended at that place", &["Read again. C with the same two messages:",
-        "go by them. Anything else: hold the box, ask",
-        "the supervisor, note the place for service."]),
+    ("M", "mended at that place", &["Note box, time and answer, read again. C with",
+        "the same two messages: go by them. Anything",
+        "else: hold the box, ask the supervisor."]),
     ("F", "filled at those places", &["As M."]),
     ("R 4", "too many symbols bad", &["Read again. Still R 4: hold the box, ask",
         "the supervisor, tell service."]),
@@ -55,9 +55,11 @@ const NOTES: [&str; 3] = [
     "add up to; with a wrong total the word is not good, with the right one it may still be bad.",
 ];
 
-/// How an answer with messages is laid out.
-const FIELDS: &str =
-    "C, M, F: profile, letter, place, symbol sent there (F: twice, if two), opening, seal.";
+/// How an answer with messages is laid out, and what its sign says.
+const FIELDS: [&str; 2] = [
+    "C, M, F: profile, letter, place, symbol sent there (F: twice, if two), fault, opening, seal.",
+    "Fault, of M: + arrived too high (a stray pulse?), - too low (a weak driver?). Else 0.",
+];
 
 const LINE: u32 = 21;
 
@@ -71,8 +73,10 @@ pub fn draw() -> Picture {
     let y = draw_profiles(&mut picture, 104);
     let y = draw_limit(&mut picture, y + 4);
     let y = draw_answers(&mut picture, y + 30, "Answers to a word", &WORD_ANSWERS);
-    picture.text(122, y + 15, &sized(15, ""), FIELDS);
-    let y = draw_answers(&mut picture, y + 50, "Answers of the sheet", &QUEUE_ANSWERS);
+    for (line, text) in (0..).zip(FIELDS) {
+        picture.text(122, y + 15 + LINE * line, &sized(15, ""), text);
+    }
+    let y = draw_answers(&mut picture, y + 66, "Answers of the sheet", &QUEUE_ANSWERS);
     let note = "No refusal (R) changes anything. Why, and how often: docs/SERVICE-BOOK.md.";
     picture.text(50, y + 26, &sized(16, ""), note);
     picture
@@ -102,7 +106,7 @@ fn draw_profiles(picture: &mut Picture, top: u32) -> u32 {
             picture.text(120 + 122 * column as u32, y, &format!("{CENTRED} {style}"), text);
         }
         picture.path(&format!("M50 {}H790", y + 10), "stroke=\"#bbb\"");
-        y += 36;
+        y += 33;
     }
     for note in NOTES {
         picture.text(50, y, &sized(15, ""), note);

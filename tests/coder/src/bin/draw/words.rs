@@ -154,7 +154,7 @@ pub fn draw_neighbours(profile: &Profile, messages: &Messages) -> Picture {
         .expect("there are other codewords");
     let positions = differing(&sent, &nearest);
     let right = left(profile, sent.len()) + CELL + 10;
-    let mut picture = Picture::new(right + 205, 68 + 36 * (positions.len() as u32 + 1));
+    let mut picture = Picture::new(right + 230, 68 + 36 * (positions.len() as u32 + 1));
     let title = format!(
         "A lawful word, and what arrives on the way to another lawful word, {} places away",
         positions.len()

@@ -1,4 +1,4 @@
-//! Words with erasures (02, T-01: marks). They come after all others and have a seed of their own, so
+//! Words with erasures (02, T-01: marks). They come after those of 01 and have a seed of their own, so
 //! that the words without erasures are those that were stored before.
 
 use coder::decode::{replaced, search};
@@ -13,7 +13,10 @@ use coder::profile::{Profile, PROFILES};
 use coder::random_words::{changed, codeword, positions};
 use coder::rng::Rng;
 
-use super::{add, add_word, balanced_noise, cases_by_hand, near_misses, received, Received};
+use super::{
+    add, add_word, balanced_noise, cases_by_hand, near_misses, received, Received,
+    OF_EACH_NEAR_MISS,
+};
 use crate::case_file::{row_for, CaseFile, PROFILE_NUMBERS};
 
 const SEED: u64 = 0x6572_6173;
@@ -77,7 +80,7 @@ pub fn add_groups(file: &mut CaseFile) {
     let rng = &mut Rng::new(SEED);
     file.group("T-01, here and below: 01's words with erasures, by hand");
     cases_by_hand(file, &ERASED);
-    near_misses(file, &ERASURE_NEAR_MISSES, rng);
+    near_misses(file, &ERASURE_NEAR_MISSES, OF_EACH_NEAR_MISS, rng);
     every_position_and_pair(file, rng);
     received(file, &RECEIVED, rng);
     symbols_out_of_range(file, rng);

@@ -1,6 +1,7 @@
 //! words: received words of all profiles, and what decoding answers.
 
 mod erasures;
+mod errors;
 
 use std::iter::repeat_with;
 
@@ -11,7 +12,8 @@ use coder::examples::DECODED;
 use coder::near_misses::{NearMiss, NEAR_MISSES};
 use coder::profile::{Profile, PROFILES};
 use coder::random_words::{
-    both_check_symbols, by_another_choice, changed_at, codeword, encoded, with_changes, Build,
+    both_check_symbols, by_another_choice, changed_at, codeword, encoded, one_check_symbol,
+    with_changes, Build,
 };
 use coder::rng::Rng;
 use coder::text::digits;
@@ -43,12 +45,13 @@ pub fn make() -> CaseFile {
     let rng = &mut Rng::new(SEED);
     file.group("cases of 01");
     cases_by_hand(&mut file, &DECODED);
-    near_misses(&mut file, &NEAR_MISSES, rng);
+    near_misses(&mut file, &NEAR_MISSES, OF_EACH_NEAR_MISS, rng);
     every_position_and_level(&mut file, rng);
     received(&mut file, &RECEIVED, rng);
     symbols_out_of_range(&mut file, rng);
     order_of_refusals(&mut file, rng);
     erasures::add_groups(&mut file);
+    errors::add_groups(&mut file);
     file
 }
 
@@ -74,21 +77,23 @@ fn cases_by_hand(file: &mut CaseFile, cases: &[(&str, &str)]) {
     }
 }
 
-/// The words of every near miss, for every profile in which it does harm.
-fn near_misses(file: &mut CaseFile, table: &[NearMiss], rng: &mut Rng) {
+/// So many words of every near miss, for every profile in which it does harm.
+fn near_misses(file: &mut CaseFile, table: &[NearMiss], count: usize, rng: &mut Rng) {
     for near_miss in table {
         file.group(format!("near miss {:?}: {}", near_miss.slip, near_miss.name));
         for profile in &PROFILES {
-            for word in near_miss.words(profile, OF_EACH_NEAR_MISS, rng) {
+            for word in near_miss.words(profile, count, rng) {
                 add_word(file, profile, &word);
             }
         }
     }
 }
 
-/// A codeword and all its neighbours in one position.
+/// A codeword and all its neighbours in one position. In w they have every error (02, T-02).
 fn every_position_and_level(file: &mut CaseFile, rng: &mut Rng) {
-    file.group("a codeword of each profile, and every position and level of it");
+    file.group(
+        "a codeword of each profile, and every position and level of it: every error of T-02 in w",
+    );
     for profile in &PROFILES {
         let word = codeword(profile, rng);
         for (_, neighbour) in within_one(profile, &word) {
@@ -107,13 +112,6 @@ fn received(file: &mut CaseFile, table: &[Received], rng: &mut Rng) {
             }
         }
     }
-}
-
-/// A codeword with another level at one check symbol.
-fn one_check_symbol(profile: &Profile, rng: &mut Rng) -> Option<Vec<u8>> {
-    let word = codeword(profile, rng);
-    let position = profile.m() + rng.from_one_to(2);
-    Some(changed_at(profile, &word, &[position], rng))
 }
 
 /// A word that only its components give away as no codeword, as a rule.

@@ -1,0 +1,39 @@
+/* What the header's macros read of an answer, tried by the compiler: there is nothing to run.
+ *
+ * At the top of the repository:
+ *   cc -std=c11 -Iinclude -fsyntax-only tests/header/macros.c
+ */
+#include "fogzurt.h"
+
+/* An answer with `value` in the byte at an index, from 0, and `others` in every other one. */
+#define BYTE(index, value) ((uint64_t)(value) << 8 * (index))
+#define AMONG(index, value, others) \
+    (BYTE(index, value) | (UINT64_C(0x0101010101010101) * (others) & ~BYTE(index, 0xff)))
+
+/* Each part is its own byte, whatever the others hold. */
+#define IS_BYTE(macro, index)                                                      \
+    _Static_assert(macro(AMONG(index, 0x5a, 0)) == 0x5a, "the byte of " #macro);   \
+    _Static_assert(macro(AMONG(index, 0x5a, 0xff)) == 0x5a, "no more in " #macro); \
+    _Static_assert(macro(AMONG(index, 0, 0xff)) == 0, "nothing else in " #macro)
+
+IS_BYTE(FOGZURT_NUMBER, 0);
+IS_BYTE(FOGZURT_KIND, 1);
+IS_BYTE(FOGZURT_POSITION, 2);
+IS_BYTE(FOGZURT_SENT_SYMBOL, 3);
+IS_BYTE(FOGZURT_SECOND_POSITION, 4);
+IS_BYTE(FOGZURT_SECOND_SENT_SYMBOL, 5);
+IS_BYTE(FOGZURT_ERROR, 6);
+
+/* The error is signed: its byte is a two's complement. */
+#define IS_ERROR(value, byte)                                                               \
+    _Static_assert(FOGZURT_ERROR(AMONG(6, byte, 0)) == (value), "error " #value);           \
+    _Static_assert(FOGZURT_ERROR(AMONG(6, byte, 0xff)) == (value), "error " #value " alone")
+
+IS_ERROR(1, 0x01);
+IS_ERROR(6, 0x06);
+IS_ERROR(127, 0x7f);
+IS_ERROR(-1, 0xff);
+IS_ERROR(-2, 0xfe);
+IS_ERROR(-6, 0xfa);
+IS_ERROR(-128, 0x80);
+_Static_assert(FOGZURT_ERROR(0) - 1 < 0, "an int, and not an unsigned number");
