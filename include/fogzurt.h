@@ -43,12 +43,15 @@
 extern "C" {
 #endif
 
-/* Major, minor: a major step breaks a caller. 2.1 added FOGZURT_ERROR and no more: each macro masks
- * its own byte of an answer, so a caller of 2.0 stays as it is. */
+/* Major, minor: a major step breaks a caller. 2.1 added FOGZURT_ERROR and 2.2 FOGZURT_TRIED, and no more:
+ * each macro masks its own byte of an answer, so a caller of 2.0 that asks by the macros stays as it is.
+ * Since 2.2 an answer of fogzurt_decode with the number 4 may have more than its lowest byte. A caller
+ * that compares the whole answer with 4, and not FOGZURT_NUMBER of it, as the rule above has always
+ * said, has to be changed. */
 #define FOGZURT_VERSION_MAJOR 2
-#define FOGZURT_VERSION_MINOR 1
+#define FOGZURT_VERSION_MINOR 2
 
-/* The number in an answer: 0, or why the call was refused. */
+/* The number in an answer: 0, or why the call was refused. Compare this, and never a whole answer. */
 #define FOGZURT_NUMBER(answer) ((unsigned)((uint64_t)(answer) & 0xff))
 
 /* The numbers. 9, the form of a line, is the program boxlines' alone. */
@@ -104,8 +107,8 @@ uint64_t fogzurt_encode(uint64_t profile, const uint8_t *first, size_t first_len
 uint64_t fogzurt_decode(uint64_t profile, const uint8_t *word, size_t word_len, uint8_t *first,
                         size_t first_len, uint8_t *second, size_t second_len);
 
-/* The parts of fogzurt_decode's answer, a byte each, above the number. The last byte has no macro: it
- * is 0 in this version, and is not to be tested. */
+/* The parts of fogzurt_decode's answer, a byte each, above the number. Where the call was refused they are
+ * 0, but for FOGZURT_TRIED with FOGZURT_ERR_UNREADABLE. */
 
 /* What the word turned out to be. */
 #define FOGZURT_KIND(answer) ((unsigned)((uint64_t)(answer) >> 8 & 0xff))
@@ -131,6 +134,15 @@ enum {
  * too low. 0 where the word is clean, filled or refused. A signed int; the numbers of refusals are
  * FOGZURT_NUMBER's. */
 #define FOGZURT_ERROR(answer) ((int)(((uint64_t)(answer) >> 48 & 0xff) ^ 0x80) - 0x80)
+
+/* How many positions were tried for the symbol that is wrong (the request's "tried places"): positions of
+ * one half, the odd ones or the even ones, of the word without its two check symbols. Where the symbols of
+ * that part add up to too much or too little, and exactly one of the two check symbols disagrees with its
+ * half, the positions of that half are counted in rising order: up to and including the one that was corrected or,
+ * with FOGZURT_ERR_UNREADABLE, all of them. At most 9, 27, 25 or 49, for profiles 1 to 4. It tells of
+ * the word, and not how long the call took. 0 where the word is clean or filled, where a check symbol was
+ * corrected, for other unreadable words, those with erasures among them, and for every other refusal. */
+#define FOGZURT_TRIED(answer) ((unsigned)((uint64_t)(answer) >> 56 & 0xff))
 
 /* The bytes of a cell, and of a record that is copied out: byte 0 is 0, then come the box number,
  * the profile and the word's symbols, any of which may be FOGZURT_ERASURE, and then zeros. */

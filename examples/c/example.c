@@ -36,6 +36,11 @@ static void print_symbols(const char *label, const uint8_t *symbols, size_t leng
     printf("\n");
 }
 
+/* Prints how many positions were tried for the symbol that is wrong. */
+static void print_tried(unsigned tried) {
+    printf("  positions tried: %u\n", tried);
+}
+
 /* Prints the error of a corrected symbol: received minus sent. */
 static void print_error(int error) {
     printf("  error %+d: it arrived %d too %s\n", error, abs(error), error > 0 ? "high" : "low");
@@ -47,12 +52,16 @@ static void print_decoded(const uint8_t *word) {
     uint64_t answer = fogzurt_decode(PROFILE, word, WORD, first, MESSAGE, second, MESSAGE);
     if (FOGZURT_NUMBER(answer) != FOGZURT_OK) {
         printf("  cannot be read: number %u\n", FOGZURT_NUMBER(answer));
+        if (FOGZURT_NUMBER(answer) == FOGZURT_ERR_UNREADABLE) {
+            print_tried(FOGZURT_TRIED(answer));
+        }
         return;
     }
     if (FOGZURT_KIND(answer) == FOGZURT_KIND_CORRECTED) {
         printf("  corrected: a %u was sent at position %u\n", FOGZURT_SENT_SYMBOL(answer),
                FOGZURT_POSITION(answer));
         print_error(FOGZURT_ERROR(answer));
+        print_tried(FOGZURT_TRIED(answer));
     } else if (FOGZURT_KIND(answer) == FOGZURT_KIND_FILLED) {
         printf("  filled: a %u was sent at position %u", FOGZURT_SENT_SYMBOL(answer),
                FOGZURT_POSITION(answer));
@@ -91,6 +100,11 @@ int main(void) {
     word[6 - 1] = 0;
     print_symbols("received          ", word, WORD);
     print_decoded(word);
+
+    word[8 - 1] = 0; /* a second one: no codeword is within one position */
+    print_symbols("received          ", word, WORD);
+    print_decoded(word);
+    word[8 - 1] = 1;
 
     word[6 - 1] = FOGZURT_ERASURE;
     print_symbols("received          ", word, WORD);

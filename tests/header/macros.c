@@ -23,6 +23,7 @@ IS_BYTE(FOGZURT_SENT_SYMBOL, 3);
 IS_BYTE(FOGZURT_SECOND_POSITION, 4);
 IS_BYTE(FOGZURT_SECOND_SENT_SYMBOL, 5);
 IS_BYTE(FOGZURT_ERROR, 6);
+IS_BYTE(FOGZURT_TRIED, 7);
 
 /* The error is signed: its byte is a two's complement. */
 #define IS_ERROR(value, byte)                                                               \
@@ -37,3 +38,16 @@ IS_ERROR(-2, 0xfe);
 IS_ERROR(-6, 0xfa);
 IS_ERROR(-128, 0x80);
 _Static_assert(FOGZURT_ERROR(0) - 1 < 0, "an int, and not an unsigned number");
+
+/* The count has the highest byte, and is no negative number there. */
+_Static_assert(FOGZURT_TRIED(AMONG(7, 0xff, 0)) == 255, "the highest byte");
+_Static_assert(FOGZURT_TRIED(INT64_MIN) == 128, "the highest bit, also of a signed number");
+_Static_assert(FOGZURT_TRIED(0) - 1 > 0, "an unsigned number");
+
+/* A refusal with a count: the number is its lowest byte, and no longer the whole answer. */
+#define UNREADABLE(tried) (BYTE(7, tried) | FOGZURT_ERR_UNREADABLE)
+_Static_assert(UNREADABLE(49) != FOGZURT_ERR_UNREADABLE, "more than the number");
+_Static_assert(FOGZURT_NUMBER(UNREADABLE(49)) == FOGZURT_ERR_UNREADABLE, "the number of it");
+_Static_assert(FOGZURT_KIND(UNREADABLE(49)) == FOGZURT_KIND_NONE, "the kind of it");
+_Static_assert(FOGZURT_ERROR(UNREADABLE(49)) == 0, "the error of it");
+_Static_assert(FOGZURT_TRIED(UNREADABLE(49)) == 49, "the count of it");

@@ -1,7 +1,7 @@
 //! Decoding (01: read), in O(m·r): both syndromes are formed once, and moved for each position
 //! that may hold the wrong symbol.
 
-use coder::decode::{Decoded, Kind, Sent};
+use coder::decode::{Answer, Decoded, Kind, Sent};
 use coder::refusal::{require, Refusal};
 
 use crate::code::{dot, Code, Symbols, MAX_M, MAX_R};
@@ -13,15 +13,20 @@ pub(crate) type Syndromes = [i16; 2 * MAX_R];
 /// For each component, the position from which 1 is to be taken, or 0 if it is in code.
 pub(crate) type Added = [usize; 2];
 
-/// The index of a wrong symbol, what was sent there, and the error: received minus sent.
+/// The index of a wrong symbol, what was sent there, the error (received minus sent), and how many
+/// positions were tried for it.
 struct Correction {
     index: usize,
     symbol: u8,
     error: i16,
+    tried: usize,
 }
 
 /// The correction, if a symbol is wrong, and what the components then are.
 type Found = (Option<Correction>, Added);
+
+/// No codeword is near, and no position was tried.
+pub(crate) const UNREADABLE: Refusal = Refusal::Unreadable { tried: 0 };
 
 /// Decodes a received word. Refusals 1, 2, 3, 11 and 4, in this order.
 pub fn decode(
@@ -29,7 +34,7 @@ pub fn decode(
     word: &[u8],
     first: &mut [u8],
     second: &mut [u8],
-) -> Result<Decoded, Refusal> {
+) -> Result<Answer, Refusal> {
     for_profile!(profile, decode(word, first, second))
 }
 
@@ -38,24 +43,27 @@ impl<const Q: usize, const R: usize, const N: usize> Code<Q, R, N> {
         word: &[u8],
         first: &mut [u8],
         second: &mut [u8],
-    ) -> Result<Decoded, Refusal> {
+    ) -> Result<Answer, Refusal> {
         require(word.len() == Self::LENGTH, Refusal::Length)?;
         require(first.len() == Self::K && second.len() == Self::K, Refusal::Length)?;
         if !Self::has_symbols(word) {
             return Self::decode_erased(word, first, second);
         }
         let mut w = Self::symbols(word, |byte| byte);
-        let (correction, added) = Self::find(&w, word).ok_or(Refusal::Unreadable)?;
+        let (correction, added) = Self::find(&w, word)?;
         if let Some(Correction { index, symbol, .. }) = correction {
             if index < Self::M {
                 w[index] = i16::from(symbol);
             }
         }
         Self::write_messages(&w, added, first, second);
-        Ok(correction.map_or(Decoded::CLEAN, |Correction { index, symbol, error }| Decoded {
-            kind: Kind::Corrected(Sent { position: index + 1, symbol }),
-            error,
-        }))
+        Ok(match correction {
+            None => Answer { decoded: Decoded::CLEAN, tried: 0 },
+            Some(Correction { index, symbol, error, tried }) => {
+                let kind = Kind::Corrected(Sent { position: index + 1, symbol });
+                Answer { decoded: Decoded { kind, error }, tried }
+            }
+        })
     }
 
     // What must be inlined here has two callers, and a call costs a clean word a tenth of its time.
@@ -71,18 +79,21 @@ impl<const Q: usize, const R: usize, const N: usize> Code<Q, R, N> {
     }
 
     /// Where the word differs from a codeword, and what its components then are.
-    fn find(w: &Symbols, word: &[u8]) -> Option<Found> {
+    fn find(w: &Symbols, word: &[u8]) -> Result<Found, Refusal> {
         let [odd, even] = Self::parity_sums(w);
         let off = [(odd + Self::DELTA, Self::M), (even, Self::M + 1)]
             .map(|(sum, check)| Self::mod_q(sum + Q as i16 - i16::from(word[check])));
         let syndromes = Self::syndromes(w);
         match (odd + even - Self::BALANCING_VALUE, off) {
-            (0, [0, 0]) => Some((None, Self::added(&syndromes)?)),
-            (0, [_, 0]) => Self::wrong_check(word, 0, off, &syndromes),
-            (0, [0, _]) => Self::wrong_check(word, 1, off, &syndromes),
-            (excess, [by, 0]) => Self::wrong_symbol(w, 0, excess, by, &syndromes),
-            (excess, [0, by]) => Self::wrong_symbol(w, 1, excess, by, &syndromes),
-            _ => None,
+            (0, [0, 0]) => Ok((None, Self::added(&syndromes).ok_or(UNREADABLE)?)),
+            (0, [_, 0]) => Self::wrong_check(word, 0, off, &syndromes).ok_or(UNREADABLE),
+            (0, [0, _]) => Self::wrong_check(word, 1, off, &syndromes).ok_or(UNREADABLE),
+            (_, [0, 0]) => Err(UNREADABLE),
+            (excess, [by, 0]) => Self::wrong_symbol(w, 0, excess, by, &syndromes)
+                .ok_or(Refusal::Unreadable { tried: N + 1 }),
+            (excess, [0, by]) => Self::wrong_symbol(w, 1, excess, by, &syndromes)
+                .ok_or(Refusal::Unreadable { tried: N }),
+            _ => Err(UNREADABLE),
         }
     }
 
@@ -105,7 +116,8 @@ impl<const Q: usize, const R: usize, const N: usize> Code<Q, R, N> {
         let index = Self::M + check;
         let received = i16::from(word[index]);
         let symbol = Self::mod_q(received + off[check]);
-        let correction = Correction { index, symbol: symbol as u8, error: received - symbol };
+        let error = received - symbol;
+        let correction = Correction { index, symbol: symbol as u8, error, tried: 0 };
         Some((Some(correction), Self::added(syndromes)?))
     }
 
@@ -127,7 +139,8 @@ impl<const Q: usize, const R: usize, const N: usize> Code<Q, R, N> {
                 return None;
             }
             let added = Self::added(&Self::moved(syndromes, index, excess))?;
-            Some((Some(Correction { index, symbol: level as u8, error: excess }), added))
+            let tried = index / 2 + 1;
+            Some((Some(Correction { index, symbol: level as u8, error: excess, tried }), added))
         })
     }
 

@@ -1,12 +1,12 @@
 //! Decoding of words with erasures (02, T-01: marks), in O(m·r + q·r): all sums are formed once, with
 //! 0 at the erasures, and moved for each filling of w that balances it.
 
-use coder::decode::{Decoded, Kind, Sent};
+use coder::decode::{Answer, Decoded, Kind, Sent};
 use coder::erasure::ERASURE;
 use coder::refusal::{require, Refusal};
 
 use crate::code::{highest_received, Code, MAX_M};
-use crate::decode::{Added, Syndromes};
+use crate::decode::{Added, Syndromes, UNREADABLE};
 
 /// The indices of the erased symbols, one or two, rising.
 struct Erased {
@@ -36,12 +36,12 @@ impl<const Q: usize, const R: usize, const N: usize> Code<Q, R, N> {
         word: &[u8],
         first: &mut [u8],
         second: &mut [u8],
-    ) -> Result<Decoded, Refusal> {
+    ) -> Result<Answer, Refusal> {
         require(highest_received(word) <= Q as u8, Refusal::Symbol)?;
         let erased = Erased::of(word).ok_or(Refusal::Erasures)?;
         let mut w = Self::symbols(word, |byte| if byte == ERASURE { 0 } else { byte });
         let sums = Sums { parity: Self::parity_sums(&w), syndromes: Self::syndromes(&w) };
-        let filling = Self::fill(&sums, word, &erased).ok_or(Refusal::Unreadable)?;
+        let filling = Self::fill(&sums, word, &erased).ok_or(UNREADABLE)?;
         for (index, level) in filling.levels {
             w[index] += level;
         }
@@ -51,7 +51,7 @@ impl<const Q: usize, const R: usize, const N: usize> Code<Q, R, N> {
             Sent { position: index + 1, symbol: symbol as u8 }
         };
         let kind = Kind::Filled(sent(erased.one), erased.other.map(sent));
-        Ok(Decoded { kind, error: 0 })
+        Ok(Answer { decoded: Decoded { kind, error: 0 }, tried: 0 })
     }
 
     /// The filling of w that makes the word a codeword. What the weight lacks is one erasure's

@@ -1,6 +1,6 @@
 //! One line of the program boxlines: the answer to its bytes.
 
-use coder::decode::{Kind, Sent};
+use coder::decode::{Answer as Decoding, Kind, Sent};
 use coder::erasure::ERASURE;
 use coder::refusal::{require, Refusal};
 use coder::text::ERASURE_BYTE;
@@ -98,7 +98,7 @@ impl Answer<'_> {
         let length = shape(number)?.message_length;
         let (mut first, mut second) = ([0; MESSAGE], [0; MESSAGE]);
         let (first, second) = (&mut first[..length], &mut second[..length]);
-        let decoded = decode(number, word, first, second)?;
+        let Decoding { decoded, .. } = decode(number, word, first, second)?;
         self.put(&[*profile]);
         match decoded.kind {
             Kind::Clean => self.put(b" C 0 0"),

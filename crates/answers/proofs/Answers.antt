@@ -24,13 +24,13 @@ use Rattle.answers.specs.Writing.{shownLine, Small}
 line-shown : (i : ℕ) (d : Answer) (out out′ : List ℕ)
     → shownLine i (report d) (decodeOutput true d out) (decodeOutput false d out′) ≡ answerLine i d
 line-shown i (refused n) out out′ = refl
-line-shown i (answered unreadable) out out′ = refl
-line-shown i (answered (read f a b)) out out′ = refl
+line-shown i (answered unreadable t) out out′ = refl
+line-shown i (answered (read f a b) t) out out′ = refl
 
 small-report : (d : Answer) (out out′ : List ℕ) → SmallAnswer d → Small (report d) (decodeOutput true d out) (decodeOutput false d out′)
 small-report (refused n) out out′ s = s
-small-report (answered unreadable) out out′ s = tt
-small-report (answered (read f a b)) out out′ s = s
+small-report (answered unreadable t) out out′ s = tt
+small-report (answered (read f a b) t) out out′ s = (s .1, s .2, s .3)
 
 -- the outputs a and b are left as a′ and b′, and r is reported
 module _ (i : ℕ) (u a b a′ b′ : List ℕ) (r : Report) (tells : r ≡ report (decodeAnswer i u (length a) (length b)))

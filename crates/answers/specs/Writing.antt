@@ -23,11 +23,11 @@ headingOf i c cs = digitByte i ∷ 32 ∷ c ∷ 32 ∷ changesBefore cs []
 -- the output line from what decoding reports and leaves in its two outputs
 abbrev pub shownLine : ℕ → Report → List ℕ → List ℕ → List ℕ
 shownLine i (refusal n) a b = refusalLine n
-shownLine i failure a b = refusalLine 4
-shownLine i (success f) a b = readingLine i (letter f) (changesOf f) (errorOf f) a b
+shownLine i (failure t) a b = refusalLine 4
+shownLine i (success f t) a b = readingLine i (letter f) (changesOf f) (errorOf f) a b
 
 -- at most two digits for a refusal's number and for a position, one for a symbol and for the error
 abbrev pub Small : Report → List ℕ → List ℕ → Type 0
 Small (refusal n) a b = n ≤ 99
-Small failure a b = Unit {0}
-Small (success f) a b = FindingWithin 99 9 f × Below 10 a × Below 10 b
+Small (failure t) a b = Unit {0}
+Small (success f t) a b = FindingWithin 99 9 f × Below 10 a × Below 10 b

@@ -45,7 +45,7 @@ fn write_decoded(
         Decoded::Filled(changes) => {
             crate::text::reading_line(out, profile, b'F', changes, 0, first, second)
         }
-        Decoded::Unreadable => crate::text::refusal_line(out, 4),
+        Decoded::Unreadable(_) => crate::text::refusal_line(out, 4),
         Decoded::Refused(number) => crate::text::refusal_line(out, number),
     }
 }

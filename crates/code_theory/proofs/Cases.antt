@@ -1,4 +1,4 @@
--- The starred cases and those with erasures, computed.
+-- The starred cases, those with erasures, and how many positions are tried, computed.
 -- Assumes nothing.
 use mathlib.Core.Path.{refl}
 use Rattle.modular_theory.specs.Residue.{minus}
@@ -6,21 +6,28 @@ use Rattle.code_theory.specs.Parameters.{balancingValue, delta}
 use Rattle.code_theory.specs.Component.{syndrome, inCode, isCheck, message, candidate, component}
 use Rattle.code_theory.specs.Balance.{chosen, balances, earliestS, earliestV, balanced}
 use Rattle.code_theory.specs.Codeword.{alpha, beta, withChecks, interleaved, encoded, body, received, nearCode}
-use Rattle.code_theory.specs.Codeword.{restored, isBalanced, hasChecks, nearComponents, hasComponents, codeword, carried}
+use Rattle.code_theory.specs.Codeword.{restored, isBalanced, checkSumAgrees, hasChecks, nearComponents}
+use Rattle.code_theory.specs.Codeword.{hasComponents, codeword, carried}
 use Rattle.code_theory.specs.Erasures.{filling, firstFilling}
 use Rattle.code_theory.specs.Reading.{mends, changedAt, sentAt, nearReading, reading, filledReading, receivedReading}
+use Rattle.code_theory.specs.TriedPositions.{searched, triedPositions}
 use Rattle.code_theory.specs.Profiles.{profile}
 use Rattle.code_theory.specs.Operations.{decodeAnswer}
-use Rattle.code_theory.specs.Cases.{AllHold, starred, erased}
+use Rattle.code_theory.specs.Cases.{AllHold, starred, erased, counted}
 
 pub starred-hold : AllHold starred
 unfolding minus balancingValue delta syndrome inCode isCheck message candidate component chosen balances earliestS earliestV balanced alpha
-    beta withChecks interleaved encoded body received nearCode restored isBalanced hasChecks nearComponents hasComponents codeword carried
-    mends changedAt sentAt nearReading reading receivedReading profile decodeAnswer
+    beta withChecks interleaved encoded body received nearCode restored isBalanced checkSumAgrees hasChecks nearComponents hasComponents
+    codeword carried mends changedAt sentAt nearReading reading receivedReading profile decodeAnswer
 starred-hold =
     ((refl, refl, refl, refl), (refl, (refl, (refl, (refl, (refl, ((refl, refl, refl), (refl, (refl, (refl, (refl, tt)))))))))))
 
 pub erased-hold : AllHold erased
-unfolding minus balancingValue delta syndrome inCode isCheck message alpha beta body received nearCode restored isBalanced hasChecks
-    nearComponents hasComponents codeword carried filling firstFilling filledReading receivedReading profile decodeAnswer
+unfolding minus balancingValue delta syndrome inCode isCheck message alpha beta body received nearCode restored isBalanced checkSumAgrees
+    hasChecks nearComponents hasComponents codeword carried filling firstFilling filledReading receivedReading profile decodeAnswer
 erased-hold = (refl, (refl, (refl, (refl, (refl, (refl, (refl, (refl, (refl, (refl, tt))))))))))
+
+pub counted-hold : AllHold counted
+unfolding minus balancingValue delta syndrome inCode alpha beta body received nearCode isBalanced checkSumAgrees hasChecks nearComponents
+    hasComponents codeword mends changedAt sentAt nearReading reading searched triedPositions profile
+counted-hold = (refl, (refl, (refl, (refl, (refl, (refl, (refl, (refl, (refl, (refl, (refl, (refl, (refl, tt)))))))))))))

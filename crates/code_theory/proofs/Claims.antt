@@ -12,8 +12,9 @@ use Rattle.code_theory.proofs.Reading.{near-is-one, reading-is, reading
 use Rattle.code_theory.proofs.Errors.{error-carried, errors-told}
 use Rattle.code_theory.proofs.Whole.{received-symbols, whole-reading}
 use Rattle.code_theory.proofs.Erased.{erasures-filled, erased-by-filling}
+use Rattle.code_theory.proofs.TriedPositions.{counts-told, most-tried}
 use Rattle.code_theory.proofs.Profiles.{profiles-fit}
-use Rattle.code_theory.proofs.Cases.{starred-hold, erased-hold}
+use Rattle.code_theory.proofs.Cases.{starred-hold, erased-hold, counted-hold}
 
 pub claims : Claims
 claims =
@@ -38,7 +39,10 @@ claims =
       erasures-filled = erasures-filled;
       whole-reading = whole-reading;
       erased-by-filling = erased-by-filling;
+      counts-told = counts-told;
+      most-tried = most-tried;
       profiles-fit = profiles-fit;
       starred-hold = starred-hold;
       erased-hold = erased-hold;
+      counted-hold = counted-hold;
     }

@@ -2,7 +2,7 @@
 -- Assumes nothing.
 use mathlib.Core.Path.{_≡_, sym, ap, ap₂, subst, _∙_}
 use mathlib.Core.Logic.{⊎-elim}
-use mathlib.Core.Bool.{Bool, true, false, _&&_}
+use mathlib.Core.Bool.{true, false, _&&_}
 use mathlib.Core.List.{List, [], _∷_, _++_}
 use Prim.Native.Nat.{ℕ, suc, _+_, _≤_, _<_}
 use native.Mathlib.Numerals.{add-one}
@@ -15,7 +15,7 @@ use Rattle.modular_theory.proofs.Search.{eq-test, and-left, and-right, and-intr
 use Rattle.code_theory.specs.Parameters.{Parameters, balancedLength, codewordLength, balancingValue}
 use Rattle.code_theory.specs.Component.{symbolsBelow, isWord, inCode}
 use Rattle.code_theory.specs.Codeword.{alpha, beta, withChecks, body, received, nearCode, isBalanced}
-use Rattle.code_theory.specs.Codeword.{hasChecks, nearComponents, hasComponents, codeword}
+use Rattle.code_theory.specs.Codeword.{checkSumAgrees, hasChecks, nearComponents, hasComponents, codeword}
 use Rattle.code_theory.proofs.Weights.{double, double-is}
 use Rattle.code_theory.proofs.Syndrome.{code-zero, zero-code, near-cases, zero-near, column-near}
 use Rattle.code_theory.proofs.Moves.{Near, neither, first, second, NearIn}
@@ -81,15 +81,8 @@ two-last m u e =
     sym (take-append-drop m u)
     ∙ ap (λ (t : List ℕ). take m u ++ t) (drop-cons u m 0 i ∙ ap (λ (t : List ℕ). getD u m 0 ∷ t) tail)
 
--- the two check symbols, each by its test
-abbrev alphaRight : Parameters → List ℕ → Bool
-alphaRight p u = eqb (getD u (balancedLength p) 0) (alpha (p .q) (body p u))
-
-abbrev betaRight : Parameters → List ℕ → Bool
-betaRight p u = eqb (getD u (balancedLength p + 1) 0) (beta (p .q) (body p u))
-
 pub conditions : (p : Parameters) → 1 ≤ p .q → (u : List ℕ) → T (codeword p u) → Conditions p u
-unfolding codeword isBalanced hasChecks hasComponents withChecks body
+unfolding codeword isBalanced checkSumAgrees hasChecks hasComponents withChecks body
 conditions p h u k = from (and-parts (isWord (p .q) (codewordLength p) u) (isBalanced p u) (hasChecks p u) (hasComponents p u) k)
   where
     from : T (isWord (p .q) (codewordLength p) u) × T (isBalanced p u) × T (hasChecks p u) × T (hasComponents p u) → Conditions p u
@@ -101,8 +94,8 @@ conditions p h u k = from (and-parts (isWord (p .q) (codewordLength p) u) (isBal
           checks =
               two-last (balancedLength p) u long
               ∙ ap₂ (λ (x y : ℕ). take (balancedLength p) u ++ (x ∷ y ∷ []))
-              (eqb→eq _ _ (and-left (alphaRight p u) (betaRight p u) (t .2)))
-              (eqb→eq _ _ (and-right (alphaRight p u) (betaRight p u) (t .2)));
+              (eqb→eq _ _ (and-left (checkSumAgrees p true u) (checkSumAgrees p false u) (t .2)))
+              (eqb→eq _ _ (and-right (checkSumAgrees p true u) (checkSumAgrees p false u) (t .2)));
           near = components-near p h (received p true u) (received p false u) (t .3);
         }
       where
@@ -117,10 +110,10 @@ body-with-checks p w e = take-at w (alpha (p .q) w ∷ beta (p .q) w ∷ []) (ba
 -- a word of m symbols that balances, with its check symbols, is a codeword where its components are near the code
 pub codeword-of : (p : Parameters) → 1 ≤ p .q → (w : List ℕ) → length w ≡ balancedLength p → T (symbolsBelow (p .q) (withChecks (p .q) w))
     → weight w ≡ balancingValue (p .q) (balancedLength p) → NearIn p w → T (codeword p (withChecks (p .q) w))
-unfolding codeword isBalanced hasChecks hasComponents withChecks received
+unfolding codeword isBalanced checkSumAgrees hasChecks hasComponents withChecks received
 codeword-of p h w e b k z =
     and-four (isWord (p .q) (codewordLength p) u) (isBalanced p u) (hasChecks p u) (hasComponents p u) word (eq-test (ap weight here ∙ k))
-    (and-intro (alphaRight p u) (betaRight p u) (eq-test (first-check ∙ ap (alpha (p .q)) (sym here)))
+    (and-intro (checkSumAgrees p true u) (checkSumAgrees p false u) (eq-test (first-check ∙ ap (alpha (p .q)) (sym here)))
     (eq-test (second-check ∙ ap (beta (p .q)) (sym here))))
     (near-components p h (received p true u) (received p false u) (subst (NearIn p) (sym here) z))
   where

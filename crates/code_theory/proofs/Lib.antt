@@ -28,6 +28,8 @@ pub mod Errors
 pub mod Whole
 pub mod Filling
 pub mod Erased
+-- How many positions are tried
+pub mod TriedPositions
 -- The pair that a codeword carries
 pub mod Restored
 pub mod Delta

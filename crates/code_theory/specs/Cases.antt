@@ -1,4 +1,5 @@
--- The starred cases of document 01 ("Checked by hand"), and words with erased symbols (02, T-01), a row each.
+-- The starred cases of document 01 ("Checked by hand"), words with erased symbols (02, T-01), and how many positions are tried (02, T-08):
+-- a row each.
 -- Assumes nothing.
 use mathlib.Core.Path.{_≡_}
 use mathlib.Core.List.{List, [], _∷_, _++_}
@@ -11,6 +12,7 @@ use Rattle.code_theory.specs.Component.{component}
 use Rattle.code_theory.specs.Balance.{earliestS, earliestV, balanced}
 use Rattle.code_theory.specs.Codeword.{interleaved, encoded}
 use Rattle.code_theory.specs.Reading.{Change, change, corrected, filled, Reading, read, unreadable, receivedReading}
+use Rattle.code_theory.specs.TriedPositions.{triedPositions}
 use Rattle.code_theory.specs.Profiles.{row, profile}
 use Rattle.code_theory.specs.Operations.{decodeAnswer, report, reportNumber}
 
@@ -27,6 +29,8 @@ pub data Case : Type 0 where
   decoding : ℕ → List ℕ → Reading → Case
   -- profile, received word; the number that refuses it
   refusing : ℕ → List ℕ → ℕ → Case
+  -- profile, received word; how many positions are tried
+  counting : ℕ → List ℕ → ℕ → Case
 
 -- parameters of q levels, for a case that gives no r and no n: to balancing they do not matter
 abbrev pub levelsOnly : ℕ → Parameters
@@ -43,6 +47,7 @@ Holds (choosing i a b s v u) =
 Holds (checking i a c) = component (profile i) a ≡ c
 Holds (decoding i u d) = receivedReading (profile i) u ≡ d
 Holds (refusing i u n) = reportNumber (report (decodeAnswer i u (messageLength (profile i)) (messageLength (profile i)))) ≡ n
+Holds (counting i u n) = triedPositions (profile i) u ≡ n
 
 abbrev pub AllHold : List Case → Type 0
 AllHold [] = Unit {0}
@@ -97,4 +102,30 @@ erased =
     -- three, and three beside a symbol that is no level
     ∷ refusing 1 (erase (erase (erase shown 0) 1) 2) 11
     ∷ refusing 1 (erase (erase (erase (set shown 3 3) 0) 1) 2) 3
+    ∷ []
+
+-- the zero pair's word of profile 1 with two symbols replaced
+abbrev pub twoReplaced : ℕ → ℕ → ℕ → ℕ → List ℕ
+twoReplaced i x j y = set (set (replicate 17 1 ++ (0 ∷ 2 ∷ [])) i x) j y
+
+abbrev pub counted : List Case
+counted =
+    -- found: the third of the even positions, and the last of the odd ones
+    counting 1 (set shown 5 2) 3
+    ∷ counting 1 (replicate 16 1 ++ (2 ∷ 0 ∷ 2 ∷ [])) 9
+    -- none fits: of the odd ones, of the even ones
+    ∷ counting 1 (twoReplaced 0 2 2 2) 9
+    ∷ counting 1 (twoReplaced 1 2 3 2) 8
+    -- nor where the check sum is off by something else than the weight, or the weight by q or more
+    ∷ counting 1 (twoReplaced 0 2 17 2) 9
+    ∷ counting 1 (twoReplaced 1 2 18 1) 8
+    ∷ counting 1 (set (set (twoReplaced 1 2 3 2) 5 2) 7 2) 8
+    -- both check sums disagree, neither does, the weight is right, a symbol is erased
+    ∷ counting 1 (twoReplaced 0 2 1 2) 0
+    ∷ counting 1 (twoReplaced 0 2 17 1) 0
+    ∷ counting 1 (replicate 17 1 ++ (0 ∷ 1 ∷ [])) 0
+    ∷ counting 1 (erase (set shown 5 2) 3) 0
+    -- found where δ is not 0
+    ∷ counting 3 (2 ∷ 2 ∷ 4 ∷ replicate 46 2 ++ (1 ∷ 3 ∷ [])) 2
+    ∷ counting 4 (3 ∷ 3 ∷ 6 ∷ replicate 94 3 ++ (2 ∷ 4 ∷ [])) 2
     ∷ []

@@ -2,7 +2,7 @@
 -- Assumes nothing.
 use mathlib.Core.Path.{_≡_}
 use mathlib.Core.Logic.{_≢_, _↔_, _⊎_}
-use mathlib.Core.Bool.{true, false}
+use mathlib.Core.Bool.{Bool, true, false, not}
 use mathlib.Core.List.{List, [], _∷_, map}
 use Prim.Native.Nat.{ℕ, _+_, _-_, _*_, _%_, _≤_, _<_}
 use lib.Dec.{T}
@@ -13,13 +13,15 @@ use Rattle.modular_theory.specs.Residue.{Invertible, Prime, minus}
 use Rattle.code_theory.specs.Parameters.{Parameters, Sized, messageLength, balancedLength, codewordLength, balancingValue, delta}
 use Rattle.code_theory.specs.Component.{isWord, erasure, isReceived, inCode, message, component}
 use Rattle.code_theory.specs.Balance.{chosen, earliestS, earliestV, balanced}
-use Rattle.code_theory.specs.Codeword.{alternate, withChecks, interleaved, encoded, received, lowered, codeword, carried}
+use Rattle.code_theory.specs.Codeword.{alternate, withChecks, interleaved, encoded, received, lowered}
+use Rattle.code_theory.specs.Codeword.{isBalanced, checkSumAgrees, codeword, carried}
 use Rattle.code_theory.specs.Erasures.{erasures, Agrees}
 use Rattle.code_theory.specs.Reading.{distance, Correction, Change, change, clean, corrected, filled, errorOf, findingOf, read}
 use Rattle.code_theory.specs.Reading.{unreadable, readAs, reading}
 use Rattle.code_theory.specs.Reading.{changesAt, filledReading, receivedReading}
+use Rattle.code_theory.specs.TriedPositions.{triedPositions}
 use Rattle.code_theory.specs.Profiles.{isProfile, profile, table, derivedRow}
-use Rattle.code_theory.specs.Cases.{AllHold, starred, erased}
+use Rattle.code_theory.specs.Cases.{AllHold, starred, erased, counted}
 
 -- Why a balance can always be found.
 
@@ -235,6 +237,32 @@ WholeReading = (p : Parameters) (v : List ℕ) → erasures v ≡ 0 → received
 abbrev pub ErasedByFilling : Type 0
 ErasedByFilling = (p : Parameters) (v : List ℕ) → 1 ≤ erasures v → receivedReading p v ≡ filledReading p v
 
+-- How many positions are tried (02, T-08).
+
+-- the count of a word v, whatever v is
+pub record CountTold (p : Parameters) (v : List ℕ) : Type 0 where
+  -- none where the weight is right, where a symbol is erased, and where both check sums agree or both disagree
+  pub if-balanced : T (isBalanced p v) → triedPositions p v ≡ 0
+  pub if-erased : 1 ≤ erasures v → triedPositions p v ≡ 0
+  pub if-alike : checkSumAgrees p true v ≡ checkSumAgrees p false v → triedPositions p v ≡ 0
+  -- otherwise, where none fits, all of the parity whose check sum disagrees: n + 1 odd ones (true), n even ones (false)
+  pub all : erasures v ≡ 0 → isBalanced p v ≡ false → (b : Bool) → checkSumAgrees p b v ≡ false → checkSumAgrees p (not b) v ≡ true
+      → reading p v ≡ unreadable → triedPositions p v ≡ elim b [ true ↦ p .n + 1 | false ↦ p .n ]
+  -- and never more than there are odd ones
+  pub most : triedPositions p v ≤ p .n + 1
+
+abbrev pub CountsTold : Type 0
+CountsTold = (p : Parameters) (v : List ℕ) → CountTold p v
+
+-- 02: "It never passes 9, 27, 25 and 49 for profiles 1 to 4"
+abbrev pub MostTried : Type 0
+MostTried =
+    (v : List ℕ)
+    → (triedPositions (profile 1) v ≤ 9)
+    × (triedPositions (profile 2) v ≤ 27)
+    × (triedPositions (profile 3) v ≤ 25)
+    × (triedPositions (profile 4) v ≤ 49)
+
 -- The four profiles are sized and prime, and their columns are those of 01's table.
 abbrev pub ProfilesFit : Type 0
 ProfilesFit =
@@ -247,6 +275,10 @@ StarredHold = AllHold starred
 -- Words with erasures.
 abbrev pub ErasedHold : Type 0
 ErasedHold = AllHold erased
+
+-- How many positions are tried.
+abbrev pub CountedHold : Type 0
+CountedHold = AllHold counted
 
 pub record Claims : Type 0 where
   pub balance-exists : BalanceExists
@@ -269,6 +301,9 @@ pub record Claims : Type 0 where
   pub erasures-filled : ErasuresFilled
   pub whole-reading : WholeReading
   pub erased-by-filling : ErasedByFilling
+  pub counts-told : CountsTold
+  pub most-tried : MostTried
   pub profiles-fit : ProfilesFit
   pub starred-hold : StarredHold
   pub erased-hold : ErasedHold
+  pub counted-hold : CountedHold

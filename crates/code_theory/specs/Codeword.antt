@@ -68,11 +68,14 @@ restored p c =
 unfoldable pub isBalanced : Parameters → List ℕ → Bool
 isBalanced p u = eqb (weight (body p u)) (balancingValue (p .q) (balancedLength p))
 
--- α and β are as in step 6
+-- the check symbol is as in step 6: α, by the odd places (true), or β, by the even ones (false); 02: the check sum agrees
+unfoldable pub checkSumAgrees : Parameters → Bool → List ℕ → Bool
+checkSumAgrees p true u = eqb (getD u (balancedLength p) 0) (alpha (p .q) (body p u))
+checkSumAgrees p false u = eqb (getD u (balancedLength p + 1) 0) (beta (p .q) (body p u))
+
+-- both are
 unfoldable pub hasChecks : Parameters → List ℕ → Bool
-hasChecks p u =
-    eqb (getD u (balancedLength p) 0) (alpha (p .q) (body p u))
-    && eqb (getD u (balancedLength p + 1) 0) (beta (p .q) (body p u))
+hasChecks p u = checkSumAgrees p true u && checkSumAgrees p false u
 
 -- at least one of two halves is in code, and the other is too or becomes so
 unfoldable pub nearComponents : Parameters → List ℕ → List ℕ → Bool

@@ -5,6 +5,7 @@ pub mod Balance
 pub mod Codeword
 pub mod Erasures
 pub mod Reading
+pub mod TriedPositions
 pub mod Profiles
 pub mod Operations
 pub mod Cases

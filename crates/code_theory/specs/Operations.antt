@@ -12,6 +12,7 @@ use Rattle.code_theory.specs.Component.{symbolsBelow, isReceived}
 use Rattle.code_theory.specs.Codeword.{encoded}
 use Rattle.code_theory.specs.Erasures.{erasures, mostErasures}
 use Rattle.code_theory.specs.Reading.{Finding, Reading, read, unreadable, receivedReading}
+use Rattle.code_theory.specs.TriedPositions.{triedPositions}
 use Rattle.code_theory.specs.Profiles.{isProfile, profile}
 
 -- 01: Write, what is tested, in this order: profile i, messages a and b, an output of l symbols
@@ -46,10 +47,10 @@ abbrev pub outcomeNumber : Outcome → ℕ
 outcomeNumber done = 0
 outcomeNumber (refusedBy k) = k
 
--- 01: Read, refused by one of the numbers 1 to 3 and 02's 11, or a reading
+-- 01: Read, refused by one of the numbers 1 to 3 and 02's 11, or a reading and how many positions were tried (02, T-08)
 pub data Answer : Type 0 where
   refused : ℕ → Answer
-  answered : Reading → Answer
+  answered : Reading → ℕ → Answer
 
 -- what is tested, in this order: profile i, received word u, outputs of k and l symbols
 abbrev pub decodeTests : ℕ → List ℕ → ℕ → ℕ → List Test
@@ -61,34 +62,41 @@ decodeTests i u k l =
     ∷ asks (leb (erasures u) (mostErasures p)) 11
     ∷ []
 
--- a reading, unless a number refuses
-abbrev pub readUnless : ℕ → Reading → Answer
-readUnless zero d = answered d
-readUnless (suc n) d = refused (suc n)
+-- a reading and a count, unless a number refuses
+abbrev pub readUnless : ℕ → Reading → ℕ → Answer
+readUnless zero d t = answered d t
+readUnless (suc n) d t = refused (suc n)
 
 unfoldable pub decodeAnswer : ℕ → List ℕ → ℕ → ℕ → Answer
-decodeAnswer i u k l = readUnless (firstRefusal (decodeTests i u k l)) (receivedReading (profile i) u)
+decodeAnswer i u k l = readUnless (firstRefusal (decodeTests i u k l)) (receivedReading (profile i) u) (triedPositions (profile i) u)
 
--- what is answered beside the outputs: the number of a refusal by 1 to 3 or 11, that no codeword was found, or what was
+-- what is answered beside the outputs: the number of a refusal by 1 to 3 or 11; or that no codeword was found, or what was, and how many
+-- positions were tried
 pub data Report : Type 0 where
   refusal : ℕ → Report
-  failure : Report
-  success : Finding → Report
+  failure : ℕ → Report
+  success : Finding → ℕ → Report
 
 abbrev pub report : Answer → Report
 report (refused k) = refusal k
-report (answered unreadable) = failure
-report (answered (read f a b)) = success f
+report (answered unreadable t) = failure t
+report (answered (read f a b) t) = success f t
 
 -- the number of a refusal, 01's 4 where no codeword was found; 0 where the word is read
 abbrev pub reportNumber : Report → ℕ
 reportNumber (refusal k) = k
-reportNumber failure = 4
-reportNumber (success f) = 0
+reportNumber (failure t) = 4
+reportNumber (success f t) = 0
+
+-- how many positions were tried; 02: "the other refusals still return a number only"
+abbrev pub reportTried : Report → ℕ
+reportTried (refusal k) = 0
+reportTried (failure t) = t
+reportTried (success f t) = t
 
 -- the first output afterwards (true) and the second (false): the message, or what it held where the word is refused
 abbrev pub decodeOutput : Bool → Answer → List ℕ → List ℕ
 decodeOutput b (refused k) out = out
-decodeOutput b (answered unreadable) out = out
-decodeOutput true (answered (read f first second)) out = first
-decodeOutput false (answered (read f first second)) out = second
+decodeOutput b (answered unreadable t) out = out
+decodeOutput true (answered (read f first second) t) out = first
+decodeOutput false (answered (read f first second) t) out = second

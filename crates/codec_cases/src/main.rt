@@ -1,8 +1,8 @@
 // Runs encode and decode on stored cases (tests/README.md: pairs, words). Pairs come on standard input, a line
 // `profile first second length` each, and the answer is the word. Words are in the file `words`, a line
-// `profile word first_length second_length` each, and the answer is `C 0 0 0 first second`, `M place symbol error first second`, or
-// `F place symbol 0 first second` with a place and a symbol for each mark. In a word and in a message `?` is a mark. A refusal is
-// `R number`.
+// `profile word first_length second_length` each, and the answer is `C 0 0 0 first second 0`, `M place symbol error first second tried`,
+// or `F place symbol 0 first second 0` with a place and a symbol for each mark. In a word and in a message `?` is a mark. A refusal is
+// `R number`, and `R 4 tried` for an unreadable word (02, T-08: how many places were tried).
 mod print;
 mod text;
 
@@ -15,6 +15,7 @@ use print::FILL;
 use print::is_untouched;
 use print::print_change;
 use print::print_error;
+use print::print_number;
 use print::print_refusal;
 use print::print_word;
 use syndromes::Correction;
@@ -28,20 +29,18 @@ use text::until;
 fn encode_and_print(profile: usize, first: &[u8], second: &[u8], out: &mut [u8]) {
     let answer = encoder::encode(profile, first, second, out);
     match answer {
-        Encoded::Done => {
-            print_word(out);
-            io::write_all(STDOUT_FILENO, b"\n");
-        }
+        Encoded::Done => print_word(out),
         Encoded::Refused(number) => print_refusal(number, is_untouched(out)),
     }
 }
 
-fn print_pair(first: &[u8], second: &[u8]) {
+// The messages and how many positions were tried, each after a space.
+fn print_read(first: &[u8], second: &[u8], tried: usize) {
     io::write_all(STDOUT_FILENO, b" ");
     print_word(first);
     io::write_all(STDOUT_FILENO, b" ");
     print_word(second);
-    io::write_all(STDOUT_FILENO, b"\n");
+    print_number(tried);
 }
 
 fn print_corrected(c: Correction) {
@@ -66,23 +65,32 @@ fn print_unread(number: u8, first: &[u8], second: &[u8]) {
     print_refusal(number, is_untouched(first) && is_untouched(second));
 }
 
+// The count is left out where an output was changed.
+fn print_unreadable(tried: usize, first: &[u8], second: &[u8]) {
+    let is_kept = is_untouched(first) && is_untouched(second);
+    print_refusal(4, is_kept);
+    if is_kept {
+        print_number(tried);
+    }
+}
+
 // Decodes into the outputs, and prints the answer and the messages, or the refusal.
 fn decode_and_print(profile: usize, word: &[u8], first: &mut [u8], second: &mut [u8]) {
     let answer = decoder::decode(profile, word, first, second);
     match answer {
         Decoded::Clean => {
             io::write_all(STDOUT_FILENO, b"C 0 0 0");
-            print_pair(first, second);
+            print_read(first, second, 0);
         }
         Decoded::Corrected(c) => {
             print_corrected(c);
-            print_pair(first, second);
+            print_read(first, second, c.tried);
         }
         Decoded::Filled(changes) => {
             print_filled(changes);
-            print_pair(first, second);
+            print_read(first, second, 0);
         }
-        Decoded::Unreadable => print_unread(4, first, second),
+        Decoded::Unreadable(tried) => print_unreadable(tried, first, second),
         Decoded::Refused(number) => print_unread(number, first, second),
     }
 }
@@ -115,6 +123,7 @@ fn answer(line: &[u8], is_words: bool) {
     } else {
         answer_pair(line);
     }
+    io::write_all(STDOUT_FILENO, b"\n");
 }
 
 // Answers each line, of pairs or of words.

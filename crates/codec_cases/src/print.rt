@@ -29,12 +29,16 @@ pub(crate) fn is_untouched(s: &[u8]) -> bool {
     true
 }
 
+// A number after a space.
+pub(crate) fn print_number(n: usize) {
+    io::write_all(STDOUT_FILENO, b" ");
+    io::print_decimal(STDOUT_FILENO, n as u64);
+}
+
 // A changed position and the symbol sent there, each after a space.
 pub(crate) fn print_change(position: usize, symbol: u8) {
-    io::write_all(STDOUT_FILENO, b" ");
-    io::print_decimal(STDOUT_FILENO, position as u64);
-    io::write_all(STDOUT_FILENO, b" ");
-    io::print_decimal(STDOUT_FILENO, symbol as u64);
+    print_number(position);
+    print_number(symbol as usize);
 }
 
 // The magnitude of a number, taken in 32 bits, since 16 with a sign do not hold that of -32768.
@@ -64,5 +68,4 @@ pub(crate) fn print_refusal(number: u8, is_kept: bool) {
     let text = [letter, b' '];
     io::write_all(STDOUT_FILENO, &text);
     io::print_decimal(STDOUT_FILENO, number as u64);
-    io::write_all(STDOUT_FILENO, b"\n");
 }

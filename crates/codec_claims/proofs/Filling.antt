@@ -13,6 +13,7 @@ use Rattle.code_theory.specs.Component.{symbolsBelow, isWord, erasure, isReceiv
 use Rattle.code_theory.specs.Codeword.{codeword}
 use Rattle.code_theory.specs.Erasures.{erasures}
 use Rattle.code_theory.specs.Reading.{Reading, filledReading}
+use Rattle.code_theory.specs.TriedPositions.{triedPositions}
 use Rattle.code_theory.specs.Profiles.{isProfile, profile}
 use Rattle.code_theory.specs.Operations.{answered, report, reportNumber}
 use Rattle.code_theory.specs.Claims as Reads
@@ -22,6 +23,7 @@ use Rattle.code_theory.proofs.Apart.{apart}
 use Rattle.code_theory.proofs.Whole.{levels-received, erased-received}
 use Rattle.code_theory.proofs.Reading.{codeword-word}
 use Rattle.code_theory.proofs.Erased.{erasures-filled, erased-by-filling}
+use Rattle.code_theory.proofs.TriedPositions.{counts-told}
 use Rattle.decoder.specs.declared.word.Decoded.{Decoded}
 use Rattle.decoder.specs.Decode.{Answers}
 use Rattle.codec_claims.specs.Decoding.{Allowed}
@@ -37,10 +39,14 @@ module _ (i : ℕ) (t : T (isProfile i)) where
 
   -- the contract speaks of the rule's reading
   filled-by : (v : List ℕ) → WithErasures i v → {r : Decoded} {first second : List ℕ} → (a : Allowed i v r first second)
-      → Answers (answered (filledReading (profile i) v)) r (a .before-first) first (a .before-second) second
+      → Answers (answered (filledReading (profile i) v) (triedPositions (profile i) v)) r (a .before-first) first (a .before-second) second
   filled-by v m {r} {first} {second} a =
-      subst (λ (d : Reading). Answers (answered d) r (a .before-first) first (a .before-second) second)
+      subst (λ (d : Reading). Answers (answered d (triedPositions (profile i) v)) r (a .before-first) first (a .before-second) second)
       (erased-by-filling (profile i) v (m .some)) (admitted i t v (m .long) (m .symbols) (m .few) a)
+
+  -- for which no position is tried
+  none-tried : (v : List ℕ) → WithErasures i v → triedPositions (profile i) v ≡ 0
+  none-tried v m = counts-told (profile i) v .if-erased (m .some)
 
   -- codewords with erased symbols
   module _ (u : List ℕ) (c : T (codeword (profile i) u)) where
@@ -78,20 +84,25 @@ module _ (i : ℕ) (t : T (isProfile i)) where
         one =
             λ u c k l r first second a.
             let (count, is) = law .one (omega arith) u c k l in
-            answered-by i t u is (filled-by (set u k erasure) (one-erased u c k count) a);
+            let v = set u k erasure in
+            let m = one-erased u c k count in
+            answered-by i t u is (none-tried v m) (filled-by v m a);
         two =
             λ u c j k less l r first second a.
             let (count, is) = law .two (omega arith) u c j k less l in
-            answered-by i t u is (filled-by (set (set u j erasure) k erasure) (two-erased u c j k count) a);
+            let v = set (set u j erasure) k erasure in
+            let m = two-erased u c j k count in
+            answered-by i t u is (none-tried v m) (filled-by v m a);
         read =
             λ v m u c agrees r first second a.
-            answered-by i t u (law .reads v u (m .few) c agrees) (filled-by v m a);
+            answered-by i t u (law .reads v u (m .few) c agrees) (none-tried v m) (filled-by v m a);
         only = λ v few u u′ c c′ a a′. law .only v u u′ few c c′ a a′;
         refused =
             λ v m r first second a.
             let h = filled-by v m a in
-            let f = law .refused v in (
-              λ e. f .0 (none-read (filledReading (profile i) v) (ap reportNumber (sym (h .answer)) ∙ e)),
-              λ g. ap reportNumber (h .answer) ∙ ap (λ (d : Reading). reportNumber (report (answered d))) (f .1 g),
+            let f = law .refused v in
+            let number : Reading → ℕ = λ d. reportNumber (report (answered d (triedPositions (profile i) v))) in (
+              λ e. f .0 (none-read (filledReading (profile i) v) (triedPositions (profile i) v) (ap reportNumber (sym (h .answer)) ∙ e)),
+              λ g. ap reportNumber (h .answer) ∙ ap number (f .1 g),
             );
       }

@@ -1,6 +1,7 @@
 pub mod Encoding
 pub mod Decoding
-pub mod Errors
+pub mod Corrections
+pub mod Counts
 pub mod Filling
 pub mod RoundTrip
 pub mod Claims

@@ -4,17 +4,18 @@ use mathlib.Core.Path.{_≡_}
 use mathlib.Core.Logic.{_≢_, _↔_}
 use mathlib.Core.Bool.{Bool, true, false, _&&_}
 use mathlib.Core.List.{List}
-use Prim.Native.Nat.{ℕ, _+_, _≤_, _<_}
-use lib.Dec.{T, eqb}
+use Prim.Native.Nat.{ℕ, _+_, _/_, _≤_, _<_}
+use lib.Dec.{T, eqb, leb}
 use lib.ListN.{length, getD, set}
 use lib.IntN.{pos, _-ℤ_}
-use Rattle.code_theory.specs.Parameters.{messageLength, codewordLength}
+use Rattle.code_theory.specs.Parameters.{Parameters, messageLength, balancedLength, codewordLength}
 use Rattle.code_theory.specs.Component.{isWord, isReceived}
 use Rattle.code_theory.specs.Codeword.{codeword, carried}
 use Rattle.code_theory.specs.Erasures.{erasures}
 use Rattle.code_theory.specs.Reading.{distance, Correction, clean, corrected}
 use Rattle.code_theory.specs.Profiles.{isProfile, profile}
-use Rattle.code_theory.specs.Operations.{success, reportNumber}
+use Rattle.code_theory.specs.TriedPositions.{triedPositions}
+use Rattle.code_theory.specs.Operations.{success, reportNumber, reportTried}
 use Rattle.code_theory.specs.Claims.{ErrorTold}
 use Rattle.decoder.specs.declared.word.Decoded.{Decoded}
 use Rattle.decoder.specs.Decode.{decodedReport, DecodeAllows}
@@ -32,20 +33,30 @@ pub record Allowed (i : ℕ) (v : List ℕ) (r : Decoded) (first second : List �
 abbrev pub decodedNumber : Decoded → ℕ
 decodedNumber r = reportNumber (decodedReport r)
 
+-- how many positions it says were tried (02, T-08)
+abbrev pub decodedTried : Decoded → ℕ
+decodedTried r = reportTried (decodedReport r)
+
 -- the outputs are the pair that u carries
 pub record Carried (i : ℕ) (u first second : List ℕ) : Type 0 where
   pub first-is : first ≡ carried (profile i) true u
   pub second-is : second ≡ carried (profile i) false u
 
+-- 02: how many positions are tried up to the corrected position k: those of its parity, and none where it is a check symbol's
+abbrev pub triedTo : Parameters → ℕ → ℕ
+triedTo p k = elim (leb k (balancedLength p)) [ true ↦ (k + 1) / 2 | false ↦ 0 ]
+
 -- demand 3
 pub record DecodesAsSent (i : ℕ) : Type 0 where
   -- a codeword as sent is read as its pair
   pub unchanged : (u : List ℕ) → T (codeword (profile i) u) → (r : Decoded) (first second : List ℕ) → Allowed i u r first second
-      → (decodedReport r ≡ success clean) × Carried i u first second
-  -- and so it is with any one symbol changed, with the position, the symbol sent and the error: received minus sent
+      → (decodedReport r ≡ success clean 0) × Carried i u first second
+  -- and so it is with any one symbol changed, with the position, the symbol sent, the error, received minus sent, and the count
   pub changed : (u : List ℕ) → T (codeword (profile i) u) → (k y : ℕ) → k < codewordLength (profile i) → y < profile i .q → y ≢ getD u k 0
       → (r : Decoded) (first second : List ℕ) → Allowed i (set u k y) r first second
-      → (decodedReport r ≡ success (corrected (record { position = k + 1; symbol = getD u k 0; error = pos y -ℤ pos (getD u k 0) })))
+      → (decodedReport r
+      ≡ success (corrected (record { position = k + 1; symbol = getD u k 0; error = pos y -ℤ pos (getD u k 0) }))
+      (triedTo (profile i) (k + 1)))
       × Carried i u first second
   -- every other codeword differs from what arrived in at least two positions
   pub others : (u v : List ℕ) → T (codeword (profile i) u) → T (codeword (profile i) v) → v ≢ u → (k y : ℕ) → k < codewordLength (profile i)
@@ -61,7 +72,7 @@ DecodeCorrects = (i : ℕ) → T (isProfile i) → DecodesAsSent i
 abbrev pub DecodeErrors : Type 0
 DecodeErrors =
     (i : ℕ) (v : List ℕ) (r : Decoded) (first first′ second second′ : List ℕ) → DecodeAllows i v r first first′ second second′
-    → (c : Correction) → decodedReport r ≡ success (corrected c) → ErrorTold (profile i .q) v c
+    → (c : Correction) (t : ℕ) → decodedReport r ≡ success (corrected c) t → ErrorTold (profile i .q) v c
 
 -- a call that numbers 1 to 3 let through
 pub record LetThrough (i : ℕ) (v : List ℕ) (k l : ℕ) : Type 0 where
@@ -82,6 +93,18 @@ abbrev pub ManyErasures : Type 0
 ManyErasures =
     (i : ℕ) (v : List ℕ) (r : Decoded) (first first′ second second′ : List ℕ) → DecodeAllows i v r first first′ second second′
     → (decodedNumber r ≡ 11) ↔ (LetThrough i v (length first) (length second) × (3 ≤ erasures v))
+
+-- 02: where a word is read or refused by 4, the answer carries its count; that of a corrected word goes up to its position, and none passes
+-- the profile's n + 1
+pub record CountCarried (i : ℕ) (v : List ℕ) (k l : ℕ) (r : Decoded) : Type 0 where
+  pub let-through : LetThrough i v k l → erasures v ≤ 2 → decodedTried r ≡ triedPositions (profile i) v
+  pub to-corrected : (c : Correction) (t : ℕ) → decodedReport r ≡ success (corrected c) t → t ≡ triedTo (profile i) (c .position)
+  pub most : decodedTried r ≤ profile i .n + 1
+
+abbrev pub DecodeCounts : Type 0
+DecodeCounts =
+    (i : ℕ) (v : List ℕ) (r : Decoded) (first first′ second second′ : List ℕ) → DecodeAllows i v r first first′ second second′
+    → CountCarried i v (length first) (length second) r
 
 -- the lengths of the word and of the outputs are the profile's
 abbrev pub decodeLengthsFit : ℕ → List ℕ → ℕ → ℕ → Bool

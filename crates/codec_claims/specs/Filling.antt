@@ -28,17 +28,17 @@ pub record FillsErasures (i : ℕ) : Type 0 where
   -- a codeword with any one symbol erased is read as filled, with the position and the symbol sent there
   pub one : (u : List ℕ) → T (codeword (profile i) u) → (k : ℕ) → k < codewordLength (profile i)
       → (r : Decoded) (first second : List ℕ) → Allowed i (set u k erasure) r first second
-      → (decodedReport r ≡ success (filled (record { position = k + 1; symbol = getD u k 0 } ∷ []))) × Carried i u first second
+      → (decodedReport r ≡ success (filled (record { position = k + 1; symbol = getD u k 0 } ∷ [])) 0) × Carried i u first second
   -- and so it is with any two, in rising order
   pub two : (u : List ℕ) → T (codeword (profile i) u) → (j k : ℕ) → j < k → k < codewordLength (profile i)
       → (r : Decoded) (first second : List ℕ) → Allowed i (set (set u j erasure) k erasure) r first second
       → (decodedReport r
-      ≡ success (filled (record { position = j + 1; symbol = getD u j 0 } ∷ record { position = k + 1; symbol = getD u k 0 } ∷ [])))
+      ≡ success (filled (record { position = j + 1; symbol = getD u j 0 } ∷ record { position = k + 1; symbol = getD u k 0 } ∷ [])) 0)
       × Carried i u first second
   -- a word is read as filled, and as the pair of a codeword that agrees with it at every position that is not erased
   pub read : (v : List ℕ) → WithErasures i v → (u : List ℕ) → T (codeword (profile i) u) → Agrees v u
       → (r : Decoded) (first second : List ℕ) → Allowed i v r first second
-      → (decodedReport r ≡ success (filled (changesAt 1 v u))) × Carried i u first second
+      → (decodedReport r ≡ success (filled (changesAt 1 v u)) 0) × Carried i u first second
   -- that codeword is the only one
   pub only : (v : List ℕ) → erasures v ≤ 2 → (u u′ : List ℕ) → T (codeword (profile i) u) → T (codeword (profile i) u′)
       → Agrees v u → Agrees v u′ → u ≡ u′

@@ -17,7 +17,7 @@ use Rattle.codec_claims.specs.Encoding as Encode
 
 -- the word that encode makes of a pair of the right lengths and levels is decoded as clean, and gives the pair back
 pub record GivesBack (a b : List ℕ) (r : Decoded) (first second : List ℕ) : Type 0 where
-  pub report : decodedReport r ≡ success clean
+  pub report : decodedReport r ≡ success clean 0
   pub first-is : first ≡ a
   pub second-is : second ≡ b
 

@@ -1,6 +1,6 @@
 -- The answer to a call: what is refused, and what is known of a word that no number refuses.
 -- Assumes nothing.
-use mathlib.Core.Path.{_≡_, sym, ap, subst, _∙_}
+use mathlib.Core.Path.{_≡_, sym, ap, ap₂, subst, _∙_}
 use mathlib.Core.Logic.{_≢_}
 use mathlib.Core.Bool.{true, false}
 use mathlib.Core.List.{List}
@@ -11,10 +11,11 @@ use lib.Dec.{T}
 use lib.IntN.{pos}
 use lib.ListN.{length}
 use Rattle.code_theory.specs.Parameters.{Parameters, messageLength, codewordLength}
-use Rattle.code_theory.specs.Component.{symbolsBelow, levelsOrErasures}
+use Rattle.code_theory.specs.Component.{symbolsBelow, isWord, levelsOrErasures}
 use Rattle.code_theory.specs.Erasures.{erasures, erasedIndices}
 use Rattle.code_theory.specs.Profiles.{isProfile, profile}
 use Rattle.code_theory.specs.Reading.{receivedReading}
+use Rattle.code_theory.specs.TriedPositions.{triedPositions}
 use Rattle.code_theory.specs.Operations.{answered, decodeAnswer}
 use Rattle.code_theory.proofs.Merge.{word-of}
 use Rattle.code_theory.proofs.Profiles.{profiles-fit, few-levels}
@@ -22,9 +23,12 @@ use Rattle.code_theory.proofs.Apart.{apart}
 use Rattle.code_theory.proofs.Reading.{near-is-one}
 use Rattle.code_theory.proofs.Whole.{whole-reading, length-indices}
 use Rattle.code_theory.proofs.Erased.{erased-by-filling}
+use Rattle.code_theory.proofs.TriedPositions.{counts-told}
 use Rattle.decoding_theory.specs.Decoded.{Sums, sums, decodedBalanced, decodedUnbalanced, decodedBy, decoded}
+use Rattle.decoding_theory.specs.TriedPositions.{triedUnbalanced, triedBy, triedOf}
 use Rattle.decoding_theory.specs.Filled.{decodedErased}
 use Rattle.decoding_theory.proofs.Decoded.{decoded-reading}
+use Rattle.decoding_theory.proofs.TriedPositions.{tried-positions}
 use Rattle.decoding_theory.proofs.Erased.{erased-reading}
 use Rattle.profiles.specs.declared.row.Row.{Row}
 use Rattle.profiles.specs.Row.{parameters, RowOf}
@@ -89,16 +93,23 @@ module _ (i : ℕ) (u first second : List ℕ) {t : Row} (of : RowOf i t) {r : S
           below = subst (λ (p : Parameters). T (symbolsBelow (p .q) u)) (sym (of .same)) below;
         }
 
+    word-is : T (isWord (profile i .q) (codewordLength (profile i)) u)
+    word-is = word-of (profile i .q) (codewordLength (profile i)) u (whole-known .word-long) below
+
     is-decoded : receivedReading (profile i) u ≡ decoded (parameters t) u
     is-decoded =
         let (s, prime) = profiles-fit .0 i (of .known) in
-        let one = near-is-one (profile i) s prime in
-        whole-reading (profile i) u none
-        ∙ sym (decoded-reading (profile i) s one u (word-of (profile i .q) (codewordLength (profile i)) u (whole-known .word-long) below))
+        whole-reading (profile i) u none ∙ sym (decoded-reading (profile i) s (near-is-one (profile i) s prime) u word-is)
         ∙ ap (λ (p : Parameters). decoded p u) (sym (of .same))
 
-    pub decoded-answer : decodeAnswer i u (length first) (length second) ≡ answered (decoded (parameters t) u)
-    decoded-answer = whole-known .read ∙ ap answered is-decoded
+    is-tried : triedPositions (profile i) u ≡ triedOf (parameters t) u
+    is-tried =
+        let (s, prime) = profiles-fit .0 i (of .known) in
+        sym (tried-positions (profile i) s (near-is-one (profile i) s prime) u word-is none)
+        ∙ ap (λ (p : Parameters). triedOf p u) (sym (of .same))
+
+    pub decoded-answer : decodeAnswer i u (length first) (length second) ≡ answered (decoded (parameters t) u) (triedOf (parameters t) u)
+    decoded-answer = whole-known .read ∙ ap₂ answered is-decoded is-tried
 
   -- one or two are erased
   module _ {l : List ℕ} (known : Known) (e : erasedIndices 0 u ≡ l) (some : 1 ≤ length l) where
@@ -111,17 +122,19 @@ module _ (i : ℕ) (u first second : List ℕ) {t : Row} (of : RowOf i t) {r : S
           indices = e;
         }
 
+    count : 1 ≤ erasures u
+    count = omega (arith, some, length-indices 0 u, ap length e)
+
     is-filled : receivedReading (profile i) u ≡ decodedErased (parameters t) u
     is-filled =
         let (s, prime) = profiles-fit .0 i (of .known) in
-        let count : 1 ≤ erasures u = omega (arith, some, length-indices 0 u, ap length e) in
         erased-by-filling (profile i) u count
         ∙ sym (erased-reading (profile i) s (few-levels i (of .known)) 2 (apart (profile i) s prime) u (known .word-long) (known .received)
         count (known .few) (le-refl 2))
         ∙ ap (λ (p : Parameters). decodedErased p u) (sym (of .same))
 
-    pub filled-answer : decodeAnswer i u (length first) (length second) ≡ answered (decodedErased (parameters t) u)
-    filled-answer = known .read ∙ ap answered is-filled
+    pub filled-answer : decodeAnswer i u (length first) (length second) ≡ answered (decodedErased (parameters t) u) 0
+    filled-answer = known .read ∙ ap₂ answered is-filled (counts-told (profile i) u .if-erased count)
 
 -- the answer by the sums of a word
 module _ (t : Row) (u : List ℕ) (s : Totals) (g : sumsOf t s ≡ sums (parameters t) u) where
@@ -129,12 +142,21 @@ module _ (t : Row) (u : List ℕ) (s : Totals) (g : sumsOf t s ≡ sums (paramet
   unfolding decoded
   by-sums = ap (λ (x : Sums). decodedBy (parameters t) x u) (sym g)
 
+  tried-sums : triedOf (parameters t) u ≡ triedBy (parameters t) (sumsOf t s) u
+  unfolding triedOf
+  tried-sums = ap (λ (x : Sums). triedBy (parameters t) x u) (sym g)
+
   pub balanced-answer : s .excess ≡ pos 0
-      → answered (decoded (parameters t) u) ≡ answered (decodedBalanced (parameters t) (sumsOf t s) u)
-  unfolding decodedBy
-  balanced-answer h = let f : isZero (s .excess) ≡ true = passes (is-zero h) in ap answered (by-sums ∙ rw (f, decodedBy))
+      → answered (decoded (parameters t) u) (triedOf (parameters t) u) ≡ answered (decodedBalanced (parameters t) (sumsOf t s) u) 0
+  unfolding decodedBy triedBy
+  balanced-answer h =
+      let f : isZero (s .excess) ≡ true = passes (is-zero h) in
+      ap₂ answered (by-sums ∙ rw (f, decodedBy)) (tried-sums ∙ rw (f, triedBy))
 
   pub unbalanced-answer : s .excess ≢ pos 0
-      → answered (decoded (parameters t) u) ≡ answered (decodedUnbalanced (parameters t) (sumsOf t s) u)
-  unfolding decodedBy
-  unbalanced-answer h = ap answered (by-sums ∙ rw (is-not-zero (s .excess) h, decodedBy))
+      → answered (decoded (parameters t) u) (triedOf (parameters t) u)
+      ≡ answered (decodedUnbalanced (parameters t) (sumsOf t s) u) (triedUnbalanced (parameters t) (sumsOf t s) u)
+  unfolding decodedBy triedBy
+  unbalanced-answer h =
+      let f : isZero (s .excess) ≡ false = is-not-zero (s .excess) h in
+      ap₂ answered (by-sums ∙ rw (f, decodedBy)) (tried-sums ∙ rw (f, triedBy))

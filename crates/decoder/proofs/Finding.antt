@@ -21,7 +21,7 @@ use Rattle.decoder.proofs.Fitting.{index-is, positions-are}
 use Rattle.decoder.proofs.Sent.{sent-below}
 use Rattle.decoder.proofs.Answering.{body-found, found-range, found-near}
 
-module _ {x : Search} {word : List ℕ} {k : ℕ} (found : Located x word k) where
+module _ {x : Search} {word : List ℕ} {k t : ℕ} (found : Located x word k t) where
   abbrev p : Parameters
   p = parametersOf x
 

@@ -5,7 +5,7 @@ use mathlib.Core.Logic.{⊎-elim}
 use mathlib.Core.Bool.{Bool, true, false, not}
 use mathlib.Core.List.{List}
 use Prim.Native.Nat.{ℕ, zero, suc, _+_, _-_, _*_, _%_, _≤_, _<_}
-use native.Mathlib.Nat.{zero-add, add-zero, le-refl}
+use native.Mathlib.Nat.{zero-add, add-zero}
 use native.Mathlib.Numerals.{add-one}
 use native.Mathlib.Omega.{arith}
 use lib.Dec.{eqb}
@@ -19,7 +19,9 @@ use Rattle.code_theory.proofs.Columns.{q-positive}
 use Rattle.code_theory.proofs.Merge.{cases}
 use Rattle.decoding_theory.specs.Syndromes.{nearSyndromes, index, moved, movedOf}
 use Rattle.decoding_theory.specs.Decoded.{Sums, gain, inRange, offByLack, nearAfter, fits, positionCount, firstFit}
+use Rattle.decoding_theory.specs.TriedPositions.{triedBody}
 use Rattle.decoding_theory.proofs.Tests.{false-test}
+use Rattle.decoding_theory.proofs.TriedPositions.{tried-to, tried-all}
 use Rattle.decoder.specs.declared.locate.Search.{Search}
 use Rattle.decoder.specs.Multiples.{Multiples}
 use Rattle.decoder.specs.Sides.{isFirst}
@@ -139,21 +141,28 @@ module _ (p : Parameters) (S : Sums) (word : List ℕ) (parity : ℕ) (h : parit
   same : (k : ℕ) → testOf k ≡ testAt k
   same k = ap (λ (i : ℕ). fits p S (isFirst parity) k (getD word i 0)) (index-is parity k h)
 
+  abbrev first : ℕ
+  first = firstFit p S (isFirst parity) word
+
+  abbrev count : ℕ
+  count = positionCount p (isFirst parity)
+
   pub first-found : (k : ℕ) → k < p .n + 1 - parity → ((j : ℕ) → j < k → testAt j ≡ false) → testAt k ≡ true
-      → (firstFit p S (isFirst parity) word ≡ k) × (k < positionCount p (isFirst parity))
+      → (first ≡ k) × (k < count) × (k + 1 ≡ triedBody p S (isFirst parity) word)
   unfolding firstFit
   first-found k l f e =
-      let m : k < positionCount p (isFirst parity) = omega (arith, positions-are p parity h) in (
-        least-is testOf (positionCount p (isFirst parity)) k m (holds _ (same k ∙ e)) (λ j i. false-test (same j ∙ f j i)),
-        m,
-      )
+      let m : k < count = omega (arith, positions-are p parity h) in
+      let is : first ≡ k = least-is testOf count k m (holds _ (same k ∙ e)) (λ j i. false-test (same j ∙ f j i)) in
+      (is, m, add-one k ∙ tried-to p S (isFirst parity) word is m)
 
-  pub none-found : (k : ℕ) → p .n + 1 - parity ≤ k → ((j : ℕ) → j < k → testAt j ≡ false)
-      → firstFit p S (isFirst parity) word ≡ positionCount p (isFirst parity)
+  pub none-found : (k : ℕ) → k ≡ p .n + 1 - parity → ((j : ℕ) → j < k → testAt j ≡ false)
+      → (first ≡ count) × (k ≡ triedBody p S (isFirst parity) word)
   unfolding firstFit
   none-found k l f =
-      least-none testOf (positionCount p (isFirst parity)) (λ j i. same j ∙ f j (omega (arith, positions-are p parity h)))
+      let is : first ≡ count = least-none testOf count (λ j i. same j ∙ f j (omega (arith, positions-are p parity h))) in
+      (is, omega (arith, positions-are p parity h, tried-all p S (isFirst parity) word is))
 
   -- nothing fits where the check symbol is off by something else than the weight
-  pub none-off : offByLack p S (isFirst parity) ≡ false → firstFit p S (isFirst parity) word ≡ positionCount p (isFirst parity)
-  none-off e = none-found (p .n + 1 - parity) (le-refl _) (λ j i. fits-off p S (isFirst parity) j (getD word (2 * j + parity) 0) e)
+  pub none-off : offByLack p S (isFirst parity) ≡ false
+      → (first ≡ count) × (p .n + 1 - parity ≡ triedBody p S (isFirst parity) word)
+  none-off e = none-found (p .n + 1 - parity) refl (λ j i. fits-off p S (isFirst parity) j (getD word (2 * j + parity) 0) e)

@@ -22,12 +22,13 @@ abbrev pub changesIn : Changes → List Change
 changesIn (One c) = changeOf c ∷ []
 changesIn (Two c d) = changeOf c ∷ changeOf d ∷ []
 
--- what each case of the answer says: a finding (01: kind, place and symbol), 4, or the number of another refusal
+-- what each case of the answer says: a finding (01: kind, place and symbol) or 4, each with how many positions were tried, or the number of
+-- another refusal
 abbrev pub decodedReport : Decoded → Report
-decodedReport Clean = success clean
-decodedReport (Corrected c) = success (corrected (correctionOf c))
-decodedReport (Filled cs) = success (filled (changesIn cs))
-decodedReport Unreadable = failure
+decodedReport Clean = success clean 0
+decodedReport (Corrected c) = success (corrected (correctionOf c)) (c .tried)
+decodedReport (Filled cs) = success (filled (changesIn cs)) 0
+decodedReport (Unreadable t) = failure t
 decodedReport (Refused k) = refusal k
 
 -- r and the outputs, that held `first` and `second` and now hold `first′` and `second′`, are those of the answer a

@@ -30,11 +30,11 @@ wrongParity false false = 2
 abbrev pub JudgedAs : Parameters → Sums → Finding → Type 0
 JudgedAs p s f = T (nearSyndromes p (s .first) (s .second)) × ((v : List ℕ) → decodedBalanced p s v ≡ readBy p f v (s .first) (s .second))
 
--- so is said of a balanced body with the sums s
+-- so is said of a balanced body with the sums s, for which no position is tried
 abbrev pub JudgedBy : Parameters → Sums → Report → Type 0
 JudgedBy p s (refusal k) = ⊥
-JudgedBy p s failure = (v : List ℕ) → decodedBalanced p s v ≡ unreadable
-JudgedBy p s (success f) = JudgedAs p s f
+JudgedBy p s (failure t) = (t ≡ 0) × ((v : List ℕ) → decodedBalanced p s v ≡ unreadable)
+JudgedBy p s (success f t) = (t ≡ 0) × JudgedAs p s f
 
 -- r is what it is read as
 abbrev pub Judged : Parameters → Sums → Decoded → Type 0
@@ -43,4 +43,4 @@ Judged p s r = JudgedBy p s (decodedReport r)
 -- r and the outputs are the answer to any balanced word that has the sums s and the components in x
 pub record BalancedAnswers (t : Row) (s : Totals) (x : List ℕ) (r : Decoded) (first first′ second second′ : List ℕ) : Type 0 where
   pub to : (v : List ℕ) → ((b : Bool) → part b (t .n) x ≡ received (parameters t) b v)
-      → Answers (answered (decodedBalanced (parameters t) (sumsOf t s) v)) r first first′ second second′
+      → Answers (answered (decodedBalanced (parameters t) (sumsOf t s) v) 0) r first first′ second second′

@@ -122,12 +122,12 @@ fn find_two(row: Row, word: &[u8], i: usize, j: usize, x: &mut [u8; 97]) -> Fill
 fn complete_one(row: Row, word: &[u8], i: usize, first: &mut [u8], second: &mut [u8]) -> Decoded
     requires { ⌜ WholeWord row (now word) × (i < row .codeword) × Outputs row (now first) (now second) ⌝ }
     ensures { λ r. ⌜
-        Answers (answered (completed (parameters row) (now (word .entry)) (i ∷ []))) r
+        Answers (answered (completed (parameters row) (now (word .entry)) (i ∷ [])) 0) r
         (now (first .entry)) (now (first .exit)) (now (second .entry)) (now (second .exit)) ⌝ }
 {
     let mut x = [0u8; 97];
     let Filling::One(y, after) = find_one(row, word, i, &mut x) else {
-        return Decoded::Unreadable;
+        return Decoded::Unreadable(0);
     };
     correct_differences(row.q, row.balanced, word, i, y, &mut x);
     write_pair(row, after.first, after.second, &mut x, first, second);
@@ -149,12 +149,12 @@ fn complete_two(
 ) -> Decoded
     requires { ⌜ WholeWord row (now word) × (i < row .codeword) × (j < row .codeword) × Outputs row (now first) (now second) ⌝ }
     ensures { λ r. ⌜
-        Answers (answered (completed (parameters row) (now (word .entry)) (i ∷ j ∷ []))) r
+        Answers (answered (completed (parameters row) (now (word .entry)) (i ∷ j ∷ [])) 0) r
         (now (first .entry)) (now (first .exit)) (now (second .entry)) (now (second .exit)) ⌝ }
 {
     let mut x = [0u8; 97];
     let Filling::Two(y, z, after) = find_two(row, word, i, j, &mut x) else {
-        return Decoded::Unreadable;
+        return Decoded::Unreadable(0);
     };
     correct_differences(row.q, row.balanced, word, i, y, &mut x);
     word[i] = y;
@@ -184,7 +184,7 @@ pub(crate) fn decode_one(
 ) -> Decoded
     requires { ⌜ ErasedWord row (now word) (i ∷ []) × Outputs row (now first) (now second) ⌝ }
     ensures { λ r. ⌜
-        Answers (answered (decodedErased (parameters row) (now (word .entry)))) r
+        Answers (answered (decodedErased (parameters row) (now (word .entry))) 0) r
         (now (first .entry)) (now (first .exit)) (now (second .entry)) (now (second .exit)) ⌝ }
 {
     let n = row.codeword;
@@ -203,7 +203,7 @@ pub(crate) fn decode_two(
 ) -> Decoded
     requires { ⌜ ErasedWord row (now word) (i ∷ j ∷ []) × Outputs row (now first) (now second) ⌝ }
     ensures { λ r. ⌜
-        Answers (answered (decodedErased (parameters row) (now (word .entry)))) r
+        Answers (answered (decodedErased (parameters row) (now (word .entry))) 0) r
         (now (first .entry)) (now (first .exit)) (now (second .entry)) (now (second .exit)) ⌝ }
 {
     let n = row.codeword;

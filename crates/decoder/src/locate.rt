@@ -21,10 +21,10 @@ pub(crate) struct Search {
     pub(crate) parity: usize,
 }
 
-// What trying the positions of one parity finds: an index among them.
+// What trying the positions of one parity finds: an index among them, or nothing; and how many were tried.
 pub(crate) enum Fit {
-    At(usize),
-    Nothing,
+    At(usize, usize),
+    Nothing(usize),
 }
 
 // The symbol that balances the body in place of x, by plain subtraction; q where it is no level.
@@ -92,7 +92,7 @@ fn fits(
     near_after(search, columns, by_first, by_second, k)
 }
 
-// The first index of the parity that fits.
+// The first index of the parity that fits, and how many were tried, that one included; all of them where none fits.
 fn try_positions(
     search: Search,
     columns: &[[u8; 3]; 48],
@@ -109,14 +109,15 @@ fn try_positions(
     while k < count {
         let x = word[2 * k + parity];
         if fits(search, columns, by_first, by_second, k, x) {
-            return Fit::At(k);
+            let tried = k + 1;
+            return Fit::At(k, tried);
         }
         k += 1;
     }
-    Fit::Nothing
+    Fit::Nothing(k)
 }
 
-// The same. Where the check symbol is off by something else than the weight, no position fits, and none is tried.
+// The same. Where the check symbol is off by something else than the weight, no position fits: all count as tried, and none has to be.
 pub(crate) fn locate<'a>(
     search: Search,
     columns: &[[u8; 3]; 48],
@@ -128,7 +129,8 @@ pub(crate) fn locate<'a>(
     ensures { λ r. ⌜ FitFound search (now (word .entry)) r ⌝ }
 {
     if !off_by_lack(search) {
-        return Fit::Nothing;
+        let count = search.row.n + 1 - search.parity;
+        return Fit::Nothing(count);
     }
     try_positions(search, columns, by_first, by_second, word)
 }

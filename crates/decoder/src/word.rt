@@ -26,6 +26,7 @@ ghost use mathlib.Core.Path.{_≡_};
 ghost use lib.Dec.{eqb};
 ghost use Rattle.code_theory.specs.Operations.{answered};
 ghost use Rattle.decoding_theory.specs.Decoded.{decodedBody, decodedUnbalanced, decoded};
+ghost use Rattle.decoding_theory.specs.TriedPositions.{triedBody, triedUnbalanced, triedOf};
 ghost use Rattle.profiles.specs.Row.{Valid, parameters};
 ghost use Rattle.symbols.specs.Columns.{Columns};
 ghost use Rattle.decoder.specs.Received.{BodyArray};
@@ -54,8 +55,8 @@ pub enum Decoded {
     Corrected(Correction),
     // 02: the word has marks.
     Filled(Changes),
-    // 01: number 4.
-    Unreadable,
+    // 01: number 4; 02: with how many positions were tried.
+    Unreadable(usize),
     // 01: number 1 to 3; 02: number 11.
     Refused(u8),
 }
@@ -81,7 +82,7 @@ fn judge(row: Row, s: Totals) -> Decoded
     match judged {
         Judgement::Clean => Decoded::Clean,
         Judgement::Corrected(c) => Decoded::Corrected(c),
-        Judgement::Unreadable => Decoded::Unreadable,
+        Judgement::Unreadable => Decoded::Unreadable(0),
     }
 }
 
@@ -101,29 +102,31 @@ fn wrong_parity(s: Totals) -> usize
     2
 }
 
-// The symbol at index k of the parity corrected, where that is the first that fits and the syndromes are then those given. The
-// components of the word are in x.
+// The symbol at index k of the parity corrected, where that is the first that fits, the last of those tried, and the syndromes are then
+// those given. The components of the word are in x.
 fn correct(
     search: Search,
     after: Syndromes,
     word: &[u8],
     k: usize,
+    tried: usize,
     x: &mut [u8; 97],
     first: &mut [u8],
     second: &mut [u8],
 ) -> Decoded
     requires { ⌜
-        Located search (now word) k × After search k after × Components (search .row) (now word) (now x)
+        Located search (now word) k tried × After search k after × Components (search .row) (now word) (now x)
         × Outputs (search .row) (now first) (now second) ⌝ }
     ensures { λ r. ⌜
-        Answers (answered (decodedBody (parametersOf search) (sumsIn search) (parityOf search) (now (word .entry)))) r
+        Answers (answered (decodedBody (parametersOf search) (sumsIn search) (parityOf search) (now (word .entry)))
+        (triedBody (parametersOf search) (sumsIn search) (parityOf search) (now (word .entry)))) r
         (now (first .entry)) (now (first .exit)) (now (second .entry)) (now (second .exit)) ⌝ }
 {
     let i = 2 * k + search.parity;
     let y = balancing_symbol(search, word[i]);
     correct_differences(search.row.q, search.row.balanced, word, i, y, x);
     write_pair(search.row, after.first, after.second, x, first, second);
-    Decoded::Corrected(corrected(i + 1, word[i], y))
+    Decoded::Corrected(corrected(i + 1, word[i], y, tried))
 }
 
 // An unbalanced body, whose components are in x: one of its symbols changed where exactly one check symbol disagrees.
@@ -140,20 +143,24 @@ fn decode_unbalanced(
         WholeWord row (now word) × Columns (row .q) (row .n) (now columns) × Totalled row s × Components row (now word) (now x)
         × Outputs row (now first) (now second) ⌝ }
     ensures { λ r. ⌜
-        Answers (answered (decodedUnbalanced (parameters row) (sumsOf row s) (now (word .entry)))) r
+        Answers (answered (decodedUnbalanced (parameters row) (sumsOf row s) (now (word .entry)))
+        (triedUnbalanced (parameters row) (sumsOf row s) (now (word .entry)))) r
         (now (first .entry)) (now (first .exit)) (now (second .entry)) (now (second .exit)) ⌝ }
 {
     let parity = wrong_parity(s);
     if 1 < parity {
-        return Decoded::Unreadable;
+        return Decoded::Unreadable(0);
     }
     let search = Search { row, s, parity };
     let effect = effect_of(search);
-    let Fit::At(k) = locate(search, columns, &effect.first, &effect.second, word) else {
-        return Decoded::Unreadable;
-    };
-    let after = syndromes_after(search, columns, effect, k);
-    correct(search, after, word, k, x, first, second)
+    let fit = locate(search, columns, &effect.first, &effect.second, word);
+    match fit {
+        Fit::At(k, tried) => {
+            let after = syndromes_after(search, columns, effect, k);
+            correct(search, after, word, k, tried, x, first, second)
+        }
+        Fit::Nothing(tried) => Decoded::Unreadable(tried),
+    }
 }
 
 // What follows the balance test of a balanced word, whose components are in x.
@@ -170,8 +177,8 @@ fn decode_balanced(
         (now (first .entry)) (now (first .exit)) (now (second .entry)) (now (second .exit)) ⌝ }
 {
     let found = judge(row, s);
-    if let Decoded::Unreadable = found {
-        return Decoded::Unreadable;
+    if let Decoded::Unreadable(_) = found {
+        return Decoded::Unreadable(0);
     }
     let f = s.first;
     let g = s.second;
@@ -183,7 +190,7 @@ fn decode_balanced(
 fn decode_word(row: Row, word: &[u8], first: &mut [u8], second: &mut [u8]) -> Decoded
     requires { ⌜ WholeWord row (now word) × Outputs row (now first) (now second) ⌝ }
     ensures { λ r. ⌜
-        Answers (answered (decoded (parameters row) (now (word .entry)))) r
+        Answers (answered (decoded (parameters row) (now (word .entry))) (triedOf (parameters row) (now (word .entry)))) r
         (now (first .entry)) (now (first .exit)) (now (second .entry)) (now (second .exit)) ⌝ }
 {
     let matrix = columns(row.q, row.n);

@@ -5,13 +5,13 @@ use mathlib.Core.Logic.{⊎-elim, _≢_}
 use mathlib.Core.Bool.{Bool, true, false, _&&_}
 use mathlib.Core.List.{List}
 use Prim.Native.Nat.{ℕ, _<_}
-use lib.Dec.{T, eqb, eqb→eq}
+use lib.Dec.{T, eqb→eq}
 use lib.ListN.{length, getD, set}
 use Rattle.modular_theory.specs.Sum.{weight}
 use Rattle.modular_theory.proofs.Search.{eq-test, and-four, and-parts, and-left, and-right, and-intro}
 use Rattle.code_theory.specs.Parameters.{Parameters, Sized, codewordLength}
 use Rattle.code_theory.specs.Component.{isWord}
-use Rattle.code_theory.specs.Codeword.{body, isBalanced, hasChecks, hasComponents, codeword}
+use Rattle.code_theory.specs.Codeword.{body, isBalanced, checkSumAgrees, hasChecks, hasComponents, codeword}
 use Rattle.code_theory.specs.Reading.{correctionAt, Finding, clean, corrected, unreadable, readAs, mends, reading}
 use Rattle.code_theory.specs.Claims.{NearCodeword, OneNear, Reads}
 use Rattle.code_theory.proofs.Columns.{q-positive}
@@ -29,24 +29,23 @@ pub record Tests (p : Parameters) (u : List ℕ) : Type 0 where
   pub near : T (hasComponents p u)
 
 module _ (p : Parameters) (u : List ℕ) where
-  right : Bool → Bool
-  right b = eqb (getD u (checkIndex p b) 0) (checkSymbol (p .q) b (body p u))
-
   pub codeword-tests : T (codeword p u) → Tests p u
-  unfolding codeword isBalanced hasChecks right
+  unfolding codeword isBalanced checkSumAgrees hasChecks
   codeword-tests h =
       let (a, b, c, d) = and-parts (isWord (p .q) (codewordLength p) u) (isBalanced p u) (hasChecks p u) (hasComponents p u) h in
       record { word = a; weighs = eqb→eq _ _ b; checks = checks c; near = d }
     where
-      checks : T (right true && right false) → (b : Bool) → checkSymbol (p .q) b (body p u) ≡ getD u (checkIndex p b) 0
-      checks c true = sym (eqb→eq _ _ (and-left (right true) (right false) c))
-      checks c false = sym (eqb→eq _ _ (and-right (right true) (right false) c))
+      checks : T (checkSumAgrees p true u && checkSumAgrees p false u) → (b : Bool)
+          → checkSymbol (p .q) b (body p u) ≡ getD u (checkIndex p b) 0
+      checks c true = sym (eqb→eq _ _ (and-left (checkSumAgrees p true u) (checkSumAgrees p false u) c))
+      checks c false = sym (eqb→eq _ _ (and-right (checkSumAgrees p true u) (checkSumAgrees p false u) c))
 
   pub tests-codeword : Tests p u → T (codeword p u)
-  unfolding codeword isBalanced hasChecks right
+  unfolding codeword isBalanced checkSumAgrees hasChecks
   tests-codeword t =
       and-four (isWord (p .q) (codewordLength p) u) (isBalanced p u) (hasChecks p u) (hasComponents p u) (t .word) (eq-test (t .weighs))
-      (and-intro (right true) (right false) (eq-test (sym (t .checks true))) (eq-test (sym (t .checks false)))) (t .near)
+      (and-intro (checkSumAgrees p true u) (checkSumAgrees p false u) (eq-test (sym (t .checks true))) (eq-test (sym (t .checks false))))
+      (t .near)
 
 module _ (p : Parameters) (s : Sized p) (one : OneNear p) (v : List ℕ) (w : T (isWord (p .q) (codewordLength p) v)) where
   law : Reads p v

@@ -34,7 +34,7 @@ module _ (p : Parameters) (s : Sized p) (one : OneNear p) {v : List ℕ} (w : T 
   disagree : agrees t true ≡ false → agrees t false ≡ false → (b : Bool) → t .asked b ≢ t .arrived b
   disagree f g = for-both true (λ b. t .asked b ≢ t .arrived b) (eqb-false _ _ f) (eqb-false _ _ g)
 
-  body-decoded : (b : Bool) → t .excess ≢ pos 0 → agrees t (not b) ≡ true → decodedBody p t b v ≡ reading p v
+  pub body-decoded : (b : Bool) → t .excess ≢ pos 0 → agrees t (not b) ≡ true → decodedBody p t b v ≡ reading p v
   unfolding decodedBody firstFit
   body-decoded b a r = go (ltb (firstFit p t b v) (positionCount p b)) refl
     where

@@ -13,6 +13,7 @@ pub mod Answers
 pub mod Nearby
 pub mod Outcomes
 pub mod Decoded
+pub mod TriedPositions
 -- Erased symbols
 pub mod Cleared
 pub mod Effects

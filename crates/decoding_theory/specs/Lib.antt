@@ -1,3 +1,4 @@
 pub mod Syndromes
 pub mod Decoded
+pub mod TriedPositions
 pub mod Filled

@@ -15,7 +15,8 @@ header-bytes =
       corrected-low = refl;
       one-filled = refl;
       two-filled = refl;
-      unreadable-word = refl;
+      unreadable-none-tried = refl;
+      unreadable-all-tried = refl;
       wrong-symbol = refl;
       many-erasures = refl;
     }

@@ -14,6 +14,7 @@ use Rattle.code_theory.specs.Codeword.{codeword}
 use Rattle.code_theory.specs.Erasures.{erasures, firstFilling}
 use Rattle.code_theory.specs.Reading.{clean, corrected, filled, changesAt, changedAt}
 use Rattle.code_theory.specs.Reading.{reading, nearReading, filledReading, receivedReading}
+use Rattle.code_theory.specs.TriedPositions.{triedPositions}
 use Rattle.code_theory.specs.Profiles.{profile}
 use Rattle.code_theory.specs.Operations.{Report, refusal, failure, success, answered, report, readUnless, decodeTests, decodeAnswer}
 use Rattle.code_theory.proofs.Refusal.{passed-every}
@@ -28,39 +29,43 @@ length-changes i (x ∷ v) u =
 -- of a report on a word with e erasures
 abbrev pub FillsAll : ℕ → Report → Type 0
 FillsAll e (refusal n) = Unit {0}
-FillsAll e failure = Unit {0}
-FillsAll e (success clean) = Unit {0}
-FillsAll e (success (corrected c)) = Unit {0}
-FillsAll e (success (filled cs)) = (length cs ≡ e) × (1 ≤ e) × (e ≤ 2)
+FillsAll e (failure t) = Unit {0}
+FillsAll e (success clean t) = Unit {0}
+FillsAll e (success (corrected c) t) = Unit {0}
+FillsAll e (success (filled cs) t) = (length cs ≡ e) × (1 ≤ e) × (e ≤ 2)
 
-near-fills : (p : Parameters) (e : ℕ) (u : List ℕ) → FillsAll e (report (answered (nearReading p u)))
+near-fills : (p : Parameters) (e k : ℕ) (u : List ℕ) → FillsAll e (report (answered (nearReading p u) k))
 unfolding nearReading
-near-fills p e u = cases (ltb (changedAt p u) (length u)) (λ t. rw (t, nearReading) tt) (λ t. rw (t, nearReading) tt)
+near-fills p e k u = cases (ltb (changedAt p u) (length u)) (λ t. rw (t, nearReading) tt) (λ t. rw (t, nearReading) tt)
 
-reading-fills : (p : Parameters) (e : ℕ) (u : List ℕ) → FillsAll e (report (answered (reading p u)))
+reading-fills : (p : Parameters) (e k : ℕ) (u : List ℕ) → FillsAll e (report (answered (reading p u) k))
 unfolding reading
-reading-fills p e u = cases (codeword p u) (λ t. rw (t, reading) tt) (λ t. rw (t, reading) (near-fills p e u))
+reading-fills p e k u = cases (codeword p u) (λ t. rw (t, reading) tt) (λ t. rw (t, reading) (near-fills p e k u))
 
-filled-fills : (p : Parameters) (v : List ℕ) → 1 ≤ erasures v → erasures v ≤ 2
-    → FillsAll (erasures v) (report (answered (filledReading p v)))
+filled-fills : (p : Parameters) (k : ℕ) (v : List ℕ) → 1 ≤ erasures v → erasures v ≤ 2
+    → FillsAll (erasures v) (report (answered (filledReading p v) k))
 unfolding filledReading
-filled-fills p v h g =
+filled-fills p k v h g =
     cases (ltb (firstFilling p v) (p .q ^ erasures v))
     (λ t. rw (t, filledReading) (length-changes 1 v _, h, g))
     (λ t. rw (t, filledReading) tt)
 
-received-fills : (p : Parameters) (v : List ℕ) → erasures v ≤ 2 → FillsAll (erasures v) (report (answered (receivedReading p v)))
+received-fills : (p : Parameters) (k : ℕ) (v : List ℕ) → erasures v ≤ 2 → FillsAll (erasures v) (report (answered (receivedReading p v) k))
 unfolding receivedReading
-received-fills p v g =
-    cases (eqb (erasures v) 0) (λ t. rw (t, receivedReading) (reading-fills p (erasures v) v))
-    (λ t. rw (t, receivedReading) (filled-fills p v (omega (arith, eqb-false (erasures v) 0 t)) g))
+received-fills p k v g =
+    cases (eqb (erasures v) 0) (λ t. rw (t, receivedReading) (reading-fills p (erasures v) k v))
+    (λ t. rw (t, receivedReading) (filled-fills p k v (omega (arith, eqb-false (erasures v) 0 t)) g))
 
 pub decode-fills : (i : ℕ) (u : List ℕ) (k l : ℕ) → FillsAll (erasures u) (report (decodeAnswer i u k l))
 unfolding decodeAnswer
 decode-fills i u k l = go (firstRefusal (decodeTests i u k l)) refl
   where
-    go : (n : ℕ) → firstRefusal (decodeTests i u k l) ≡ n → FillsAll (erasures u) (report (readUnless n (receivedReading (profile i) u)))
+    tried : ℕ
+    tried = triedPositions (profile i) u
+
+    go : (n : ℕ) → firstRefusal (decodeTests i u k l) ≡ n
+        → FillsAll (erasures u) (report (readUnless n (receivedReading (profile i) u) tried))
     go zero e =
         let (known, (lengths, (received, (few, end)))) = passed-every (decodeTests i u k l) tt e in
-        received-fills (profile i) u (leb→le _ _ few)
+        received-fills (profile i) tried u (leb→le _ _ few)
     go (suc n) e = tt

@@ -29,8 +29,8 @@ kind-within clean = lit≤ tt
 kind-within (corrected c) = lit≤ tt
 kind-within (filled cs) = lit≤ tt
 
-found-within : (f : Finding) → FindingWithin 99 9 f → Within (foundParts f)
-found-within f (s, e) =
+found-within : (f : Finding) (t : ℕ) → t ≤ 99 → FindingWithin 99 9 f → Within (foundParts f t)
+found-within f t m (s, e) =
     let c = change-within (changesOf f) 0 s in
     let d = change-within (changesOf f) 1 s in
     record {
@@ -41,24 +41,26 @@ found-within f (s, e) =
       secondPosition = d .0;
       secondSymbol = d .1;
       error = omega (arith, e);
+      tried = omega (arith, m);
     }
 
-refused-within : (n : ℕ) → n ≤ 255 → Within (refusedParts n)
-refused-within n h =
+refused-within : (n t : ℕ) → n ≤ 99 → t ≤ 99 → Within (refusedParts n t)
+refused-within n t h m =
     record {
-      number = h;
+      number = omega (arith, h);
       kind = lit≤ tt;
       position = lit≤ tt;
       symbol = lit≤ tt;
       secondPosition = lit≤ tt;
       secondSymbol = lit≤ tt;
       error = lit≤ tt;
+      tried = omega (arith, m);
     }
 
 within : (a : Answer) → SmallAnswer a → Within (partsOf (report a))
-within (refused k) s = refused-within k (omega (arith, s))
-within (answered unreadable) s = refused-within 4 (lit≤ tt)
-within (answered (read f a b)) s = found-within f (s .0)
+within (refused k) s = refused-within k 0 s (lit≤ tt)
+within (answered unreadable t) s = refused-within 4 t (lit≤ tt) s
+within (answered (read f a b) t) s = found-within f t (s .0) (s .1)
 
 pub within-answer : (i : ℕ) (u : List ℕ) (k l : ℕ) → Within (partsOf (report (decodeAnswer i u k l)))
 within-answer i u k l = within (decodeAnswer i u k l) (decode-small i u k l)
@@ -85,21 +87,22 @@ byte-joined (suc i) (b ∷ bs) h = ap (byte i) (others b (joined bs) (h .0)) ∙
 
 parts-back : (p : Parts) → Within p → unpacked (joined (bytes p)) ≡ p
 parts-back p w =
-    let last : AllBytes (twos (p .error) ∷ 0 ∷ []) = (twos-byte (p .error) (w .error), (lit≤ tt, tt)) in
-    let second : AllBytes (p .secondPosition ∷ p .secondSymbol ∷ twos (p .error) ∷ 0 ∷ []) = (w .secondPosition, (w .secondSymbol, last)) in
+    let last : AllBytes (twos (p .error) ∷ p .tried ∷ []) = (twos-byte (p .error) (w .error), (w .tried, tt)) in
+    let second : AllBytes (p .secondPosition ∷ p .secondSymbol ∷ twos (p .error) ∷ p .tried ∷ []) =
+    (w .secondPosition, (w .secondSymbol, last)) in
     let h : AllBytes (bytes p) = (w .number, (w .kind, (w .position, (w .symbol, second)))) in
     let g : (i : ℕ) → byte i (joined (bytes p)) ≡ getD (bytes p) i 0 = λ i. byte-joined i (bytes p) h in
-    rw (g 0, g 1, g 2, g 3, g 4, g 5, g 6, signed-twos (p .error) (w .error)) refl
+    rw (g 0, g 1, g 2, g 3, g 4, g 5, g 6, g 7, signed-twos (p .error) (w .error)) refl
 
 tells : (e : ℕ) (a : Report) (c : Parts) → FillsAll e a → c ≡ partsOf a → Tells e a c
-tells e (refusal n) c f t = t
-tells e failure c f t = t
-tells e (success clean) c f t = t
-tells e (success (corrected x)) c f t = t
-tells e (success (filled [])) c f t = omega (arith, f .0, f .1)
-tells e (success (filled (x ∷ []))) c f t = (sym (f .0), t)
-tells e (success (filled (x ∷ y ∷ []))) c f t = (sym (f .0), t)
-tells e (success (filled (x ∷ y ∷ z ∷ cs))) c f t = omega (arith, f .0, f .2)
+tells e (refusal n) c f is = is
+tells e (failure t) c f is = is
+tells e (success clean t) c f is = is
+tells e (success (corrected x) t) c f is = is
+tells e (success (filled []) t) c f is = omega (arith, f .0, f .1)
+tells e (success (filled (x ∷ [])) t) c f is = (sym (f .0), is)
+tells e (success (filled (x ∷ y ∷ [])) t) c f is = (sym (f .0), is)
+tells e (success (filled (x ∷ y ∷ z ∷ cs)) t) c f is = omega (arith, f .0, f .2)
 
 pub unpacks : Unpacks
 unfolding packed

@@ -1,6 +1,6 @@
 -- Decode's answer as one number of eight bytes, the lowest first: the number of 01 or 02, the kind (1 clean, 2 corrected, 3 filled), the
--- position, the symbol sent there, those of the second filled position, the error (02, T-02: the fault), and a byte that is 0. And how C
--- takes it apart.
+-- position, the symbol sent there, those of the second filled position, the error (02, T-02: the fault), and how many positions were tried
+-- (02, T-08). And how C takes it apart.
 -- Assumes nothing.
 use mathlib.Core.Path.{_≡_}
 use mathlib.Core.Bool.{true, false}
@@ -21,19 +21,21 @@ pub record Parts : Type 0 where
   pub secondPosition : ℕ
   pub secondSymbol : ℕ
   pub error : ℤ
+  pub tried : ℕ
 
 abbrev pub kindNumber : Finding → ℕ
 kindNumber clean = 1
 kindNumber (corrected c) = 2
 kindNumber (filled cs) = 3
 
--- the parts of a refusal
-abbrev pub refusedParts : ℕ → Parts
-refusedParts n = record { number = n; kind = 0; position = 0; symbol = 0; secondPosition = 0; secondSymbol = 0; error = pos 0 }
+-- the parts of a refusal by n, where t positions were tried
+abbrev pub refusedParts : ℕ → ℕ → Parts
+refusedParts n t =
+    record { number = n; kind = 0; position = 0; symbol = 0; secondPosition = 0; secondSymbol = 0; error = pos 0; tried = t }
 
--- the parts of what was found
-abbrev pub foundParts : Finding → Parts
-foundParts f =
+-- the parts of what was found, where t were
+abbrev pub foundParts : Finding → ℕ → Parts
+foundParts f t =
     let c : Change = getD (changesOf f) 0 (change 0 0) in
     let d : Change = getD (changesOf f) 1 (change 0 0) in
     record {
@@ -44,12 +46,13 @@ foundParts f =
       secondPosition = d .position;
       secondSymbol = d .symbol;
       error = errorOf f;
+      tried = t;
     }
 
 abbrev pub partsOf : Report → Parts
-partsOf (refusal k) = refusedParts k
-partsOf failure = refusedParts 4
-partsOf (success f) = foundParts f
+partsOf (refusal k) = refusedParts k 0
+partsOf (failure t) = refusedParts 4 t
+partsOf (success f t) = foundParts f t
 
 -- bytes as a number, the first lowest
 abbrev pub joined : List ℕ → ℕ
@@ -71,7 +74,7 @@ abbrev pub signed : ℕ → ℤ
 signed b = elim (ltb b 128) [ true ↦ pos b | false ↦ pos b -ℤ pos 256 ]
 
 abbrev pub bytes : Parts → List ℕ
-bytes p = p .number ∷ p .kind ∷ p .position ∷ p .symbol ∷ p .secondPosition ∷ p .secondSymbol ∷ twos (p .error) ∷ 0 ∷ []
+bytes p = p .number ∷ p .kind ∷ p .position ∷ p .symbol ∷ p .secondPosition ∷ p .secondSymbol ∷ twos (p .error) ∷ p .tried ∷ []
 
 unfoldable pub packed : Report → ℕ
 packed a = joined (bytes (partsOf a))
@@ -94,6 +97,7 @@ unpacked n =
       secondPosition = byte 4 n;
       secondSymbol = byte 5 n;
       error = signed (byte 6 n);
+      tried = byte 7 n;
     }
 
 -- each part fits its byte
@@ -105,3 +109,4 @@ pub record Within (p : Parts) : Type 0 where
   pub secondPosition : p .secondPosition ≤ 255
   pub secondSymbol : p .secondSymbol ≤ 255
   pub error : natAbs (p .error) ≤ 127
+  pub tried : p .tried ≤ 255

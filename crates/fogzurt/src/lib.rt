@@ -55,7 +55,7 @@ pub extern "C" fn fogzurt_decode(
     pack(decoder::decode(profile, word, first, second))
 }
 
-// The seven lowest bytes of an answer, the number lowest.
+// The eight bytes of an answer, the number lowest.
 fn join(
     number: u8,
     kind: u8,
@@ -64,8 +64,9 @@ fn join(
     second_position: u8,
     second_symbol: u8,
     error: u8,
+    tried: u8,
 ) -> u64
-    ensures { λ r. ⌜ r ≡ joined (number ∷ kind ∷ position ∷ symbol ∷ «second_position» ∷ «second_symbol» ∷ error ∷ 0 ∷ []) ⌝ }
+    ensures { λ r. ⌜ r ≡ joined (number ∷ kind ∷ position ∷ symbol ∷ «second_position» ∷ «second_symbol» ∷ error ∷ tried ∷ []) ⌝ }
 {
     wide64(number)
         + wide64(kind) * 256
@@ -74,6 +75,7 @@ fn join(
         + wide64(second_position) * 4294967296
         + wide64(second_symbol) * 1099511627776
         + wide64(error) * 281474976710656
+        + wide64(tried) * 72057594037927936
 }
 
 // A signed number in a byte: -n is 256 - n.
@@ -89,11 +91,11 @@ fn byte_of(e: i16) -> u8
 
 // A filled word, in one number.
 fn pack_filled(changes: Changes) -> u64
-    requires { ⌜ Within (partsOf (success (filled (changesIn changes)))) ⌝ }
-    ensures { λ r. ⌜ r ≡ packed (success (filled (changesIn changes))) ⌝ }
+    requires { ⌜ Within (partsOf (success (filled (changesIn changes)) 0)) ⌝ }
+    ensures { λ r. ⌜ r ≡ packed (success (filled (changesIn changes)) 0) ⌝ }
 {
     match changes {
-        Changes::One(c) => join(0, FILLED, c.position as u8, c.symbol, 0, 0, 0),
+        Changes::One(c) => join(0, FILLED, c.position as u8, c.symbol, 0, 0, 0, 0),
         Changes::Two(c, d) => join(
             0,
             FILLED,
@@ -101,6 +103,7 @@ fn pack_filled(changes: Changes) -> u64
             c.symbol,
             d.position as u8,
             d.symbol,
+            0,
             0,
         ),
     }
@@ -112,14 +115,23 @@ fn pack(answer: Decoded) -> u64
     ensures { λ r. ⌜ r ≡ packed (decodedReport answer) ⌝ }
 {
     match answer {
-        Decoded::Clean => join(0, CLEAN, 0, 0, 0, 0, 0),
+        Decoded::Clean => join(0, CLEAN, 0, 0, 0, 0, 0, 0),
         Decoded::Corrected(c) => {
             let error = byte_of(c.error);
-            join(0, CORRECTED, c.position as u8, c.symbol, 0, 0, error)
+            join(
+                0,
+                CORRECTED,
+                c.position as u8,
+                c.symbol,
+                0,
+                0,
+                error,
+                c.tried as u8,
+            )
         }
         Decoded::Filled(changes) => pack_filled(changes),
-        Decoded::Unreadable => join(4, 0, 0, 0, 0, 0, 0),
-        Decoded::Refused(number) => join(number, 0, 0, 0, 0, 0, 0),
+        Decoded::Unreadable(tried) => join(4, 0, 0, 0, 0, 0, 0, tried as u8),
+        Decoded::Refused(number) => join(number, 0, 0, 0, 0, 0, 0, 0),
     }
 }
 

@@ -1,4 +1,5 @@
--- What a reading prints is small: a place has at most two digits, its symbol, the error and the symbols of the messages one.
+-- What a reading prints is small: a place has at most two digits, its symbol, the error and the symbols of the messages one. And so is the
+-- count of the positions tried, which is not printed.
 -- Assumes nothing.
 use mathlib.Core.Path.{_≡_, refl, subst}
 use mathlib.Core.Bool.{Bool, true, false, _&&_}
@@ -26,6 +27,7 @@ use Rattle.code_theory.specs.Erasures.{erasures, fill, filling, firstFilling}
 use Rattle.code_theory.specs.Reading.{Change, Finding, correctionAt, clean, corrected, filled, changesOf, changesAt}
 use Rattle.code_theory.specs.Reading.{Reading, read, unreadable, readAs, reading, nearReading, filledReading, receivedReading}
 use Rattle.code_theory.specs.Reading.{mends, changedAt, sentAt}
+use Rattle.code_theory.specs.TriedPositions.{triedPositions}
 use Rattle.code_theory.specs.Profiles.{profiles, isProfile, profile}
 use Rattle.code_theory.specs.Operations.{Answer, refused, answered, decodeTests, readUnless, decodeAnswer}
 use Rattle.code_theory.proofs.Refusal.{AllPass, passed-every, number-most}
@@ -33,6 +35,7 @@ use Rattle.code_theory.proofs.Weights.{differences-below}
 use Rattle.code_theory.proofs.Symbols.{symbol-below}
 use Rattle.code_theory.proofs.Merge.{cases, below-keep}
 use Rattle.code_theory.proofs.Whole.{received-levels}
+use Rattle.code_theory.proofs.TriedPositions.{counts-told}
 use Rattle.code_theory.proofs.Profiles.{every-profile}
 use Rattle.lines_theory.specs.Sizes.{ChangesWithin, FindingWithin}
 
@@ -147,20 +150,21 @@ small-changes : (n q : ℕ) (cs : List Change) → n ≤ 99 → q ≤ 9 → Chan
 small-changes n q [] h g s = tt
 small-changes n q (c ∷ cs) h g s = (le-trans (s .0) h, le-trans (s .1) g, small-changes n q cs h g (s .2))
 
--- at most two digits for a refusal's number and for a position, one for a symbol and for the error
+-- at most two digits for a refusal's number, for a position and for the count, one for a symbol and for the error
 abbrev pub SmallAnswer : Answer → Type 0
 SmallAnswer (refused n) = n ≤ 99
-SmallAnswer (answered unreadable) = Unit {0}
-SmallAnswer (answered (read f a b)) = FindingWithin 99 9 f × Below 10 a × Below 10 b
+SmallAnswer (answered unreadable t) = t ≤ 99
+SmallAnswer (answered (read f a b) t) = (t ≤ 99) × FindingWithin 99 9 f × Below 10 a × Below 10 b
 
-small-reading : (n q : ℕ) (r : Reading) → n ≤ 99 → q ≤ 9 → SmallReading n q r → SmallAnswer (answered r)
+small-reading : (n q : ℕ) (r : Reading) (t : ℕ) → t ≤ 99 → n ≤ 99 → q ≤ 9 → SmallReading n q r → SmallAnswer (answered r t)
 unfolding SmallReading
-small-reading n q (read f a b) h g s = (
+small-reading n q (read f a b) t m h g s = (
+  m,
   (small-changes n q (changesOf f) h g (s .0 .0), le-trans (s .0 .1) g),
   (λ i. le-trans (s .1 i) (le-trans g (lit≤ tt))),
   (λ i. le-trans (s .2 i) (le-trans g (lit≤ tt))),
 )
-small-reading n q unreadable h g s = tt
+small-reading n q unreadable t m h g s = m
 
 pub decode-small : (i : ℕ) (u : List ℕ) (k l : ℕ) → SmallAnswer (decodeAnswer i u k l)
 unfolding decodeAnswer
@@ -169,15 +173,19 @@ decode-small i u k l = go (firstRefusal tests) refl
     tests : List Test
     tests = decodeTests i u k l
 
-    full : AllPass (decodeTests i u k l) → SmallAnswer (answered (receivedReading (profile i) u))
+    tried : ℕ
+    tried = triedPositions (profile i) u
+
+    full : AllPass (decodeTests i u k l) → SmallAnswer (answered (receivedReading (profile i) u) tried)
     full (known, (lengths, (symbols, rest))) =
         let n = codewordLength (profile i) in
         let (few, some, low) = small-row i known in
         let two = eqb (length u) n && eqb k (messageLength (profile i)) in
         let long : length u ≡ n = eqb→eq _ _ (and-left (eqb (length u) n) _ (and-left two _ lengths)) in
         let small = received-small (profile i) some u symbols in
-        small-reading (length u) (profile i .q) (receivedReading (profile i) u) (rw long few) low small
+        let count : tried ≤ 99 = omega (arith, counts-told (profile i) u .most) in
+        small-reading (length u) (profile i .q) (receivedReading (profile i) u) tried count (rw long few) low small
 
-    go : (n : ℕ) → firstRefusal tests ≡ n → SmallAnswer (readUnless n (receivedReading (profile i) u))
+    go : (n : ℕ) → firstRefusal tests ≡ n → SmallAnswer (readUnless n (receivedReading (profile i) u) tried)
     go zero e = full (passed-every tests tt e)
     go (suc n) e = subst (λ (m : ℕ). m ≤ 99) e (number-most 99 tests tt)

@@ -8,7 +8,9 @@ use native.Mathlib.Omega.{arith}
 use lib.Dec.{eqb, ltb}
 use lib.IntN.{ℤ, pos, negsuc}
 use borrow.Author.Tests.{ne-eqb}
+use Rattle.code_theory.specs.Parameters.{Parameters}
 use Rattle.code_theory.specs.Reading.{Change, Finding, clean, corrected, filled, changesOf, errorOf, read, unreadable, receivedReading}
+use Rattle.code_theory.specs.TriedPositions.{triedPositions}
 use Rattle.code_theory.specs.Profiles.{profile}
 use Rattle.code_theory.specs.Refusal.{firstRefusal}
 use Rattle.code_theory.specs.Operations.{Answer, refused, answered, readUnless}
@@ -75,12 +77,15 @@ ends-reading i f cs e a b =
 
 ends-answer : (i : ℕ) (a : Answer) → lineEnds (answerLine i a) ≡ 1
 ends-answer i (refused n) = ends-refusal n
-ends-answer i (answered unreadable) = ends-refusal 4
-ends-answer i (answered (read f a b)) = ends-reading i f (changesOf f) (errorOf f) a b
+ends-answer i (answered unreadable t) = ends-refusal 4
+ends-answer i (answered (read f a b) t) = ends-reading i f (changesOf f) (errorOf f) a b
 
 ends-line : (l : List ℕ) → lineEnds (lineAnswer l) ≡ 1
 unfolding lineAnswer
-ends-line l = ends-answer (profileOf l) (readUnless (firstRefusal (lineTests l)) (receivedReading (profile (profileOf l)) (symbolsOf l)))
+ends-line l =
+    let p : Parameters = profile (profileOf l) in
+    ends-answer (profileOf l)
+    (readUnless (firstRefusal (lineTests l)) (receivedReading p (symbolsOf l)) (triedPositions p (symbolsOf l)))
 
 -- where byte 10 ends the line, and where the input does
 

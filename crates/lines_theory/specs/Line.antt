@@ -6,11 +6,12 @@ use Prim.Native.Nat.{ℕ, zero, suc, _+_, _-_, _/_, _%_}
 use lib.Dec.{leb, ltb, eqb}
 use lib.ListN.{length, getD, drop}
 use lib.IntN.{ℤ, pos, negsuc}
-use Rattle.code_theory.specs.Parameters.{messageLength}
+use Rattle.code_theory.specs.Parameters.{Parameters, messageLength}
 use Rattle.code_theory.specs.Profiles.{profile}
 use Rattle.code_theory.specs.Component.{erasure}
 use Rattle.code_theory.specs.Refusal.{Test, asks, firstRefusal}
 use Rattle.code_theory.specs.Reading.{Change, Finding, clean, corrected, filled, changesOf, errorOf, read, unreadable, receivedReading}
+use Rattle.code_theory.specs.TriedPositions.{triedPositions}
 use Rattle.code_theory.specs.Operations.{Answer, refused, answered, decodeTests, readUnless, decodeAnswer}
 
 -- What goes in. A line is the list of its bytes, without the byte 10 that ends it.
@@ -95,11 +96,11 @@ readingLine i c cs e a b =
     let words = map digitByte a ++ 32 ∷ (map digitByte b ++ 10 ∷ []) in
     digitByte i ∷ 32 ∷ c ∷ 32 ∷ changesBefore cs (signedDecimal e (32 ∷ words))
 
--- the output for what Read answers of a word of profile i
+-- the output for what Read answers of a word of profile i; 02, T-08: "boxlines prints no count"
 abbrev pub answerLine : ℕ → Answer → List ℕ
 answerLine i (refused n) = refusalLine n
-answerLine i (answered unreadable) = refusalLine 4
-answerLine i (answered (read f a b)) = readingLine i (letter f) (changesOf f) (errorOf f) a b
+answerLine i (answered unreadable t) = refusalLine 4
+answerLine i (answered (read f a b) t) = readingLine i (letter f) (changesOf f) (errorOf f) a b
 
 -- Read, with outputs of the profile's length: what is tested, and what is answered
 abbrev pub readTests : ℕ → List ℕ → List Test
@@ -114,7 +115,9 @@ lineTests l = asks (isShort l && hasForm l) 9 ∷ readTests (profileOf l) (symbo
 
 -- the output for a line: the number n that refuses it, or what is read where n is 0
 abbrev pub lineUnless : ℕ → List ℕ → List ℕ
-lineUnless n l = answerLine (profileOf l) (readUnless n (receivedReading (profile (profileOf l)) (symbolsOf l)))
+lineUnless n l =
+    let p : Parameters = profile (profileOf l) in
+    answerLine (profileOf l) (readUnless n (receivedReading p (symbolsOf l)) (triedPositions p (symbolsOf l)))
 
 -- 01: the answer to a line
 unfoldable pub lineAnswer : List ℕ → List ℕ

@@ -16,6 +16,7 @@ use Rattle.code_theory.specs.Component.{symbolsBelow, levelsOrErasures, isWord}
 use Rattle.code_theory.specs.Erasures.{erasures, mostErasures}
 use Rattle.code_theory.specs.Profiles.{isProfile, profile}
 use Rattle.code_theory.specs.Reading.{Reading, receivedReading}
+use Rattle.code_theory.specs.TriedPositions.{triedPositions}
 use Rattle.code_theory.specs.Refusal.{Test, asks, firstRefusal}
 use Rattle.code_theory.specs.Operations.{Answer, refused, answered, encodeRefusal, readUnless, decodeAnswer}
 use Rattle.code_theory.proofs.Merge.{cases}
@@ -128,11 +129,11 @@ pub record Admitted (i : ℕ) (u : List ℕ) (k l : ℕ) : Type 0 where
   pub second-long : l ≡ messageLength (profile i)
   pub received : T (levelsOrErasures (profile i .q) u)
   pub few : erasures u ≤ mostErasures (profile i)
-  pub read : decodeAnswer i u k l ≡ answered (receivedReading (profile i) u)
+  pub read : decodeAnswer i u k l ≡ answered (receivedReading (profile i) u) (triedPositions (profile i) u)
 
-unless-refused : (n : ℕ) (d : Reading) → n ≢ 0 → readUnless n d ≡ refused n
-unless-refused zero d h = absurd (h refl)
-unless-refused (suc n) d h = refl
+unless-refused : (n : ℕ) (d : Reading) (t : ℕ) → n ≢ 0 → readUnless n d t ≡ refused n
+unless-refused zero d t h = absurd (h refl)
+unless-refused (suc n) d t h = refl
 
 few-erased : (most : ℕ) (u : List ℕ) → erasureNumber most u ≡ 0 → erasures u ≤ most
 few-erased most u z =
@@ -149,9 +150,13 @@ module _ (i : ℕ) (u : List ℕ) (k l : ℕ) where
   abbrev erasing : List Test
   erasing = erasureTests (mostErasures (profile i)) u
 
+  -- the answer unless a number refuses
+  abbrev answerUnless : ℕ → Answer
+  answerUnless n = readUnless n (receivedReading (profile i) u) (triedPositions (profile i) u)
+
   -- the answer by the test of the profile
   abbrev decodeBy : Bool → Answer
-  decodeBy p = readUnless (firstRefusal (asks p 1 ∷ asks lengths 2 ∷ asks symbols 3 ∷ erasing)) (receivedReading (profile i) u)
+  decodeBy p = answerUnless (firstRefusal (asks p 1 ∷ asks lengths 2 ∷ asks symbols 3 ∷ erasing))
 
   pub decode-refused : isProfile i ≡ false → decodeAnswer i u k l ≡ refused 1
   unfolding decodeAnswer
@@ -162,14 +167,13 @@ module _ (i : ℕ) (u : List ℕ) (k l : ℕ) where
     unfolding decodeNumber
     number-is = rw (message-is of, codeword-is of, levels-are of)
 
-    answer-is : decodeAnswer i u k l ≡ readUnless (decodeNumber t u k l) (receivedReading (profile i) u)
+    answer-is : decodeAnswer i u k l ≡ answerUnless (decodeNumber t u k l)
     unfolding decodeAnswer
-    answer-is =
-        ap decodeBy (passes {b = isProfile i} (of .known)) ∙ ap (λ (n : ℕ). readUnless n (receivedReading (profile i) u)) (sym number-is)
+    answer-is = ap decodeBy (passes {b = isProfile i} (of .known)) ∙ ap answerUnless (sym number-is)
 
     -- the number of a call that is refused
     pub refused-number : {n : ℕ} → n ≡ decodeNumber t u k l → n ≢ 0 → decodeAnswer i u k l ≡ refused n
-    refused-number {n} e h = answer-is ∙ rw (sym e) (unless-refused n (receivedReading (profile i) u) h)
+    refused-number {n} e h = answer-is ∙ rw (sym e) (unless-refused n (receivedReading (profile i) u) (triedPositions (profile i) u) h)
 
     pub admitted : decodeNumber t u k l ≡ 0 → Admitted i u k l
     admitted z =
@@ -181,5 +185,5 @@ module _ (i : ℕ) (u : List ℕ) (k l : ℕ) where
           second-long = second;
           received = good;
           few = few-erased (mostErasures (profile i)) u few;
-          read = answer-is ∙ ap (λ (n : ℕ). readUnless n (receivedReading (profile i) u)) z;
+          read = answer-is ∙ ap answerUnless z;
         }

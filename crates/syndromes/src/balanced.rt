@@ -38,12 +38,12 @@ pub fn judge_balanced(
     }
     if asked.alpha == arrived.alpha {
         if asked.beta != arrived.beta {
-            return Judgement::Corrected(corrected(wide(m) + 2, arrived.beta, asked.beta));
+            return Judgement::Corrected(corrected(wide(m) + 2, arrived.beta, asked.beta, 0));
         }
         return Judgement::Clean;
     }
     if asked.beta == arrived.beta {
-        return Judgement::Corrected(corrected(wide(m) + 1, arrived.alpha, asked.alpha));
+        return Judgement::Corrected(corrected(wide(m) + 1, arrived.alpha, asked.alpha, 0));
     }
     Judgement::Unreadable
 }

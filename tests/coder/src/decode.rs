@@ -7,6 +7,7 @@ use crate::fillings::fillings;
 use crate::profile::Profile;
 use crate::refusal::{require, Refusal};
 use crate::text::{digits, signed};
+use crate::tried::positions_tried;
 
 /// A position, and the symbol sent there.
 #[derive(Debug, Clone, Copy, PartialEq, Eq)]
@@ -26,13 +27,20 @@ pub enum Kind {
     Filled(Sent, Option<Sent>),
 }
 
-/// What is answered to a word that is read, besides its pair.
+/// What is answered to a word that is read, besides its pair and the count.
 #[derive(Debug, Clone, Copy, PartialEq, Eq)]
 pub struct Decoded {
     pub kind: Kind,
     /// T-02: "received minus sent as a signed number, from −(q−1) to q−1 and never 0, for check
     /// symbols as well. Clean and filled words carry 0."
     pub error: i16,
+}
+
+/// The same with T-08's count: "the reader shall report tried places".
+#[derive(Debug, Clone, Copy, PartialEq, Eq)]
+pub struct Answer {
+    pub decoded: Decoded,
+    pub tried: usize,
 }
 
 impl Decoded {
@@ -102,13 +110,13 @@ pub fn within_one<'a>(
     [(Decoded::CLEAN, word.to_vec())].into_iter().chain(neighbours)
 }
 
-/// The pair of the one word tried that is a codeword, and how it was found. Both texts speak of one
+/// The pair of the one candidate that is a codeword, and how it was found. Both texts speak of one
 /// such word; a second one would be a fault.
 fn only_codeword(
     profile: &Profile,
-    tried: impl Iterator<Item = (Decoded, Vec<u8>)>,
+    candidates: impl Iterator<Item = (Decoded, Vec<u8>)>,
 ) -> Option<(Decoded, Messages)> {
-    let mut found = tried.filter_map(|(decoded, sent)| {
+    let mut found = candidates.filter_map(|(decoded, sent)| {
         messages_of(profile, &sent).map(|messages| (decoded, messages))
     });
     let answer = found.next();
@@ -131,11 +139,13 @@ pub fn search(profile: &Profile, word: &[u8]) -> Option<(Decoded, Messages)> {
 }
 
 /// Decodes a word of N symbols: "3 if a symbol is not below q" and no mark, "11, more than two marks,
-/// after 3 and before 4", 4 if nothing is found.
-pub fn decode_word(profile: &Profile, word: &[u8]) -> Result<(Decoded, Messages), Refusal> {
+/// after 3 and before 4", 4 if nothing is found. The count is not the search's: it is made by trying.
+pub fn decode_word(profile: &Profile, word: &[u8]) -> Result<(Answer, Messages), Refusal> {
     profile.require_received(word)?;
     require(erased_positions(word).len() <= MOST_ERASURES, Refusal::Erasures)?;
-    search(profile, word).ok_or(Refusal::Unreadable)
+    let tried = positions_tried(profile, word);
+    let (decoded, messages) = search(profile, word).ok_or(Refusal::Unreadable { tried })?;
+    Ok((Answer { decoded, tried }, messages))
 }
 
 /// "Read. 1 as above; 2 if the word is not N long or either output not k", then 3, 11 and 4.
@@ -144,13 +154,13 @@ pub fn decode(
     word: &[u8],
     first: &mut [u8],
     second: &mut [u8],
-) -> Result<Decoded, Refusal> {
+) -> Result<Answer, Refusal> {
     let profile = Profile::lookup(profile)?;
     require(word.len() == profile.word_length(), Refusal::Length)?;
     require(first.len() == profile.k(), Refusal::Length)?;
     require(second.len() == profile.k(), Refusal::Length)?;
-    let (decoded, messages) = decode_word(profile, word)?;
+    let (answer, messages) = decode_word(profile, word)?;
     first.copy_from_slice(&messages[0]);
     second.copy_from_slice(&messages[1]);
-    Ok(decoded)
+    Ok(answer)
 }

@@ -38,48 +38,73 @@ pub fn encoded() -> Vec<(u8, [String; 2], String)> {
     ]
 }
 
-/// Received words of profile 1, from "Checked by hand" and the line program's example, and what
-/// reading them answers: kind, place, symbol sent, T-02's number and both user words, or R and the
-/// number of the refusal.
-pub const DECODED: [(&str, &str); 5] = [
-    ("1111111111111111102", "C 0 0 0 00000 00000"),
-    ("1200021111111112220", "M 6 1 +1 00001 00000"),
-    ("1111111111111111101", "M 19 2 -1 00000 00000"),
-    ("1111111111111111111", "R 4"),
-    ("2211111111111111102", "R 4"),
+/// A received word of profile 1, and what reading it answers: kind, place, symbol sent, T-02's number
+/// and both user words, or R and the number of the refusal; then T-08's count, which refusals but 4
+/// do not have.
+pub type Case = (&'static str, &'static str, Option<usize>);
+
+/// Received words of profile 1, from "Checked by hand" and the line program's example.
+pub const DECODED: [Case; 5] = [
+    ("1111111111111111102", "C 0 0 0 00000 00000", Some(0)),
+    ("1200021111111112220", "M 6 1 +1 00001 00000", Some(3)),
+    ("1111111111111111101", "M 19 2 -1 00000 00000", Some(0)),
+    ("1111111111111111111", "R 4", Some(0)),
+    ("2211111111111111102", "R 4", Some(0)),
 ];
 
 /// Received words of profile 1 with erasures, and what T-01 makes of them. 02 has no cases: these
 /// are 01's words with symbols erased, which are then the only ones that agree; and words that no
 /// filling balances, or whose unerased check symbols the only balanced filling contradicts.
-pub const ERASED: [(&str, &str); 13] = [
-    ("?111111111111111102", "F 1 1 0 00000 00000"),
-    ("11111111111111111?2", "F 18 0 0 00000 00000"),
-    ("111111111111111110?", "F 19 2 0 00000 00000"),
-    ("?1?1111111111111102", "F 1 1 3 1 0 00000 00000"),
-    ("?11111111111111110?", "F 1 1 19 2 0 00000 00000"),
-    ("11111111111111111??", "F 18 0 19 2 0 00000 00000"),
-    ("1200?1111111111222?", "F 5 0 19 0 0 00001 00000"),
-    ("1200?2111111111222?", "R 4"),
-    ("2?11111111111111102", "R 4"),
-    ("?111111111111111101", "R 4"),
-    ("11111111111111111?1", "R 4"),
-    ("???1111111111111102", "R 11"),
-    ("???3111111111111102", "R 3"),
+pub const ERASED: [Case; 13] = [
+    ("?111111111111111102", "F 1 1 0 00000 00000", Some(0)),
+    ("11111111111111111?2", "F 18 0 0 00000 00000", Some(0)),
+    ("111111111111111110?", "F 19 2 0 00000 00000", Some(0)),
+    ("?1?1111111111111102", "F 1 1 3 1 0 00000 00000", Some(0)),
+    ("?11111111111111110?", "F 1 1 19 2 0 00000 00000", Some(0)),
+    ("11111111111111111??", "F 18 0 19 2 0 00000 00000", Some(0)),
+    ("1200?1111111111222?", "F 5 0 19 0 0 00001 00000", Some(0)),
+    ("1200?2111111111222?", "R 4", Some(0)),
+    ("2?11111111111111102", "R 4", Some(0)),
+    ("?111111111111111101", "R 4", Some(0)),
+    ("11111111111111111?1", "R 4", Some(0)),
+    ("???1111111111111102", "R 11", None),
+    ("???3111111111111102", "R 3", None),
 ];
 
 /// 01's word 1200011111111112220 with one symbol too high or too low, by one level and by two, in w
 /// and at both check symbols; and T-02's number, worked out by hand.
-pub const ERRORS: [(&str, &str); 9] = [
-    ("2200011111111112220", "M 1 1 +1 00001 00000"),
-    ("0200011111111112220", "M 1 1 -1 00001 00000"),
-    ("1000011111111112220", "M 2 2 -2 00001 00000"),
-    ("1202011111111112220", "M 4 0 +2 00001 00000"),
-    ("1200011111111112120", "M 17 2 -1 00001 00000"),
-    ("1200011111111112210", "M 18 2 -1 00001 00000"),
-    ("1200011111111112200", "M 18 2 -2 00001 00000"),
-    ("1200011111111112221", "M 19 0 +1 00001 00000"),
-    ("1200011111111112222", "M 19 0 +2 00001 00000"),
+pub const ERRORS: [Case; 9] = [
+    ("2200011111111112220", "M 1 1 +1 00001 00000", Some(1)),
+    ("0200011111111112220", "M 1 1 -1 00001 00000", Some(1)),
+    ("1000011111111112220", "M 2 2 -2 00001 00000", Some(1)),
+    ("1202011111111112220", "M 4 0 +2 00001 00000", Some(2)),
+    ("1200011111111112120", "M 17 2 -1 00001 00000", Some(9)),
+    ("1200011111111112210", "M 18 2 -1 00001 00000", Some(0)),
+    ("1200011111111112200", "M 18 2 -2 00001 00000", Some(0)),
+    ("1200011111111112221", "M 19 0 +1 00001 00000", Some(0)),
+    ("1200011111111112222", "M 19 0 +2 00001 00000", Some(0)),
+];
+
+/// Received words of profile 1, and T-08's count, worked out by hand. First 01's word
+/// 1200011111111112220 with an early symbol of w wrong, the last even one and the last odd one. Then
+/// its zero word with
+/// - an odd symbol too high, and α too, by another number; an even one, and β;
+/// - an odd symbol too high, and α by as much, so that neither check sum disagrees;
+/// - two odd symbols too high, which no third symbol mends; two even ones;
+/// - four odd symbols too high, so that the weight is off by more than a symbol can be; four even ones;
+/// - an odd symbol too high and an even one too low, so that the weight is not off.
+pub const TRIED: [Case; 11] = [
+    ("1210011111111112220", "M 3 0 +1 00001 00000", Some(2)),
+    ("1200011111111110220", "M 16 2 -2 00001 00000", Some(8)),
+    ("1200011111111112020", "M 17 2 -2 00001 00000", Some(9)),
+    ("2111111111111111122", "R 4", Some(9)),
+    ("1211111111111111101", "R 4", Some(8)),
+    ("2111111111111111112", "R 4", Some(0)),
+    ("2121111111111111102", "R 4", Some(9)),
+    ("1212111111111111102", "R 4", Some(8)),
+    ("2121212111111111102", "R 4", Some(9)),
+    ("1212121211111111102", "R 4", Some(8)),
+    ("2011111111111111102", "R 4", Some(0)),
 ];
 
 /// "Checked by hand": user words of profile 1 and their halves.

@@ -1,6 +1,6 @@
 //! The line program boxlines (01, "The line program").
 
-use crate::decode::decode;
+use crate::decode::{decode, Answer};
 use crate::profile::Profile;
 use crate::refusal::{require, Refusal};
 use crate::text::symbol;
@@ -24,12 +24,13 @@ fn parse(line: &[u8]) -> Result<(u8, Vec<u8>), Refusal> {
     Ok((digit(line[0])?, word.ok_or(Refusal::LineForm)?))
 }
 
-/// "Output for a good line: profile", and what its word is answered. A bad line "gives 9 .. then the order of Read".
+/// "Output for a good line: profile", and what its word is answered; T-08: "boxlines prints no
+/// count". A bad line "gives 9 .. then the order of Read".
 fn good_answer(line: &[u8]) -> Result<String, Refusal> {
     let (profile, word) = parse(line)?;
     let k = Profile::lookup(profile)?.k();
     let (mut first, mut second) = (vec![0; k], vec![0; k]);
-    let decoded = decode(profile, &word, &mut first, &mut second)?;
+    let Answer { decoded, .. } = decode(profile, &word, &mut first, &mut second)?;
     Ok(format!("{profile} {}", decoded.answer(&first, &second)))
 }
 

@@ -1,15 +1,16 @@
 //! A second decoder, by 002's steps (section IV-B) as 01 corrects them, in which one step can be
 //! got wrong on purpose. Without a slip it must answer as the search in `decode` does; with one it
 //! shows that a test word tells the right decoder from that near miss. What it does with erasures
-//! stands in `near_miss_erasures`, and what it says of errors in `near_miss_errors`.
+//! stands in `near_miss_erasures`, what it says of errors in `near_miss_errors`, and of the positions
+//! tried in `near_miss_tried`.
 
 use crate::balance::{subtract, weight};
 use crate::codeword::{components_of, Messages};
 use crate::component::{message_in, syndrome};
-use crate::decode::{replaced, Decoded, Sent};
+use crate::decode::{replaced, Answer, Decoded, Sent};
 use crate::encode::encoded_word;
 use crate::profile::Profile;
-use crate::refusal::{require, Refusal};
+use crate::refusal::Refusal;
 
 pub use crate::slip::Slip;
 
@@ -18,13 +19,16 @@ pub fn decode(
     profile: &Profile,
     word: &[u8],
     slip: Option<Slip>,
-) -> Result<(Decoded, Messages), Refusal> {
-    let answer = Decoder { profile, slip }.decode(word)?;
-    if slip == Some(Slip::EncodedWordOnly) {
-        let is_encoded = answer.0.codeword(word) == encoded_word(profile, &answer.1);
-        require(is_encoded, Refusal::Unreadable)?;
-    }
-    Ok(answer)
+) -> Result<(Answer, Messages), Refusal> {
+    let decoder = Decoder { profile, slip };
+    let is_taken = |(decoded, messages): &(Decoded, Messages)| {
+        !decoder.slips(Slip::EncodedWordOnly)
+            || decoded.codeword(word) == encoded_word(profile, messages)
+    };
+    let found = decoder.find(word)?.filter(is_taken);
+    let tried = decoder.tried(word, found.as_ref().map(|(decoded, _)| decoded));
+    let (decoded, messages) = found.ok_or(Refusal::Unreadable { tried })?;
+    Ok((Answer { decoded, tried }, messages))
 }
 
 /// 002's printed δ, 2(q−1)(2−m) mod q, "which among these profiles agrees for q = 3 only".
@@ -68,7 +72,7 @@ impl Decoder<'_> {
     }
 
     /// 002's γ and γ′, with the received check symbol subtracted ("000 decides").
-    fn check_sums_off(&self, w: &[u8], received: &[u8]) -> [u8; 2] {
+    pub fn check_sums_off(&self, w: &[u8], received: &[u8]) -> [u8; 2] {
         let delta = if self.slips(Slip::PrintedDelta) {
             printed_delta(self.profile)
         } else {
@@ -127,7 +131,7 @@ impl Decoder<'_> {
     }
 
     /// The symbol less the excess, where it stays within 0 to q−1.
-    fn remove(&self, symbol: u8, excess: i64) -> Option<u8> {
+    pub fn remove(&self, symbol: u8, excess: i64) -> Option<u8> {
         let level = i64::from(symbol) - excess;
         let in_range = (0..self.q()).contains(&level);
         (in_range || self.slips(Slip::RemovedModQ)).then(|| self.reduce(level))

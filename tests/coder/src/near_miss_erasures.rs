@@ -22,13 +22,13 @@ pub(crate) fn with_zeros(word: &[u8], erased: &[usize]) -> Vec<u8> {
 }
 
 impl Decoder<'_> {
-    /// Numbers 3, 11 and 4, or the pair and how it was found.
-    pub fn decode(&self, word: &[u8]) -> Result<(Decoded, Messages), Refusal> {
+    /// Numbers 3 and 11, or the pair and how it was found, if there is one.
+    pub fn find(&self, word: &[u8]) -> Result<Option<(Decoded, Messages)>, Refusal> {
         let erased = erased_positions(word);
         self.require_symbols(word, &erased)?;
         match erased.len() {
-            0 => self.decode_levels(word).ok_or(Refusal::Unreadable),
-            1..=MOST_ERASURES => self.fill(word, &erased).ok_or(Refusal::Unreadable),
+            0 => Ok(self.decode_levels(word)),
+            1..=MOST_ERASURES => Ok(self.fill(word, &erased)),
             _ => self.fill_many(word, &erased),
         }
     }
@@ -128,7 +128,11 @@ impl Decoder<'_> {
     }
 
     /// More than two erasures: number 11, but for slips.
-    fn fill_many(&self, word: &[u8], erased: &[usize]) -> Result<(Decoded, Messages), Refusal> {
+    fn fill_many(
+        &self,
+        word: &[u8],
+        erased: &[usize],
+    ) -> Result<Option<(Decoded, Messages)>, Refusal> {
         let filled = || {
             let few = erased.len() <= MOST_FILLED;
             few.then(|| fillings(self.profile.q, word, erased))?.find_map(|filled| {
@@ -137,9 +141,9 @@ impl Decoder<'_> {
             })
         };
         match self.slip {
-            Some(Slip::UnreadableBeforeErasures) if filled().is_none() => Err(Refusal::Unreadable),
-            Some(Slip::ManyFilled) => filled().ok_or(Refusal::Erasures),
-            Some(Slip::ThreeAllowed) if erased.len() == 3 => filled().ok_or(Refusal::Unreadable),
+            Some(Slip::UnreadableBeforeErasures) if filled().is_none() => Ok(None),
+            Some(Slip::ManyFilled) => filled().ok_or(Refusal::Erasures).map(Some),
+            Some(Slip::ThreeAllowed) if erased.len() == 3 => Ok(filled()),
             _ => Err(Refusal::Erasures),
         }
     }

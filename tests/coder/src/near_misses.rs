@@ -15,6 +15,9 @@ use crate::random_words::{
 };
 use crate::rng::Rng;
 use crate::text::symbols;
+use crate::tried_words::{
+    both_off, neither_off, none_fits, off_by_other, off_from_q, one_of_w_changed, Half,
+};
 
 use crate::near_miss_words::*;
 
@@ -127,9 +130,54 @@ pub const ERROR_NEAR_MISSES: [NearMiss; 9] = [
         "codeword with two erasures, which carries 0"),
 ];
 
+/// Those of T-08, the request for the count of positions tried.
+#[rustfmt::skip]
+pub const TRIED_NEAR_MISSES: [NearMiss; 15] = [
+    decodes(Slip::TriedBeforeFound, one_of_w_changed,
+        "one symbol of w wrong: it is counted too"),
+    decodes(Slip::TriedWholeHalf, one_of_w_changed,
+        "one symbol of w wrong: none after it is counted"),
+    decodes(Slip::TriedInBothHalves, one_of_w_changed,
+        "one symbol of w wrong: none of the other half is counted"),
+    decodes(Slip::TriedInRange, one_of_w_changed,
+        "one symbol of w wrong: one before it is counted that cannot be wrong by as much"),
+    decodes(Slip::TriedFalling, one_of_w_changed,
+        "one symbol of w wrong: the lowest position is counted first"),
+    refuses(Slip::TriedZeroUnreadable, |profile, rng| {
+        let half = *rng.pick(&[Half::Odd, Half::Even]);
+        none_fits(profile, rng, half)
+    }, "no position of the half fits: all of them are counted"),
+    refuses(Slip::TriedOneLessOdd, |profile, rng| none_fits(profile, rng, Half::Odd),
+        "no odd position fits: there are n + 1 of them"),
+    refuses(Slip::TriedOneMoreEven, |profile, rng| none_fits(profile, rng, Half::Even),
+        "no even position fits: there are n of them"),
+    refuses(Slip::TriedZeroOffByOther, |profile, rng| {
+        let half = *rng.pick(&[Half::Odd, Half::Even]);
+        off_by_other(profile, rng, half)
+    }, "check sum off by something other than the weight's excess mod q: all of the half are counted"),
+    refuses(Slip::TriedZeroFromQ, |profile, rng| {
+        let half = *rng.pick(&[Half::Odd, Half::Even]);
+        off_from_q(profile, rng, half)
+    }, "weight off by q or more, and one check sum off: all of the half are counted"),
+    refuses(Slip::TriedBothOff, both_off,
+        "weight off, and both check sums: none is counted"),
+    refuses(Slip::TriedNeitherOff, neither_off,
+        "weight off, and neither check sum: none is counted"),
+    decodes(Slip::TriedBalanced, one_check_symbol,
+        "one check symbol wrong on a balanced word: none is counted"),
+    decodes(Slip::TriedErasedAsZero, |profile, rng| Some(with_erasures(profile, [1, 0], rng)),
+        "codeword with one erasure: none is counted"),
+    decodes(Slip::TriedErasures, |profile, rng| Some(with_erasures(profile, [2, 0], rng)),
+        "codeword with two erasures: none is counted, these neither"),
+];
+
 /// Those of 01 and of every request.
 pub fn every_near_miss() -> impl Iterator<Item = &'static NearMiss> {
-    NEAR_MISSES.iter().chain(&ERASURE_NEAR_MISSES).chain(&ERROR_NEAR_MISSES)
+    NEAR_MISSES
+        .iter()
+        .chain(&ERASURE_NEAR_MISSES)
+        .chain(&ERROR_NEAR_MISSES)
+        .chain(&TRIED_NEAR_MISSES)
 }
 
 /// How many words are built before a slip is taken to do no harm in a profile.
@@ -154,96 +202,4 @@ impl NearMiss {
 }
 
 #[cfg(test)]
-mod tests {
-    use crate::balance::subtract;
-    use crate::codeword::{check_symbols, components_of};
-    use crate::component::syndrome;
-    use crate::decode::{Decoded, Kind};
-    use crate::random_words::excess;
-    use crate::refusal::Refusal;
-
-    use super::*;
-
-    /// Every slip has words in every profile that tell it from the right decoder, which is what
-    /// the search and 002's steps without a slip agree on; and the words are as they are called.
-    #[test]
-    fn every_slip_is_told() {
-        let rng = &mut Rng::new(1);
-        for near_miss in every_near_miss() {
-            for profile in &PROFILES {
-                let words = near_miss.words(profile, 3, rng);
-                let harmless = near_miss.slip == Slip::PrintedDelta && profile.q == 3;
-                assert_eq!(words.len(), if harmless { 0 } else { 3 }, "{}", near_miss.name);
-                for word in words {
-                    let right = decode_word(profile, &word);
-                    assert_eq!(near_miss::decode(profile, &word, None), right);
-                    assert!(is_as_called(profile, near_miss.slip, &word), "{}", near_miss.name);
-                }
-            }
-        }
-    }
-
-    /// Whether the weight and the check sums are off as the word's name says, where it says so.
-    fn is_as_called(profile: &Profile, slip: Slip, word: &[u8]) -> bool {
-        let (w, received) = word.split_at(profile.m());
-        let (excess, q) = (excess(profile, w), i64::from(profile.q));
-        let sums = check_symbols(profile, w);
-        let off = [0, 1].map(|index| subtract(profile.q, sums[index], received[index]));
-        let one_off = off.contains(&0) && off != [0, 0];
-        match slip {
-            Slip::ExcessReduced => excess.abs() >= q && one_off,
-            Slip::CheckSumOffByAny => {
-                excess != 0
-                    && off.contains(&0)
-                    && i64::from(off[0] + off[1]) != excess.rem_euclid(q)
-            }
-            Slip::BalanceIsClean => excess == 0 && !off.contains(&0),
-            _ => true,
-        }
-    }
-
-    /// A slip of T-02 gets the error wrong and nothing else, and its words are as they are called.
-    #[test]
-    fn a_slip_of_the_error_leaves_the_rest() {
-        let rng = &mut Rng::new(2);
-        for near_miss in &ERROR_NEAR_MISSES {
-            let NearMiss { slip, name, .. } = near_miss;
-            for profile in &PROFILES {
-                for word in near_miss.words(profile, 20, rng) {
-                    let (right, messages) = decode_word(profile, &word).unwrap();
-                    let (wrong, read) = near_miss::decode(profile, &word, Some(*slip)).unwrap();
-                    assert_eq!((wrong.kind, read), (right.kind, messages));
-                    assert!(has_error_as_called(profile, *slip, right), "{name}");
-                }
-            }
-        }
-    }
-
-    /// Whether the right answer's position and error are as the name of the slip's words says.
-    fn has_error_as_called(profile: &Profile, slip: Slip, right: Decoded) -> bool {
-        match (slip, right.kind) {
-            (Slip::FilledCarriesError, kind) => matches!(kind, Kind::Filled(_, Some(_))),
-            (Slip::ErrorSizeAlone | Slip::ErrorReduced | Slip::ErrorByteUnsigned, _) => {
-                right.error < 0
-            }
-            (Slip::CheckErrorZero | Slip::CheckErrorIsSumOff, Kind::Corrected(sent)) => {
-                sent.position > profile.m()
-            }
-            _ => right.error != 0,
-        }
-    }
-
-    /// The known word names position 0: it is balanced, one component is in code, and the other
-    /// has a syndrome of zeros with a last 1.
-    #[test]
-    fn the_known_word_of_position_zero_is_refused() {
-        let profile = &PROFILES[0];
-        let w = symbols(POSITION_ZERO_W);
-        assert_eq!(excess(profile, &w), 0);
-        let mut syndromes = components_of(profile, &w).map(|c| syndrome(profile, &c));
-        syndromes.sort();
-        assert_eq!(syndromes, [[0, 0, 0], [0, 0, 1]]);
-        let word = with_check_symbols(profile, &w);
-        assert_eq!(decode_word(profile, &word), Err(Refusal::Unreadable));
-    }
-}
+mod tests;

@@ -1,7 +1,7 @@
 //! Random messages, codewords and received words of a profile.
 
-use crate::balance::{choices, weight};
-use crate::codeword::codewords;
+use crate::balance::{balanced_words, choices, subtract, weight};
+use crate::codeword::{check_symbols, codewords, with_check_symbols};
 use crate::component::encode_component;
 use crate::decode::replaced;
 use crate::encode::encoded_word;
@@ -80,6 +80,20 @@ pub fn both_check_symbols(profile: &Profile, rng: &mut Rng) -> Option<Vec<u8>> {
     let word = codeword(profile, rng);
     let checks = [profile.m() + 1, profile.m() + 2];
     Some(changed_at(profile, &word, &checks, rng))
+}
+
+/// A word that only its components give away as no codeword, as a rule.
+pub fn balanced_noise(profile: &Profile, rng: &mut Rng) -> Option<Vec<u8>> {
+    let x = rng.word(profile.q, profile.m());
+    let (_, w) = balanced_words(profile.q, &x).next()?;
+    Some(with_check_symbols(profile, &w))
+}
+
+/// How far each check sum is above its received check symbol, mod q: α, β.
+pub fn checks_off(profile: &Profile, word: &[u8]) -> [u8; 2] {
+    let (w, received) = word.split_at(profile.m());
+    let sums = check_symbols(profile, w);
+    [0, 1].map(|check| subtract(profile.q, sums[check], received[check]))
 }
 
 /// How far the weight of w is above the balancing value.

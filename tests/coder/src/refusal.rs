@@ -6,27 +6,43 @@ use std::fmt;
 /// 8 no free cell; 9 line form; 10 no such record." T-01: "11, more than two marks".
 #[derive(Debug, Clone, Copy, PartialEq, Eq)]
 pub enum Refusal {
-    Profile = 1,
-    Length = 2,
-    Symbol = 3,
-    Unreadable = 4,
-    QueueLength = 5,
-    UnsoundQueue = 6,
-    BoxNumber = 7,
-    NoFreeCell = 8,
-    LineForm = 9,
-    NoSuchRecord = 10,
-    Erasures = 11,
+    Profile,
+    Length,
+    Symbol,
+    /// T-08: "The reader's refusal 4 reports the count too .. the other refusals still return a
+    /// number only."
+    Unreadable {
+        tried: usize,
+    },
+    QueueLength,
+    UnsoundQueue,
+    BoxNumber,
+    NoFreeCell,
+    LineForm,
+    NoSuchRecord,
+    Erasures,
 }
 
 impl Refusal {
     /// "A refusal returns its number only."
     pub fn number(self) -> u8 {
-        self as u8
+        match self {
+            Refusal::Profile => 1,
+            Refusal::Length => 2,
+            Refusal::Symbol => 3,
+            Refusal::Unreadable { .. } => 4,
+            Refusal::QueueLength => 5,
+            Refusal::UnsoundQueue => 6,
+            Refusal::BoxNumber => 7,
+            Refusal::NoFreeCell => 8,
+            Refusal::LineForm => 9,
+            Refusal::NoSuchRecord => 10,
+            Refusal::Erasures => 11,
+        }
     }
 }
 
-/// "For a refused one: R, a space and the number."
+/// "For a refused one: R, a space and the number." T-08: "boxlines prints no count."
 impl fmt::Display for Refusal {
     fn fmt(&self, text: &mut fmt::Formatter) -> fmt::Result {
         write!(text, "R {}", self.number())

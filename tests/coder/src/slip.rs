@@ -1,7 +1,7 @@
 //! The steps of a decoder that can be got wrong.
 
 /// One step got wrong: 01's "Wrong turns seen in drafts", and others of their kind; then those that
-/// the erasures of T-01 and the error of T-02 invite.
+/// the erasures of T-01, the error of T-02 and the count of T-08 invite.
 #[derive(Debug, Clone, Copy, PartialEq, Eq)]
 pub enum Slip {
     /// δ is 002's printed 2(q−1)(2−m).
@@ -79,4 +79,37 @@ pub enum Slip {
     CheckErrorIsSumOff,
     /// A filled word carries what its weight is off by with 0 at the erasures.
     FilledCarriesError,
+    /// T-08, here and below. The position found is not counted, only those before it.
+    TriedBeforeFound,
+    /// All positions of the half are counted, also where one is found.
+    TriedWholeHalf,
+    /// All positions of w are counted up to the one found, and not only those of the half; all m
+    /// where none fits.
+    TriedInBothHalves,
+    /// Only positions whose symbol stays in range without the error are counted.
+    TriedInRange,
+    /// The positions are counted in falling order.
+    TriedFalling,
+    /// Where none fits, the count is 0.
+    TriedZeroUnreadable,
+    /// Where no odd position fits, the count is n, as for the even ones.
+    TriedOneLessOdd,
+    /// Where no even position fits, the count is n + 1, as for the odd ones.
+    TriedOneMoreEven,
+    /// Where the check sum is off by something else than the weight, no position is tried, and the
+    /// count is 0.
+    TriedZeroOffByOther,
+    /// Where the weight is off by q or more, no position is tried, and the count is 0.
+    TriedZeroFromQ,
+    /// The odd positions are counted where both check sums disagree.
+    TriedBothOff,
+    /// The odd positions are counted where neither check sum disagrees, but the weight is off.
+    TriedNeitherOff,
+    /// The weight is not looked at: with one wrong check symbol all positions of its half are
+    /// counted, though w is balanced.
+    TriedBalanced,
+    /// In a word with erasures positions are counted as if the erasures were 0.
+    TriedErasedAsZero,
+    /// In a word with erasures these are counted.
+    TriedErasures,
 }

@@ -1,12 +1,14 @@
-//! Every case of document 01, starred or not, against the coder, words with erasures (T-01) and
-//! words with errors of both signs (T-02).
+//! Every case of document 01, starred or not, against the coder, words with erasures (T-01), words
+//! with errors of both signs (T-02) and words by how many positions are tried (T-08).
 
 use coder::balance::{balanced_words, weight, BalancingChoice};
 use coder::codeword::codewords;
 use coder::component::encode_component;
+use coder::decode::decode_word;
 use coder::encode::encode;
 use coder::examples::{
     encoded, BOXLINES_INPUT, BOXLINES_OUTPUT, COMPONENTS, DECODED, ERASED, ERRORS, PROFILE_TABLE,
+    TRIED,
 };
 use coder::lines::{answer, boxlines};
 use coder::profile::PROFILES;
@@ -59,9 +61,15 @@ fn the_choice_for_a_pair_of_profile_1() {
 
 #[test]
 fn received_words_of_profile_1() {
-    for (word, expected) in DECODED.into_iter().chain(ERASED).chain(ERRORS) {
+    for (word, expected, tried) in DECODED.into_iter().chain(ERASED).chain(ERRORS).chain(TRIED) {
         let line = answer(format!("1 {word}").as_bytes());
         assert_eq!(line.strip_prefix("1 ").unwrap_or(&line), expected);
+        let counted = match decode_word(&PROFILES[0], &symbols(word)) {
+            Ok((answer, _)) => Some(answer.tried),
+            Err(Refusal::Unreadable { tried }) => Some(tried),
+            Err(_) => None,
+        };
+        assert_eq!(counted, tried, "{word}");
     }
 }
 

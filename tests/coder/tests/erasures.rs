@@ -1,7 +1,7 @@
 //! What T-01 says of words with erasures (marks), tried on samples.
 
 use coder::codeword::{all_messages, codewords, Messages};
-use coder::decode::{decode, decode_word, Decoded, Kind, Sent};
+use coder::decode::{decode, decode_word, Answer, Decoded, Kind, Sent};
 use coder::erased_words::{erased, erased_and_changed};
 use coder::erasure::erased_at;
 use coder::near_miss;
@@ -11,7 +11,8 @@ use coder::refusal::Refusal;
 use coder::rng::Rng;
 
 /// What decoding answers to a codeword with these positions erased, in rising order, is what was
-/// sent there, T-02's 0, and its pair. "The outputs then hold its first and second user word".
+/// sent there, 0 for T-02's number and for T-08's, and its pair. "The outputs then hold its first and
+/// second user word".
 fn assert_filled(profile: &Profile, messages: &Messages, codeword: &[u8], positions: &[usize]) {
     let received = erased_at(codeword, positions);
     let [mut first, mut second] = [0, 255].map(|filler| vec![filler; profile.k()]);
@@ -19,7 +20,7 @@ fn assert_filled(profile: &Profile, messages: &Messages, codeword: &[u8], positi
     let mut sent =
         positions.iter().map(|&position| Sent { position, symbol: codeword[position - 1] });
     let kind = Kind::Filled(sent.next().unwrap(), sent.next());
-    let expected = Decoded { kind, error: 0 };
+    let expected = Answer { decoded: Decoded { kind, error: 0 }, tried: 0 };
     assert_eq!((decoded, &[first, second]), (Ok(expected), messages));
 }
 
@@ -67,7 +68,7 @@ fn one_erasure_and_a_wrong_symbol_are_refused() {
         let word = codeword(profile, rng);
         for _ in 0..50 {
             let received = erased_and_changed(profile, &word, [1, 1], rng);
-            assert_eq!(decode_word(profile, &received), Err(Refusal::Unreadable));
+            assert_eq!(decode_word(profile, &received), Err(Refusal::Unreadable { tried: 0 }));
         }
     }
 }

@@ -7,7 +7,7 @@ use coder::codeword::{check_symbols, codewords, messages_of};
 use coder::component::{
     check_positions, component_with_syndrome, encode_component, in_code, message_in, syndrome,
 };
-use coder::decode::{decode, search, within_one, Decoded, Kind, Sent};
+use coder::decode::{decode, decode_word, search, within_one, Answer, Decoded, Kind, Sent};
 use coder::encode::encoded_word;
 use coder::near_miss::{self, printed_delta, Slip};
 use coder::profile::PROFILES;
@@ -30,8 +30,9 @@ fn a_message_fixes_its_component() {
 }
 
 /// Whatever choice made a codeword, it is read as its pair, also with any one symbol at any other
-/// level, of which T-02's number is "received minus sent .. for check symbols as well". "The outputs
-/// then hold its first and second user word, whatever they held before."
+/// level, of which T-02's number is "received minus sent .. for check symbols as well", and T-08's
+/// "the number of places of that half of w .. up to and including the one found". "The outputs then
+/// hold its first and second user word, whatever they held before."
 #[test]
 fn every_codeword_is_read_as_its_pair() {
     let rng = &mut Rng::new(3);
@@ -46,22 +47,24 @@ fn every_codeword_is_read_as_its_pair() {
         for (change, received) in within_one(profile, sent) {
             let [mut first, mut second] = [0, 255].map(|filler| vec![filler; profile.k()]);
             let decoded = decode(profile.number, &received, &mut first, &mut second);
-            let expected = match change.kind {
-                Kind::Clean => Decoded { kind: Kind::Clean, error: 0 },
+            let (expected, tried) = match change.kind {
+                Kind::Clean => (Decoded { kind: Kind::Clean, error: 0 }, 0),
                 Kind::Corrected(Sent { position, .. }) => {
                     let symbol = sent[position - 1];
                     let error = i16::from(received[position - 1]) - i16::from(symbol);
-                    Decoded { kind: Kind::Corrected(Sent { position, symbol }), error }
+                    let tried = if position <= profile.m() { position.div_ceil(2) } else { 0 };
+                    (Decoded { kind: Kind::Corrected(Sent { position, symbol }), error }, tried)
                 }
                 Kind::Filled(..) => unreachable!("nothing is erased"),
             };
+            let expected = Answer { decoded: expected, tried };
             assert_eq!((decoded, [first, second]), (Ok(expected), messages.clone()));
         }
     }
 }
 
-/// 002's way of decoding, as 01 corrects it, finds what the search finds: on codewords with up to
-/// three symbols changed, and on noise.
+/// 002's way of decoding, as 01 corrects it, finds what the search finds, and counts what was tried
+/// for it: on codewords with up to three symbols changed, and on noise.
 #[test]
 fn the_search_agrees_with_the_steps_of_002() {
     let rng = &mut Rng::new(6);
@@ -70,7 +73,8 @@ fn the_search_agrees_with_the_steps_of_002() {
             let codeword = encoded(profile, rng);
             let noise = rng.word(profile.q, profile.word_length());
             for word in [changed(profile, &codeword, count % 4, rng), noise] {
-                assert_eq!(near_miss::decode(profile, &word, None).ok(), search(profile, &word));
+                let expected = decode_word(profile, &word);
+                assert_eq!(near_miss::decode(profile, &word, None), expected);
             }
         }
     }
@@ -100,7 +104,7 @@ fn check_symbols_are_balanced_with_the_right_delta_only() {
 fn balance_is_no_proof_of_a_clean_word() {
     let word = symbols("1111111111111111111");
     let slipped = near_miss::decode(&PROFILES[0], &word, Some(Slip::BalanceIsClean));
-    assert_eq!(slipped.map(|(decoded, _)| decoded), Ok(Decoded::CLEAN));
+    assert_eq!(slipped.map(|(answer, _)| answer.decoded), Ok(Decoded::CLEAN));
     assert_eq!(search(&PROFILES[0], &word), None);
 }
 

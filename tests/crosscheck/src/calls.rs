@@ -1,6 +1,6 @@
 //! Encoding and decoding by a coder's entry points and by the separate coder.
 
-use coder::decode::{Decoded, Kind, Sent};
+use coder::decode::{Answer, Decoded, Kind, Sent};
 use coder::refusal::Refusal;
 use fogzurt::{EntryPoints, PackedAnswer, PositionAndSymbol};
 
@@ -17,12 +17,20 @@ pub fn number_of(answer: Result<(), Refusal>) -> u64 {
     answer.map_or_else(|refusal| u64::from(refusal.number()), |()| 0)
 }
 
-/// What decoding has to answer, packed.
-pub fn packed(answer: Result<Decoded, Refusal>) -> PackedAnswer {
-    let Decoded { kind, error } = match answer {
-        Err(refusal) => return PackedAnswer::refused(refusal.number()),
-        Ok(decoded) => decoded,
+/// What decoding has to answer, packed. Of the refusals only 4 has a count.
+pub fn packed(answer: Result<Answer, Refusal>) -> PackedAnswer {
+    let (answer, tried) = match answer {
+        Ok(Answer { decoded, tried }) => (read(decoded), tried),
+        Err(refusal) => {
+            let tried = if let Refusal::Unreadable { tried } = refusal { tried } else { 0 };
+            (PackedAnswer::refused(refusal.number()), tried)
+        }
     };
+    answer.with_tried(tried as u8)
+}
+
+/// The answer to a word that is read, without its count.
+fn read(Decoded { kind, error }: Decoded) -> PackedAnswer {
     let read = match kind {
         Kind::Clean => PackedAnswer::clean(),
         Kind::Corrected(Sent { position, symbol }) => PackedAnswer::corrected(position, symbol),

@@ -1,14 +1,16 @@
 //! All 3^19 received words of profile 1. The codewords and their neighbours are marked in a table,
-//! a part of it at a time; everything else has to be refused with 4.
+//! a part of it at a time; everything else has to be refused with 4. The table also says which
+//! position is found, if any, and so how many are tried (02, T-08).
 
 use std::ops::Range;
 
 use coder::codeword::{all_messages, codewords, messages_of, with_check_symbols, Messages};
 use coder::profile::{Profile, PROFILES};
 use coder::refusal::Refusal;
+use coder::tried::tried_up_to;
 use fogzurt::{EntryPoints, PackedAnswer};
 
-use crate::calls::decode_to;
+use crate::calls::{decode_to, packed};
 use crate::compare::{Checked, Mismatch, FILLER};
 use crate::parallel::run_jobs;
 
@@ -140,7 +142,9 @@ fn check_part(tried: &EntryPoints, codewords: &Codewords, first: u32) -> Checked
                 let index = usize::from(index);
                 sent[index] = symbol;
                 let error = received[index] as i8 - symbol as i8;
-                (1, PackedAnswer::corrected(index + 1, symbol).with_error(error))
+                let count = tried_up_to(PROFILE, &received, Some(index + 1)) as u8;
+                let corrected = PackedAnswer::corrected(index + 1, symbol);
+                (1, corrected.with_error(error).with_tried(count))
             }
         };
         let row = codewords.binary_search_by_key(&value(&sent), |(listed, _)| *listed);
@@ -160,7 +164,7 @@ fn check_refused(tried: &EntryPoints, received: &[u8; LENGTH]) -> Checked {
     let word = *received;
     let (mut first, mut second) = (UNTOUCHED, UNTOUCHED);
     let number = u64::from(PROFILE.number);
-    let expected = PackedAnswer::refused(Refusal::Unreadable.number());
+    let expected = packed(Err(Refusal::Unreadable { tried: tried_up_to(PROFILE, received, None) }));
     let answer = (tried.decode)(number, &word, &mut first[LENT], &mut second[LENT]);
     if answer == expected && word == *received && [first, second] == [UNTOUCHED; 2] {
         return Ok(());

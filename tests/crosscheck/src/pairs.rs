@@ -1,12 +1,13 @@
 //! Every pair of messages of profile 1: its encoded word, as it is, with each symbol changed to
 //! each other level, with each symbol erased, and with two erased. What was sent is known, so
-//! nothing is searched for.
+//! nothing is searched for, and nothing is tried.
 
 use coder::codeword::{all_messages, Messages};
-use coder::decode::{within_one, Decoded, Kind, Sent};
+use coder::decode::{within_one, Answer, Decoded, Kind, Sent};
 use coder::encode::encoded_word;
 use coder::erasure::erased_at;
 use coder::profile::PROFILES;
+use coder::tried::tried_up_to;
 use fogzurt::EntryPoints;
 
 use crate::calls::{decode_to, encode, packed};
@@ -47,13 +48,17 @@ fn check_pair<'a>(
     let changed = within_one(profile, &sent).map(|(change, received)| match change.kind {
         Kind::Corrected(Sent { position, .. }) => {
             let sent = Sent { position, symbol: sent[position - 1] };
-            (Decoded::corrected(sent, received[position - 1]), received)
+            let decoded = Decoded::corrected(sent, received[position - 1]);
+            let count = tried_up_to(profile, &received, Some(position));
+            (Answer { decoded, tried: count }, received)
         }
-        _ => (change, received),
+        _ => (Answer { decoded: change, tried: 0 }, received),
     });
     let erased = (1..=sent.len()).map(|position| vec![position]).chain(erased.map(|p| p.to_vec()));
-    let filled =
-        erased.map(|positions| (Decoded::filled(&sent, &positions), erased_at(&sent, &positions)));
+    let filled = erased.map(|positions| {
+        let decoded = Decoded::filled(&sent, &positions);
+        (Answer { decoded, tried: 0 }, erased_at(&sent, &positions))
+    });
     changed
         .chain(filled)
         .map(|(expected, received)| {

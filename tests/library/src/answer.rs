@@ -3,7 +3,7 @@
 use std::fmt;
 
 /// Eight bytes, as the header has them, the lowest first: number, kind, position, symbol sent there,
-/// second position, symbol sent there, error, and one that is 0.
+/// second position, symbol sent there, error, and how many positions were tried.
 #[derive(Debug, Clone, Copy, PartialEq, Eq)]
 pub struct PackedAnswer(pub u64);
 
@@ -21,6 +21,9 @@ const NONE: PositionAndSymbol = (0, 0);
 
 /// The error's byte, which holds a two's complement.
 const ERROR: usize = 6;
+
+/// The byte of the count of positions tried.
+const TRIED: usize = 7;
 
 impl PackedAnswer {
     const fn of(number: u8, kind: u8, sent: [PositionAndSymbol; 2]) -> PackedAnswer {
@@ -66,6 +69,14 @@ impl PackedAnswer {
         PackedAnswer(u64::from_le_bytes(bytes))
     }
 
+    /// The same with this count (02: tried places). All but words that were corrected in w, and some
+    /// of those refused with 4, carry 0.
+    pub const fn with_tried(self, tried: u8) -> PackedAnswer {
+        let mut bytes = self.0.to_le_bytes();
+        bytes[TRIED] = tried;
+        PackedAnswer(u64::from_le_bytes(bytes))
+    }
+
     /// 0 if the word was read, else the number of the refusal.
     pub const fn number(self) -> u64 {
         self.0 & 255
@@ -75,12 +86,12 @@ impl PackedAnswer {
 impl fmt::Display for PackedAnswer {
     fn fmt(&self, text: &mut fmt::Formatter) -> fmt::Result {
         let PackedAnswer(packed) = *self;
-        let [number, kind, position, symbol, second, second_symbol, error, last] =
+        let [number, kind, position, symbol, second, second_symbol, error, tried] =
             packed.to_le_bytes();
         write!(
             text,
             "{packed} (number {number}, kind {kind}, position {position}, symbol {symbol}, \
-             second position {second}, symbol {second_symbol}, error {}, last byte {last})",
+             second position {second}, symbol {second_symbol}, error {}, tried {tried})",
             error as i8
         )
     }

@@ -38,7 +38,7 @@ enum-known-y : tie.Need-enum-known-y
 enum-known-y c = search needs
 
 returns : tie.Need-returns
-returns c = answers-unreadable _ _ (one-none _ _ _ _ (c .before .find-one .ensures) (c .match .keys2))
+returns c = answers-unreadable _ _ (one-none _ _ _ _ (c .before .find-one .ensures) (c .match .keys2)) refl
 
 correct-differences-requires : tie.Need-correct-differences-requires
 correct-differences-requires c κs = search needs

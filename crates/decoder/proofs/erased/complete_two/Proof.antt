@@ -48,7 +48,7 @@ same-length : tie.Need-same-length
 same-length c = search needs
 
 returns : tie.Need-returns
-returns c = answers-unreadable _ _ (two-none _ _ _ _ _ (c .before .find-two .ensures) (c .match .keys2))
+returns c = answers-unreadable _ _ (two-none _ _ _ _ _ (c .before .find-two .ensures) (c .match .keys2)) refl
 
 correct-differences-requires : tie.Need-correct-differences-requires
 correct-differences-requires c κs = search needs

@@ -2,8 +2,7 @@
 -- Assumes nothing.
 use borrow.Author.Needs.{needs}
 use mathlib.Core.Path.{ap}
-use Rattle.code_theory.specs.Operations.{answered}
-use Rattle.decoder.proofs.Answering.{answers-as}
+use Rattle.decoder.proofs.Answering.{filledAnswer, answers-as}
 use Rattle.decoder.proofs.Clearing.{cleared-size, cleared-received, erased-is, two-within}
 use Rattle.decoder.proofs.erased.decode_two.Statement.{statement}
 use Rattle.decoder.proofs.erased.decode_two.Tie as tie
@@ -41,7 +40,7 @@ returns c =
     let done = c .before .before .before .before .before in
     let cleared = done .before .before .before .before in
     let erased = cleared .before .before .before .before .pre .0 in
-    answers-as (ap answered (erased-is erased (cleared .cleared .ensures))) (done .complete-two .ensures)
+    answers-as (ap filledAnswer (erased-is erased (cleared .cleared .ensures))) (done .complete-two .ensures)
 
 pub decode-two-spec : {M : Type 1} → statement M
 decode-two-spec =

@@ -45,6 +45,9 @@ fits-requires c κs =
     let tries = passed .before .before .before .pre .0 in
     (tries, omega (arith, passed .loop .inv .0, tries .given .valid .length))
 
+add-tried : tie.Need-add-tried Inv-loop μ-loop
+add-tried c = search needs
+
 returns : tie.Need-returns Inv-loop μ-loop
 returns c =
     let tested = c .before in
@@ -70,9 +73,9 @@ returns-2 : tie.Need-returns-2 Inv-loop μ-loop
 returns-2 c =
     let passed = c .before in
     let tries = passed .before .before .before .pre .0 in
-    none-found _ _ _ _ (tries .given .parity-number) _ (c .loop-test .left) (passed .loop .inv .1)
+    none-found _ _ _ _ (tries .given .parity-number) _ (omega (arith, c .loop-test .left, passed .loop .inv .0)) (passed .loop .inv .1)
 
 pub try-positions-spec : {M : Type 1} → statement M
 try-positions-spec =
-    tie.close (tie.spec Inv-loop μ-loop add-count sub-count loop-holds mul-x add-x shared-slice-read-x fits-requires returns add-k
+    tie.close (tie.spec Inv-loop μ-loop add-count sub-count loop-holds mul-x add-x shared-slice-read-x fits-requires add-tried returns add-k
     loop-less loop-again returns-2)

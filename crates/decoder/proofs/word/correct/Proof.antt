@@ -1,17 +1,22 @@
 -- `decoder::word::correct` meets its contract: the index fits, so its symbol is a level and the moved syndromes are near.
 -- Assumes nothing.
 use borrow.Author.Needs.{needs}
-use mathlib.Core.Path.{ap}
+use mathlib.Core.Path.{_≡_, ap₂, _∙_}
 use mathlib.Core.Bool.{true, false}
+use Prim.Native.Nat.{ℕ}
 use native.Mathlib.Omega.{arith}
 use Rattle.code_theory.specs.Reading as model
 use Rattle.code_theory.specs.Reading.{Correction}
-use Rattle.code_theory.specs.Operations.{Report, success}
+use Rattle.code_theory.specs.Operations.{success}
 use Rattle.decoder.proofs.Differencing.{components-corrected}
 use Rattle.decoder.proofs.Answering.{answers-read, messages-of}
 use Rattle.decoder.proofs.Finding.{fit-index, fit-small, fit-level, fit-near, fit-read}
 use Rattle.decoder.proofs.word.correct.Statement.{statement}
 use Rattle.decoder.proofs.word.correct.Tie as tie
+
+-- what is said of a correction
+report-of : {c d : Correction} {t t′ : ℕ} → c ≡ d → t ≡ t′ → success (model.corrected c) t ≡ success (model.corrected d) t′
+report-of e f = ap₂ (λ (c : Correction) (t : ℕ). success (model.corrected c) t) e f
 
 -- The moments: at the start, once the symbol sent is known, once the body is corrected.
 
@@ -23,10 +28,6 @@ sent c = c .before .before
 
 abbrev corrected : tie.After-write-pair → tie.After-correct-differences
 corrected c = c .before .before .before .before
-
--- what is said of a correction
-abbrev told : Correction → Report
-told c = success (model.corrected c)
 
 mul-i : tie.Need-mul-i
 mul-i c = let found = c .before .before .before .pre .0 in omega (arith, fit-small found)
@@ -83,7 +84,8 @@ returns c =
     let level = fit-level found (sent body .balancing-symbol .ensures) in
     let parts = components-corrected _ _ (found .is) level held (body .correct-differences .ensures) .parts in
     answers-read _ _ (fit-read found after (sent body .balancing-symbol .ensures))
-    (messages-of (parts true) (parts false) (written .write-pair .ensures)) (ap told (c .corrected .ensures))
+    (messages-of (parts true) (parts false) (written .write-pair .ensures))
+    (report-of (c .corrected .ensures .0) (c .corrected .ensures .1 ∙ found .fit .2))
 
 pub correct-spec : {M : Type 1} → statement M
 correct-spec =

@@ -23,8 +23,8 @@ none (inr (inl e)) = omega arith
 none (inr (inr (inl e))) = omega arith
 none (inr (inr (inr e))) = omega arith
 
-readable : (c : tie.At-match-keys2) → c .before .judge .result ≡ Unreadable → ⊥
-readable c e = none (subst (λ (r : Decoded). OneOf (0 ∷ 1 ∷ 2 ∷ 4 ∷ []) (tagOf the-type r)) e (c .match .keys2))
+readable : (c : tie.At-match-keys2) (t : ℕ) → c .before .judge .result ≡ Unreadable t → ⊥
+readable c t e = none (subst (λ (r : Decoded). OneOf (0 ∷ 1 ∷ 2 ∷ 4 ∷ []) (tagOf the-type r)) e (c .match .keys2))
 
 judge-requires : tie.Need-judge-requires
 judge-requires c κs = let start = c .before .before in (start .pre .0 .valid, start .pre .1)

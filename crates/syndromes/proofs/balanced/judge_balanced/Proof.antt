@@ -40,7 +40,7 @@ returns-2 c =
     let third = widened .before in
     let second = third .before .before .before in
     beta-wrong _ _ _ _ _ _ (is-near (second .before .before .before)) (eq-eqb _ _ (second .if2 .taken)) (ne-eqb _ _ (third .if3 .taken))
-    (omega (arith, widened .wide .ensures .0)) (c .corrected .ensures)
+    (omega (arith, widened .wide .ensures .0)) (c .corrected .ensures .0) (c .corrected .ensures .1)
 
 returns-3 : tie.Need-returns-3
 returns-3 c =
@@ -62,7 +62,7 @@ returns-4 c =
     let third = widened .before in
     let second = third .before .before .before in
     alpha-wrong _ _ _ _ _ _ (is-near (second .before .before .before)) (ne-eqb _ _ (second .if2 .left)) (eq-eqb _ _ (third .if4 .taken))
-    (omega (arith, widened .wide2 .ensures .0)) (c .corrected2 .ensures)
+    (omega (arith, widened .wide2 .ensures .0)) (c .corrected2 .ensures .0) (c .corrected2 .ensures .1)
 
 returns-5 : tie.Need-returns-5
 returns-5 c =

@@ -1,6 +1,6 @@
 -- `syndromes::correction::corrected` meets its contract: the difference of two bytes fits 16 bits.
 -- Assumes nothing.
-use mathlib.Core.Path.{ap}
+use mathlib.Core.Path.{refl, ap}
 use lib.IntN.{ℤ, pos, _-ℤ_}
 use mir.Syntax.{w16}
 use mir.Val.{toZ}
@@ -25,7 +25,7 @@ sub-error c = asked (error-is c)
 returns : tie.Need-returns
 returns c =
     let told : ℤ → Correction = λ z. record { position = c .args .position; symbol = c .args .y; error = z } in
-    ap told (read (held (error-is c)))
+    (ap told (read (held (error-is c))), refl)
 
 pub corrected-spec : {M : Type 1} → statement M
 corrected-spec = tie.close (tie.spec cast-error cast-error-2 sub-error returns)

@@ -2,10 +2,9 @@
 
 use coder::codeword::{all_messages, codewords, components_of, Messages};
 use coder::component::{message_positions, syndrome};
-use coder::decode::{replaced, search};
+use coder::decode::{decode_word, replaced, Answer};
 use coder::encode::encoded_word;
 use coder::profile::Profile;
-use coder::refusal::Refusal;
 use coder::text::digits;
 
 use crate::picture::{Picture, BOLD, CENTRED, END};
@@ -137,8 +136,9 @@ fn differing(a: &[u8], b: &[u8]) -> Vec<usize> {
 
 /// What boxlines answers to a received word of the profile, and whether that is the pair sent.
 fn answer(profile: &Profile, word: &[u8], sent: &Messages) -> String {
-    let Some((decoded, read)) = search(profile, word) else {
-        return Refusal::Unreadable.to_string();
+    let (Answer { decoded, .. }, read) = match decode_word(profile, word) {
+        Ok(answer) => answer,
+        Err(refusal) => return refusal.to_string(),
     };
     let judged = if read == *sent { "right" } else { "wrong" };
     format!("{} {}: {judged}", profile.number, decoded.answer(&read[0], &read[1]))

@@ -10,13 +10,10 @@ use coder::erasure::{erased_at, ERASURE};
 use coder::examples::ERASED;
 use coder::near_misses::ERASURE_NEAR_MISSES;
 use coder::profile::{Profile, PROFILES};
-use coder::random_words::{changed, codeword, positions};
+use coder::random_words::{balanced_noise, changed, codeword, positions};
 use coder::rng::Rng;
 
-use super::{
-    add, add_word, balanced_noise, cases_by_hand, near_misses, received, Received,
-    OF_EACH_NEAR_MISS,
-};
+use super::{add, add_word, cases_by_hand, near_misses, received, Received, OF_EACH_NEAR_MISS};
 use crate::case_file::{row_for, CaseFile, PROFILE_NUMBERS};
 
 const SEED: u64 = 0x6572_6173;

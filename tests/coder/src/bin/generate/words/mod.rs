@@ -2,19 +2,19 @@
 
 mod erasures;
 mod errors;
+mod tried;
 
 use std::iter::repeat_with;
 
-use coder::balance::balanced_words;
-use coder::codeword::with_check_symbols;
-use coder::decode::{decode, replaced, within_one};
-use coder::examples::DECODED;
+use coder::decode::{decode, replaced, within_one, Answer};
+use coder::examples::{Case, DECODED};
 use coder::near_misses::{NearMiss, NEAR_MISSES};
 use coder::profile::{Profile, PROFILES};
 use coder::random_words::{
-    both_check_symbols, by_another_choice, changed_at, codeword, encoded, one_check_symbol,
-    with_changes, Build,
+    balanced_noise, both_check_symbols, by_another_choice, changed_at, codeword, encoded,
+    one_check_symbol, with_changes, Build,
 };
+use coder::refusal::Refusal;
 use coder::rng::Rng;
 use coder::text::digits;
 
@@ -52,17 +52,26 @@ pub fn make() -> CaseFile {
     order_of_refusals(&mut file, rng);
     erasures::add_groups(&mut file);
     errors::add_groups(&mut file);
+    tried::add_groups(&mut file);
     file
 }
 
 /// Adds the case of a word, with output buffers of these lengths.
 fn add(file: &mut CaseFile, profile: u8, word: &[u8], lengths: [usize; 2]) {
     let [mut first, mut second] = lengths.map(|length| vec![FILLER; length]);
-    let expected = match decode(profile, word, &mut first, &mut second) {
-        Ok(decoded) => decoded.answer(&first, &second),
-        Err(refusal) => refusal.to_string(),
+    let (answer, tried) = match decode(profile, word, &mut first, &mut second) {
+        Ok(Answer { decoded, tried }) => (decoded.answer(&first, &second), Some(tried)),
+        Err(refusal @ Refusal::Unreadable { tried }) => (refusal.to_string(), Some(tried)),
+        Err(refusal) => (refusal.to_string(), None),
     };
+    let expected = with_count(&answer, tried);
     file.case(format!("{profile} {} {} {}", digits(word), lengths[0], lengths[1]), &expected);
+}
+
+/// What boxlines answers, and after it the count of T-08, where there is one.
+fn with_count(answer: &str, tried: Option<usize>) -> String {
+    let count = tried.map(|tried| format!(" {tried}"));
+    answer.to_string() + &count.unwrap_or_default()
 }
 
 /// Adds the case of a word with outputs of the right length.
@@ -71,9 +80,9 @@ fn add_word(file: &mut CaseFile, profile: &Profile, word: &[u8]) {
 }
 
 /// Words of profile 1, with answers that were worked out by hand.
-fn cases_by_hand(file: &mut CaseFile, cases: &[(&str, &str)]) {
-    for (word, expected) in cases {
-        file.case(format!("1 {word} 5 5"), expected);
+fn cases_by_hand(file: &mut CaseFile, cases: &[Case]) {
+    for &(word, answer, tried) in cases {
+        file.case(format!("1 {word} 5 5"), &with_count(answer, tried));
     }
 }
 
@@ -112,13 +121,6 @@ fn received(file: &mut CaseFile, table: &[Received], rng: &mut Rng) {
             }
         }
     }
-}
-
-/// A word that only its components give away as no codeword, as a rule.
-fn balanced_noise(profile: &Profile, rng: &mut Rng) -> Option<Vec<u8>> {
-    let x = rng.word(profile.q, profile.m());
-    let (_, w) = balanced_words(profile.q, &x).next()?;
-    Some(with_check_symbols(profile, &w))
 }
 
 /// A symbol of q, and one of 9, at every position of a codeword.
