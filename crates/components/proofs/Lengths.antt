@@ -19,17 +19,21 @@ use Rattle.profiles.specs.Row.{Valid, parameters, RowOf}
 use Rattle.profiles.proofs.Table.{message-is}
 use Rattle.components.specs.Components.{zeroFirst, padded, bothLong, componentsOf}
 
--- a component of a profile has at least three check symbols
-many : ℕ → Bool
-many i = leb 3 (profile i .r)
+-- a component of a profile has at least three check symbols, and nine levels at most
+roomy : ℕ → Bool
+roomy i = leb 3 (profile i .r) && leb (profile i .q) 9
 
-all-many : T (allBelow (λ j. many (suc j)) (length profiles))
-unfolding many profile
-all-many = tt
+all-roomy : T (allBelow (λ j. roomy (suc j)) (length profiles))
+unfolding roomy profile
+all-roomy = tt
 
-checks-many : (i : ℕ) → T (isProfile i) → 3 ≤ profile i .r
-unfolding many
-checks-many i h = leb→le 3 (profile i .r) (every-profile many all-many i h)
+profile-roomy : (i : ℕ) → T (isProfile i) → (3 ≤ profile i .r) × (profile i .q ≤ 9)
+unfolding roomy
+profile-roomy i h =
+    let both : T (roomy i) = every-profile roomy all-roomy i h in (
+      leb→le 3 (profile i .r) (and-left (leb 3 (profile i .r)) (leb (profile i .q) 9) both),
+      leb→le (profile i .q) 9 (and-right (leb 3 (profile i .r)) (leb (profile i .q) 9) both),
+    )
 
 module _ (i : ℕ) (a b : List ℕ) where
   -- the array by the test of the number and the lengths
@@ -76,12 +80,14 @@ module _ (i : ℕ) (a b : List ℕ) where
       lengths : T (bothLong (t .message) (length a) (length b))
       lengths = holds (bothLong (t .message) (length a) (length b)) e
 
-      pub right-length : Valid t × (3 ≤ t .r) × (length a ≡ messageLength (parameters t)) × (length b ≡ messageLength (parameters t))
+      pub right-length : Valid t × (3 ≤ t .r) × (t .q ≤ 9) × (length a ≡ messageLength (parameters t))
+          × (length b ≡ messageLength (parameters t))
       right-length =
           let first : Bool = eqb (length a) (t .message) in
           let second : Bool = eqb (length b) (t .message) in (
             of .valid,
-            rw (ap (λ (p : Parameters). p .r) (of .same)) (checks-many i (of .known)),
+            rw (ap (λ (p : Parameters). p .r) (of .same)) (profile-roomy i (of .known) .0),
+            rw (ap (λ (p : Parameters). p .q) (of .same)) (profile-roomy i (of .known) .1),
             eqb→eq (length a) (t .message) (and-left first second lengths) ∙ of .valid .message,
             eqb→eq (length b) (t .message) (and-right first second lengths) ∙ of .valid .message,
           )

@@ -2,6 +2,11 @@
 pub mod Interleaving
 pub mod Placing
 pub mod Setting
+-- The row sums
+pub mod PartialSums
+pub mod Carrying
+pub mod Reducing
+pub mod Claims
 -- The components
 pub mod Solve
 pub mod Residues

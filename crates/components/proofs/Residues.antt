@@ -8,7 +8,7 @@ use Prim.Native.Nat.{ℕ, zero, suc, _-_, _*_, _%_, _^_, _≤_, _<_}
 use native.Mathlib.Nat.{zero-mod, mod-lt, le-refl, le-of-suc-le}
 use native.Mathlib.Omega.{arith}
 use lib.Dec.{T, eqb}
-use lib.ListN.{length, getD, set, length-set}
+use lib.ListN.{length, getD, take, drop, set, length-set}
 use lib.Seq.{getD-set-other, ext-getD}
 use Rattle.modular_theory.specs.Search.{allBelow, least}
 use Rattle.modular_theory.specs.Sum.{dot}
@@ -17,7 +17,8 @@ use Rattle.modular_theory.specs.Residue.{Congruent}
 use Rattle.modular_theory.proofs.Sum.{dot-agree}
 use Rattle.modular_theory.proofs.Residue.{of-eq, symm, _then_, scale, reduce}
 use Rattle.code_theory.specs.Parameters.{Parameters, Sized, messageLength}
-use Rattle.code_theory.specs.Component.{symbolsBelow, isWord, checkRow, syndrome, inCode, checkAt, merge, candidate, component}
+use Rattle.code_theory.specs.Component.{symbolsBelow, Below, isWord, checkRow, syndrome, inCode, checkAt, merge, candidate, component}
+use Rattle.code_theory.specs.Codeword.{alternate}
 use Rattle.code_theory.proofs.Symbols.{symbols-below}
 use Rattle.code_theory.proofs.Columns.{q-positive}
 use Rattle.code_theory.proofs.Merge.{cases, opposite, word-of, passing, length-merge}
@@ -25,26 +26,48 @@ use Rattle.code_theory.proofs.Reduced.{pivot, pivot-check}
 use Rattle.code_theory.proofs.Pair.{length-component}
 use Rattle.symbols.specs.Syndromes.{fourRows}
 use Rattle.components.specs.Checks.{checkPosition, checked, Solves}
+use Rattle.components.specs.Residues.{residues}
 use Rattle.components.proofs.Placing.{merge-check, merge-message}
 use Rattle.components.proofs.Solve.{bare, at-pivot, solved}
 
 -- The symbols mod q.
 
-abbrev residues : ℕ → List ℕ → List ℕ
-residues q [] = []
-residues q (x ∷ l) = x % q ∷ residues q l
-
-length-residues : (q : ℕ) (l : List ℕ) → length (residues q l) ≡ length l
+pub length-residues : (q : ℕ) (l : List ℕ) → length (residues q l) ≡ length l
 length-residues q [] = refl
 length-residues q (x ∷ l) = ap suc (length-residues q l)
 
-residue-at : (q : ℕ) (l : List ℕ) (i : ℕ) → getD (residues q l) i 0 ≡ getD l i 0 % q
+pub residue-at : (q : ℕ) (l : List ℕ) (i : ℕ) → getD (residues q l) i 0 ≡ getD l i 0 % q
 residue-at q [] i = sym (zero-mod q)
 residue-at q (x ∷ l) zero = refl
 residue-at q (x ∷ l) (suc i) = residue-at q l i
 
+pub residues-symbols : (q : ℕ) (l : List ℕ) {y : List ℕ} → 1 ≤ q → y ≡ residues q l → Below q y
+residues-symbols q l some e i = rw (e, residue-at q l i) (mod-lt (getD l i 0) some)
+
 residues-below : (q : ℕ) (l : List ℕ) → 1 ≤ q → T (symbolsBelow q (residues q l))
-residues-below q l h = symbols-below q (residues q l) (λ i b. rw (residue-at q l i) (mod-lt (getD l i 0) h))
+residues-below q l some = symbols-below q (residues q l) (λ i b. residues-symbols q l some refl i)
+
+-- they have the same sums mod q
+pub residues-agree : (q : ℕ) (f : ℕ → ℕ) (c : List ℕ) → Congruent q (dot f (residues q c)) (dot f c)
+residues-agree q f c =
+    dot-agree f (residues q c) c (length-residues q c)
+    (λ j l. scale (f j) (of-eq (residue-at q c j) then reduce q (getD c j 0)))
+
+-- and are taken where they stand
+pub residues-take : (q k : ℕ) (l : List ℕ) → take k (residues q l) ≡ residues q (take k l)
+residues-take q zero l = refl
+residues-take q (suc k) [] = refl
+residues-take q (suc k) (x ∷ l) = ap (λ (t : List ℕ). x % q ∷ t) (residues-take q k l)
+
+pub residues-drop : (q k : ℕ) (l : List ℕ) → drop k (residues q l) ≡ residues q (drop k l)
+residues-drop q zero l = refl
+residues-drop q (suc k) [] = refl
+residues-drop q (suc k) (x ∷ l) = residues-drop q k l
+
+pub residues-alternate : (q : ℕ) (b : Bool) (l : List ℕ) → alternate b (residues q l) ≡ residues q (alternate b l)
+residues-alternate q b [] = refl
+residues-alternate q true (x ∷ l) = ap (λ (t : List ℕ). x % q ∷ t) (residues-alternate q false l)
+residues-alternate q false (x ∷ l) = residues-alternate q true l
 
 -- merged with the same check symbols, a message and its residues have the same sums mod q
 module _ (q : ℕ) (t : ℕ → Bool) (n : ℕ) (e a : List ℕ) where

@@ -7,14 +7,12 @@ use Prim.Native.Nat.{ℕ, zero, suc, _+_, _-_, _*_, _^_, _≤_, _<_}
 use native.Mathlib.Nat.{pow-zero, pow-suc}
 use native.Mathlib.Omega.{arith}
 use lib.ListN.{getD}
-use Rattle.modular_theory.specs.Residue.{Congruent}
-use Rattle.modular_theory.proofs.Residue.{of-eq, same, add, _then_, minus-add}
+use Rattle.modular_theory.specs.Residue.{Congruent, minus}
+use Rattle.modular_theory.proofs.Residue.{of-eq, same, add, _then_, minus-below, minus-add}
 use Rattle.code_theory.proofs.Reduced.{pivot-below, power-position}
 use Rattle.profiles.specs.declared.row.Row.{Row}
 use Rattle.profiles.specs.Row.{parameters, Valid}
 use Rattle.symbols.specs.Syndromes.{part}
-use Rattle.modular.specs.Byte.{byteDifference}
-use Rattle.modular.proofs.Bytes.{byte-difference}
 use Rattle.components.specs.Checks.{checkPosition, checked, setAt, Solves, Filled}
 use Rattle.components.proofs.Interleaving.{set-first, set-second, set-head, set-past}
 
@@ -92,12 +90,9 @@ pub record TakenFrom (q a x r : ℕ) : Type 0 where
   pub below : r < q
   pub back : Congruent q (r + x) a
 
-pub taken : {q r : ℕ} (a x : ℕ) → q ≤ 255 → a < q → x < q → r ≡ byteDifference q a x → TakenFrom q a x r
-taken {q} a x n h k e =
-    let l : x ≤ q = omega arith in
-    let some : 1 ≤ q = omega arith in
-    let d = byte-difference h l n e in
-    record { below = d .1; back = of-eq (ap (λ (y : ℕ). y + x) (d .0)) then minus-add q a x some }
+pub taken : {q r : ℕ} (a x : ℕ) → 1 ≤ q → r ≡ minus q a x → TakenFrom q a x r
+taken {q} a x some e =
+    record { below = rw e (minus-below q a x some); back = of-eq (ap (λ (y : ℕ). y + x) e) then minus-add q a x some }
 
 pub solves-of : {q a b two d e one f g : ℕ} (s : List ℕ)
     → TakenFrom q (getD s 3 0) (getD s 0 0) a → TakenFrom q a (getD s 1 0) b → TakenFrom q b (getD s 2 0) two

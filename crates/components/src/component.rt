@@ -1,13 +1,13 @@
 // The steps: the messages at their positions, the check symbols that they ask for, and both together.
-use modular::sub;
+use crate::sums::component_sums;
+use crate::sums::residues;
 use profiles::Row;
 use symbols::Body;
 use symbols::Syndrome;
-use symbols::columns;
-use symbols::syndromes_of;
 ghost use mathlib.Core.Path.{_≡_};
 ghost use Prim.Native.Nat.{_≤_, _<_};
 ghost use lib.ListN.{length};
+ghost use Rattle.modular_theory.specs.Residue.{minus};
 ghost use Rattle.code_theory.specs.Parameters.{messageLength};
 ghost use Rattle.profiles.specs.Row.{Valid, parameters};
 ghost use Rattle.symbols.specs.Syndromes.{rows};
@@ -55,17 +55,29 @@ fn placed(row: Row, first: &[u8], second: &[u8]) -> Body
     x
 }
 
+// a - x mod q, of two symbols. Nothing on the way passes 255 or is below 0; in `modular::sub`, which takes any bytes, it may.
+fn difference(q: u8, a: u8, x: u8) -> u8
+    requires { ⌜ (a < q) × (x < q) ⌝ }
+    ensures { λ r. ⌜ r ≡ minus q a x ⌝ }
+{
+    if a < x { a + (q - x) } else { a - x }
+}
+
 // The check symbols that make up for these sums.
 fn check_symbols(q: u8, s: Syndrome) -> CheckSymbols
     requires { ⌜ (s .low < q) × (s .mid < q) × (s .high < q) × (s .ones < q) ⌝ }
     ensures { λ e. ⌜ Solves q (rows s) (checkSymbols e) ⌝ }
 {
-    let two = sub(q, sub(q, sub(q, s.ones, s.low), s.mid), s.high);
+    let two = difference(
+        q,
+        difference(q, difference(q, s.ones, s.low), s.mid),
+        s.high,
+    );
     CheckSymbols {
         two,
-        one: sub(q, sub(q, sub(q, 0, s.low), two), two),
-        mid: sub(q, 0, s.mid),
-        high: sub(q, 0, s.high),
+        one: difference(q, difference(q, difference(q, 0, s.low), two), two),
+        mid: difference(q, 0, s.mid),
+        high: difference(q, 0, s.high),
     }
 }
 
@@ -85,16 +97,16 @@ fn filled(row: Row, x: Body, first: CheckSymbols, second: CheckSymbols) -> Body
     y
 }
 
-// The components of two messages of the right length, by a profile's row. The columns are built once.
+// The components of two messages of the right length, by a profile's row.
 pub(crate) fn interleaved(row: Row, first: &[u8], second: &[u8]) -> Body
     requires { ⌜
-        Valid row × (3 ≤ row .r) × (length (now first) ≡ messageLength (parameters row))
+        Valid row × (3 ≤ row .r) × (row .q ≤ 9) × (length (now first) ≡ messageLength (parameters row))
         × (length (now second) ≡ messageLength (parameters row)) ⌝ }
     ensures { λ x. ⌜ x ≡ padded (parameters row) (now (first .entry)) (now (second .entry)) ⌝ }
 {
     let x = placed(row, first, second);
-    let matrix = columns(row.q, row.n);
-    let sums = syndromes_of(row.q, row.n, &matrix, &x);
+    let mod_q = residues(row.q, x);
+    let sums = component_sums(row.q, row.n, &mod_q);
     let a = check_symbols(row.q, sums.first);
     let b = check_symbols(row.q, sums.second);
     filled(row, x, a, b)

@@ -8,7 +8,8 @@ use native.Mathlib.Omega.{arith}
 use borrow.Author.Tests.{lt-ltb, le-ltb}
 use Rattle.modular_theory.specs.Residue.{Congruent, minus}
 use Rattle.modular_theory.proofs.Search.{le-or-lt}
-use Rattle.modular_theory.proofs.Residue.{of-eq, symm, _then_, same, add, reduce, multiple, cancel, minus-is, already-reduced, wrapped}
+use Rattle.modular_theory.proofs.Residue.{of-eq, symm, _then_, same, add, reduce, multiple, cancel}
+use Rattle.modular_theory.proofs.Residue.{minus-low, minus-high, already-reduced, wrapped}
 use Rattle.modular.specs.Byte.{byteOf, byteSum, byteDifference}
 
 -- What the code answers, by its branches.
@@ -52,14 +53,8 @@ module _ {q a x : ℕ} (h : a < q) (k : x ≤ q) where
   unfolding byteDifference
   byte-difference l e = rw e (⊎-elim high low (le-or-lt x a))
     where
-      is : (a + (q - x)) % q ≡ minus q a x
-      is = minus-is q a x (omega arith) k
-
       high : x ≤ a → (byteDifference q a x ≡ minus q a x) × (byteDifference q a x < q)
-      high g =
-          let f : a - x ≡ a + (q - x) - q = omega arith in
-          let w : (a + (q - x) - q ≡ (a + (q - x)) % q) × (a + (q - x) - q < q) = wrapped (omega arith) (omega arith) in
-          rw (sym (difference-high q a x g), f) (w .0 ∙ is, w .1)
+      high g = rw (sym (difference-high q a x g)) (minus-high k h g, omega arith)
 
       low : a < x → (byteDifference q a x ≡ minus q a x) × (byteDifference q a x < q)
       low g =
@@ -67,4 +62,4 @@ module _ {q a x : ℕ} (h : a < q) (k : x ≤ q) where
           let f : a + q + (256 - x) ≡ a + (q - x) + 1 * 256 = omega arith in
           let b : byteOf (a + q + (256 - x)) ≡ a + (q - x) =
           ap byteOf f ∙ multiple 256 (a + (q - x)) 1 .same ∙ mod-eq-of-lt (omega arith) in
-          rw (lt-ltb a x g, byteDifference, b) (already-reduced m .0 ∙ is, m)
+          rw (lt-ltb a x g, byteDifference, b) (minus-low k g, m)

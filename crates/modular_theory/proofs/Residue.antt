@@ -121,6 +121,20 @@ wrapped {q} {s} h l =
     let e : s ≡ s - q + 1 * q = omega arith in
     (sym (ap (λ (x : ℕ). x % q) e ∙ add-mul-mod-self-right (s - q) 1 q ∙ mod-eq-of-lt m), m)
 
+-- a - b of two symbols by a number that is neither below 0 nor past q: q - b is put on where a is below b
+module _ {q a b : ℕ} (k : b ≤ q) where
+  pub minus-low : a < b → a + (q - b) ≡ minus q a b
+  minus-low h =
+      let m : a + (q - b) < q = omega arith in
+      already-reduced m .0 ∙ minus-is q a b (omega arith) k
+
+  pub minus-high : a < q → b ≤ a → a - b ≡ minus q a b
+  minus-high h l =
+      let f : a - b ≡ a + (q - b) - q = omega arith in
+      let from : q ≤ a + (q - b) = omega arith in
+      let upto : a + (q - b) < q + q = omega arith in
+      f ∙ wrapped from upto .0 ∙ minus-is q a b (omega arith) k
+
 -- q is k * e + r, so (q - 1) * k times e is r mod q, and an inverse of r gives one of e
 inverse-step : {q : ℕ} (s k e r j : ℕ) → suc s ≡ q → r + k * e ≡ q → Congruent q (r * j) 1 → Congruent q (e * (s * k * j)) 1
 inverse-step {q} s k e r j es er c =

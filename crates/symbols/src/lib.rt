@@ -1,4 +1,4 @@
-// The steps that encoding and decoding share. Each is total: it answers for any arguments, and says what.
+// The steps that encoding and decoding share, and decoding's syndromes. Each is total: it answers for any arguments, and says what.
 mod checks;
 mod matrix;
 mod sums;

@@ -48,13 +48,19 @@ pub fn message_in(profile: &Profile, component: &[u8]) -> Vec<u8> {
     message_positions(profile).iter().map(|&position| component[position - 1]).collect()
 }
 
-/// The component with this message and this syndrome, found by trying every filling of the check
-/// positions.
-pub fn component_with_syndrome(profile: &Profile, message: &[u8], target: &[u8]) -> Vec<u8> {
+/// The message at its positions, and 0 at the check positions.
+pub fn placed(profile: &Profile, message: &[u8]) -> Vec<u8> {
     let mut component = vec![0; profile.n];
     for (position, &symbol) in message_positions(profile).iter().zip(message) {
         component[position - 1] = symbol;
     }
+    component
+}
+
+/// The component with this message and this syndrome, found by trying every filling of the check
+/// positions.
+pub fn component_with_syndrome(profile: &Profile, message: &[u8], target: &[u8]) -> Vec<u8> {
+    let component = placed(profile, message);
     let checks = check_positions(profile);
     let mut tried = fillings(profile.q, &component, &checks);
     tried

@@ -2,8 +2,8 @@
 //! used to test: what 01 says exists is looked for by trying everything, and what 01 calls right
 //! is tested condition by condition. Clarity comes before speed throughout.
 //!
-//! Quoted sentences are document 01's or, of requests (T-01, T-02, T-08), document 02's. Positions
-//! count from 1, as there.
+//! Quoted sentences are document 01's or, of requests (T-01, T-02, T-05, T-08), document 02's.
+//! Positions count from 1, as there.
 
 pub mod balance;
 pub mod codeword;
@@ -19,6 +19,7 @@ pub mod list;
 pub mod near_miss;
 mod near_miss_erasures;
 mod near_miss_errors;
+pub mod near_miss_sums;
 mod near_miss_tried;
 mod near_miss_words;
 pub mod near_misses;

@@ -1,7 +1,7 @@
-//! The steps of a decoder that can be got wrong.
+//! The steps of a decoder that can be got wrong, and those of an encoder's check row sums.
 
 /// One step got wrong: 01's "Wrong turns seen in drafts", and others of their kind; then those that
-/// the erasures of T-01, the error of T-02 and the count of T-08 invite.
+/// the erasures of T-01, the error of T-02, the count of T-08 and the eight-bit sums of T-05 invite.
 #[derive(Debug, Clone, Copy, PartialEq, Eq)]
 pub enum Slip {
     /// δ is 002's printed 2(q−1)(2−m).
@@ -112,4 +112,33 @@ pub enum Slip {
     TriedErasedAsZero,
     /// In a word with erasures these are counted.
     TriedErasures,
+    /// T-05, here and below: of an encoder. What is carried is not reduced after a symbol: the sum wraps
+    /// in its byte at 256, and is reduced at the end.
+    SumReducedAtEnd,
+    /// The same, but that the sum stops at 255 where it would wrap.
+    SumSaturates,
+    /// The same, but that the byte has a sign, so that the sum wraps at 128.
+    SumInSignedByte,
+    /// What is carried is reduced mod q-1.
+    SumReducedByOneLess,
+    /// The product is not reduced, and q is taken off once after the sum. What is left is taken for a
+    /// level.
+    SumLessOnce,
+    /// The same, but that what is left is reduced at the end: only a sum that wraps does harm.
+    SumLessOnceReducedAtEnd,
+    /// q is taken once off the product and once off the sum, which is enough for q = 3.
+    SumLessOnceEach,
+    /// 2q and then q are taken once off the product, and q off the sum, which is enough up to q = 5.
+    SumLessInTwoSteps,
+    /// The sum of ones, which has no product, is not reduced, and is taken for a level.
+    SumOfOnesLeft,
+    /// The same, but that it is reduced at the end: only a sum that wraps does harm.
+    SumOfOnesReducedAtEnd,
+    /// The products are reduced and the sum is not, as s + d * x % q is read, and it is taken for a
+    /// level.
+    SumOfResiduesLeft,
+    /// The sum is reduced before each product is added and not after, so that the last one stays on it.
+    SumLastProductLeft,
+    /// What is carried for the first component is not cleared before the second.
+    SumCarriedOver,
 }

@@ -4,6 +4,7 @@
 mod calls;
 mod compare;
 mod every_word;
+mod heavy;
 mod lines;
 mod pairs;
 mod parallel;
@@ -20,12 +21,18 @@ pub use compare::{Checked, Mismatch};
 pub type Section = fn(&EntryPoints) -> Checked<String>;
 
 /// The quick run; boxlines is the program, whatever the entry points are.
-pub const QUICK: [Section; 5] =
-    [refusals::check, pairs::check, sheets::check, |_| lines::check(), received::check];
+pub const QUICK: [Section; 6] = [
+    refusals::check,
+    pairs::check,
+    heavy::check,
+    sheets::check,
+    |_| lines::check(),
+    received::check,
+];
 
 /// All received words of profile 1.
 pub const LONG: [Section; 1] = [every_word::check];
 
 /// What holds another coder to the separate one: the quick run's calls, with fewer received words.
-pub const YARDSTICK: [Section; 4] =
-    [refusals::check, pairs::check, sheets::check, received::check_fewer];
+pub const YARDSTICK: [Section; 5] =
+    [refusals::check, pairs::check, heavy::check, sheets::check, received::check_fewer];

@@ -173,10 +173,52 @@ fn erased_variants(message: &[u8]) -> Vec<Vec<u8>> {
     ]
 }
 
-/// The zero pair is balanced by s = 0 and v = 1, which both orders try first.
-#[test]
-fn the_order_of_trying_matters_to_some_pairs() {
-    let depends = |pair: [&str; 2]| depends_on_order(&PROFILES[0], &pair.map(coder::text::symbols));
-    assert!(!depends(["00000", "00000"]));
-    assert!(depends(["20000", "12002"]));
+#[cfg(test)]
+mod tests {
+    use coder::near_miss_sums::{self, SUM_SLIPS};
+    use coder::text::symbols;
+
+    use super::*;
+
+    /// The zero pair is balanced by s = 0 and v = 1, which both orders try first.
+    #[test]
+    fn the_order_of_trying_matters_to_some_pairs() {
+        let depends = |pair: [&str; 2]| depends_on_order(&PROFILES[0], &pair.map(symbols));
+        assert!(!depends(["00000", "00000"]));
+        assert!(depends(["20000", "12002"]));
+    }
+
+    /// The pairs of a profile that are encoded, each with its word.
+    fn encoded(profile: &Profile, input: &str, expected: &str) -> Vec<(Messages, Vec<u8>)> {
+        let of_profile = format!("{} ", profile.number);
+        let cases = input.lines().zip(expected.lines());
+        cases
+            .filter(|(case, word)| case.starts_with(&of_profile) && !word.starts_with('R'))
+            .map(|(case, word)| {
+                let fields: Vec<&str> = case.split(' ').collect();
+                ([fields[1], fields[2]].map(symbols), symbols(word))
+            })
+            .collect()
+    }
+
+    /// The pairs tell an encoder with a slip of T-05 from the right one, in every profile in which the
+    /// slip does harm. Without a slip its sums make every word that the search makes.
+    #[test]
+    fn every_slip_of_the_sums_is_told() {
+        let file = make();
+        let [input, expected] =
+            [&file.input, &file.expected].map(|bytes| std::str::from_utf8(bytes).unwrap());
+        for profile in &PROFILES {
+            let pairs = encoded(profile, input, expected);
+            let is_told = |slip| {
+                let mut pairs = pairs.iter();
+                pairs.any(|(pair, word)| near_miss_sums::encode(profile, pair, slip) != *word)
+            };
+            assert!(!is_told(None), "profile {}", profile.number);
+            for (slip, harmed) in SUM_SLIPS {
+                let does_harm = harmed.contains(&profile.number);
+                assert_eq!(is_told(Some(slip)), does_harm, "{slip:?}, profile {}", profile.number);
+            }
+        }
+    }
 }
