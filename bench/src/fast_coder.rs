@@ -4,8 +4,12 @@ use crosscheck::{number_of, packed};
 use fogzurt::EntryPoints;
 
 pub const FAST: EntryPoints = EntryPoints {
-    encode: |profile, first, second, out| number_of(fast::encode(profile, first, second, out)),
-    decode: |profile, word, first, second| packed(fast::decode(profile, word, first, second)),
+    encode: |edition, profile, first, second, out| {
+        number_of(fast::encode(edition, profile, first, second, out))
+    },
+    decode: |edition, profile, word, first, second| {
+        packed(fast::decode(edition, profile, word, first, second))
+    },
     format: |sheet| number_of(fast::queue::format(sheet)),
     enqueue: |sheet, box_number, profile, word| {
         number_of(fast::queue::enqueue(sheet, box_number, profile, word))

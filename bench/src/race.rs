@@ -39,12 +39,17 @@ impl Race {
         races
     }
 
-    /// Prints the times of a call and the ratio, and the library's time for each of `symbols`.
-    pub fn print(&self, operation: &str, symbols: Option<usize>) {
+    /// The times of a call and the ratio, and the library's time for each of `symbols`.
+    pub fn row(&self, operation: &str, symbols: Option<usize>) -> String {
         let nanoseconds = |time: Duration| time.as_nanos() as f64 / self.calls as f64;
         let [fast, library] = [self.fast, self.library].map(nanoseconds);
-        print!("{operation:32} fast {fast:9.1} ns   library {library:9.1} ns   ");
-        println!("ratio {:5.2}{}", fast / library, by_symbol(library, symbols));
+        let times = format!("{operation:35} fast {fast:9.1} ns   library {library:9.1} ns");
+        format!("{times}   ratio {:5.2}{}", fast / library, by_symbol(library, symbols))
+    }
+
+    /// The library's time over its time in another race of as many calls.
+    pub fn library_over(&self, other: &Race) -> f64 {
+        self.library.as_secs_f64() / other.library.as_secs_f64()
     }
 }
 

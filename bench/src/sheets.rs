@@ -34,7 +34,7 @@ pub fn race_capacities() {
         );
         assert!(memory == others, "the coders left different sheets");
         for (race, operation) in races.iter().zip(OPERATIONS) {
-            race.print(&format!("R = {capacity}, {operation}"), None);
+            println!("{}", race.row(&format!("R = {capacity}, {operation}"), None));
         }
     }
 }

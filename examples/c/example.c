@@ -1,5 +1,5 @@
 /* Encodes two messages, damages a symbol on the way or erases some, decodes what arrives, and keeps it
- * on a sheet.
+ * on a sheet. At the end the same messages go to a box of the 2018 edition.
  *
  * At the top of the repository, after `rt staticlib fogzurt`:
  *   cc -std=c11 -Iinclude examples/c/example.c target/staticlib/libfogzurt.a -o target/example
@@ -46,10 +46,10 @@ static void print_error(int error) {
     printf("  error %+d: it arrived %d too %s\n", error, abs(error), error > 0 ? "high" : "low");
 }
 
-/* Prints what decoding a word says about it, and its messages. */
-static void print_decoded(const uint8_t *word) {
+/* Prints what decoding a word of an edition says about it, and its messages. */
+static void print_decoded_as(uint64_t edition, const uint8_t *word) {
     uint8_t first[MESSAGE], second[MESSAGE];
-    uint64_t answer = fogzurt_decode(PROFILE, word, WORD, first, MESSAGE, second, MESSAGE);
+    uint64_t answer = fogzurt_decode(edition, PROFILE, word, WORD, first, MESSAGE, second, MESSAGE);
     if (FOGZURT_NUMBER(answer) != FOGZURT_OK) {
         printf("  cannot be read: number %u\n", FOGZURT_NUMBER(answer));
         if (FOGZURT_NUMBER(answer) == FOGZURT_ERR_UNREADABLE) {
@@ -77,6 +77,18 @@ static void print_decoded(const uint8_t *word) {
     print_symbols("  second message  ", second, MESSAGE);
 }
 
+/* The same of a box of the 2013 edition. */
+static void print_decoded(const uint8_t *word) {
+    print_decoded_as(FOGZURT_EDITION_2013, word);
+}
+
+/* Encodes for an edition, and prints the word. */
+static void print_sent(uint64_t edition, const uint8_t *first, const uint8_t *second, uint8_t *word) {
+    expect_ok("fogzurt_encode",
+              fogzurt_encode(edition, PROFILE, first, MESSAGE, second, MESSAGE, word, WORD));
+    print_symbols("sent              ", word, WORD);
+}
+
 /* Prints the box number and the word of a record that was copied out. */
 static void print_record(const char *label, const uint8_t *record) {
     printf("%s box %u, profile %u, ", label, record[FOGZURT_RECORD_BOX],
@@ -88,9 +100,7 @@ int main(void) {
     const uint8_t opening[MESSAGE] = {0, 0, 0, 0, 1}, seal[MESSAGE] = {0, 0, 0, 0, 0};
     uint8_t word[WORD], sheet[FOGZURT_SHEET_BYTES(RECORDS)], record[FOGZURT_CELL];
 
-    expect_ok("fogzurt_encode",
-              fogzurt_encode(PROFILE, opening, MESSAGE, seal, MESSAGE, word, WORD));
-    print_symbols("sent              ", word, WORD);
+    print_sent(FOGZURT_EDITION_2013, opening, seal, word);
     print_decoded(word);
 
     word[6 - 1] = 2; /* positions count from 1 */
@@ -126,5 +136,15 @@ int main(void) {
 
     uint64_t answer = fogzurt_sheet_peek(sheet, sizeof sheet, 1, record, sizeof record);
     printf("a second look is refused with number %u: the sheet is empty\n", FOGZURT_NUMBER(answer));
-    return FOGZURT_NUMBER(answer) == FOGZURT_ERR_NO_RECORD ? EXIT_SUCCESS : EXIT_FAILURE;
+    if (FOGZURT_NUMBER(answer) != FOGZURT_ERR_NO_RECORD) {
+        return EXIT_FAILURE;
+    }
+
+    /* The same messages, for a box of the 2018 edition. Only the caller knows that it is one. */
+    printf("edition 2018\n");
+    print_sent(FOGZURT_EDITION_2018, opening, seal, word);
+    print_decoded_as(FOGZURT_EDITION_2018, word);
+    printf("the same word as one of edition 2013\n");
+    print_decoded(word);
+    return EXIT_SUCCESS;
 }

@@ -1,4 +1,4 @@
-/* What the header's macros read of an answer, tried by the compiler: there is nothing to run.
+/* What the header's macros read of an answer, and the editions, tried by the compiler: there is nothing to run.
  *
  * At the top of the repository:
  *   cc -std=c11 -Iinclude -fsyntax-only tests/header/macros.c
@@ -51,3 +51,15 @@ _Static_assert(FOGZURT_NUMBER(UNREADABLE(49)) == FOGZURT_ERR_UNREADABLE, "the nu
 _Static_assert(FOGZURT_KIND(UNREADABLE(49)) == FOGZURT_KIND_NONE, "the kind of it");
 _Static_assert(FOGZURT_ERROR(UNREADABLE(49)) == 0, "the error of it");
 _Static_assert(FOGZURT_TRIED(UNREADABLE(49)) == 49, "the count of it");
+
+/* The numbers that a caller writes down: the editions, the number for any other, and the version that brought
+ * them as a first argument. */
+_Static_assert(FOGZURT_EDITION_2013 == 13 && FOGZURT_EDITION_2018 == 18, "the editions");
+_Static_assert(FOGZURT_ERR_EDITION == 12, "the number of no edition");
+_Static_assert(FOGZURT_VERSION_MAJOR == 3 && FOGZURT_VERSION_MINOR == 0, "the version");
+
+/* The edition is a 64-bit number and comes first, in both functions. */
+uint64_t (*const encode)(uint64_t, uint64_t, const uint8_t *, size_t, const uint8_t *, size_t, uint8_t *,
+                         size_t) = fogzurt_encode;
+uint64_t (*const decode)(uint64_t, uint64_t, const uint8_t *, size_t, uint8_t *, size_t, uint8_t *,
+                         size_t) = fogzurt_decode;

@@ -1,8 +1,9 @@
 /* Measures how deep the stack grows under each entry point: the call runs on a stack that was filled
- * with a pattern, and what is no longer the pattern afterwards was used.
+ * with a pattern, and what is no longer the pattern afterwards was used. -z now has the C library found
+ * before: at its first call its search would count as 3 KB of encode's.
  *
  * At the top of the repository, after `rt staticlib fogzurt`:
- *   cc -std=c11 -O2 -Iinclude tests/stack/stack.c target/staticlib/libfogzurt.a -o target/stack
+ *   cc -std=c11 -O2 -Wl,-z,now -Iinclude tests/stack/stack.c target/staticlib/libfogzurt.a -o target/stack
  *   target/stack
  */
 #include <stdio.h>
@@ -17,12 +18,15 @@ enum { STACK = 1 << 16, PATTERN = 0xa5, RECORDS = 255 };
 static uint8_t word[FOGZURT_LONGEST_WORD], first[FOGZURT_LONGEST_MESSAGE], second[FOGZURT_LONGEST_MESSAGE];
 static uint8_t sheet[FOGZURT_SHEET_BYTES(RECORDS)], record[FOGZURT_CELL];
 
+/* Every call of encode and decode is measured in both editions. */
+static uint64_t edition;
+
 static void encode(void) {
-    fogzurt_encode(4, first, sizeof first, second, sizeof second, word, sizeof word);
+    fogzurt_encode(edition, 4, first, sizeof first, second, sizeof second, word, sizeof word);
 }
 
 static void decode(void) {
-    fogzurt_decode(4, word, sizeof word, first, sizeof first, second, sizeof second);
+    fogzurt_decode(edition, 4, word, sizeof word, first, sizeof first, second, sizeof second);
 }
 
 static void decode_corrected(void) {
@@ -68,19 +72,24 @@ static size_t used(void (*call)(void)) {
     return sizeof stack - untouched;
 }
 
+static void print_used(const char *name, void (*call)(void)) {
+    printf("%-28s %6zu bytes of stack\n", name, used(call));
+}
+
 int main(void) {
-    const struct {
-        const char *name;
-        void (*call)(void);
-    } calls[] = {
-        {"fogzurt_encode", encode},       {"fogzurt_decode, clean", decode},
-        {"fogzurt_decode, corrected", decode_corrected},
-        {"fogzurt_decode, filled", decode_filled},
-        {"fogzurt_sheet_format", format}, {"fogzurt_sheet_enqueue", enqueue},
-        {"fogzurt_sheet_peek", peek},     {"fogzurt_sheet_dequeue", dequeue},
-    };
-    for (size_t i = 0; i < sizeof calls / sizeof calls[0]; i++) {
-        printf("%-28s %6zu bytes of stack\n", calls[i].name, used(calls[i].call));
+    const uint64_t editions[] = {FOGZURT_EDITION_2013, FOGZURT_EDITION_2018};
+    for (size_t i = 0; i < sizeof editions / sizeof editions[0]; i++) {
+        edition = editions[i];
+        printf("edition %u\n", (unsigned)edition);
+        print_used("fogzurt_encode", encode);
+        print_used("fogzurt_decode, clean", decode);
+        print_used("fogzurt_decode, corrected", decode_corrected);
+        print_used("fogzurt_decode, filled", decode_filled);
     }
+    printf("sheets\n");
+    print_used("fogzurt_sheet_format", format);
+    print_used("fogzurt_sheet_enqueue", enqueue);
+    print_used("fogzurt_sheet_peek", peek);
+    print_used("fogzurt_sheet_dequeue", dequeue);
     return EXIT_SUCCESS;
 }

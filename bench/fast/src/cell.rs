@@ -51,10 +51,10 @@ static HEAD_LIMITS: Limits = {
 };
 
 static USED_LIMITS: [Limits; 4] = [
-    used_limits(Profile1::SHAPE),
-    used_limits(Profile2::SHAPE),
-    used_limits(Profile3::SHAPE),
-    used_limits(Profile4::SHAPE),
+    used_limits(Profile1::<13>::SHAPE),
+    used_limits(Profile2::<13>::SHAPE),
+    used_limits(Profile3::<13>::SHAPE),
+    used_limits(Profile4::<13>::SHAPE),
 ];
 
 const fn used_limits(shape: Shape) -> Limits {

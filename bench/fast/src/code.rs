@@ -5,10 +5,10 @@ use coder::refusal::Refusal;
 
 use crate::for_profile;
 
-pub type Profile1 = Code<3, 3, 8>;
-pub type Profile2 = Code<3, 4, 26>;
-pub type Profile3 = Code<5, 3, 24>;
-pub type Profile4 = Code<7, 3, 48>;
+pub type Profile1<const EDITION: u64> = Code<3, 3, 8, EDITION>;
+pub type Profile2<const EDITION: u64> = Code<3, 4, 26, EDITION>;
+pub type Profile3<const EDITION: u64> = Code<5, 3, 24, EDITION>;
+pub type Profile4<const EDITION: u64> = Code<7, 3, 48, EDITION>;
 
 /// The most check symbols and the most symbols of a component.
 pub const MAX_R: usize = 4;
@@ -28,16 +28,20 @@ pub struct Shape {
     pub word_length: usize,
 }
 
-/// The shape of the profile with this number.
+/// The shape of the profile with this number, in either edition.
 #[inline]
 pub fn shape(profile: u64) -> Result<Shape, Refusal> {
-    for_profile!(profile, shape())
+    for_profile!(13, profile, shape())
 }
 
-/// The code over Q levels whose components have N symbols, R of them check symbols.
-pub struct Code<const Q: usize, const R: usize, const N: usize>;
+/// The code over Q levels whose components have N symbols, R of them check symbols, of edition 13 or 18
+/// (02, T-03).
+pub struct Code<const Q: usize, const R: usize, const N: usize, const EDITION: u64>;
 
-impl<const Q: usize, const R: usize, const N: usize> Code<Q, R, N> {
+impl<const Q: usize, const R: usize, const N: usize, const EDITION: u64> Code<Q, R, N, EDITION> {
+    /// Whether w is integrated from its end, and every difference is so of the other sign.
+    pub const FROM_END: bool = EDITION == 18;
+
     /// 01: k, m, N.
     pub const K: usize = N - R;
     pub const M: usize = 2 * N + 1;
@@ -127,14 +131,15 @@ impl<const Q: usize, const R: usize, const N: usize> Code<Q, R, N> {
     }
 
     /// Symbol i of the first component is w[2i − 1] − w[2i − 2] mod q, and of the second
-    /// w[2i] − w[2i − 1], with w counted from 0.
+    /// w[2i] − w[2i − 1], with w counted from 0; in edition 18 both are of the other sign.
     const fn syndrome_rows() -> [Symbols; 2 * MAX_R] {
         let mut sums = [[0; MAX_M]; 2 * MAX_R];
         let mut row = 0;
         while row < R {
             let mut i = 1;
             while i <= N {
-                let entry = Self::ROWS[row][i - 1];
+                let digit = Self::ROWS[row][i - 1];
+                let entry = if Self::FROM_END { -digit } else { digit };
                 sums[row][2 * i - 1] += entry;
                 sums[row][2 * i - 2] -= entry;
                 sums[R + row][2 * i] += entry;

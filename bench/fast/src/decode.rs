@@ -28,17 +28,18 @@ type Found = (Option<Correction>, Added);
 /// No codeword is near, and no position was tried.
 pub(crate) const UNREADABLE: Refusal = Refusal::Unreadable { tried: 0 };
 
-/// Decodes a received word. Refusals 1, 2, 3, 11 and 4, in this order.
+/// Decodes a received word. Refusals 12, 1, 2, 3, 11 and 4, in this order.
 pub fn decode(
+    edition: u64,
     profile: u64,
     word: &[u8],
     first: &mut [u8],
     second: &mut [u8],
 ) -> Result<Answer, Refusal> {
-    for_profile!(profile, decode(word, first, second))
+    for_profile!(edition, profile, decode(word, first, second))
 }
 
-impl<const Q: usize, const R: usize, const N: usize> Code<Q, R, N> {
+impl<const Q: usize, const R: usize, const N: usize, const EDITION: u64> Code<Q, R, N, EDITION> {
     pub(crate) fn decode(
         word: &[u8],
         first: &mut [u8],
@@ -187,12 +188,14 @@ impl<const Q: usize, const R: usize, const N: usize> Code<Q, R, N> {
         (in_code || is_column).then_some(position)
     }
 
-    /// Differences w, takes 1 where it was added, and copies the message positions out.
+    /// Differences w, takes 1 where it was added, and copies the message positions out. In either edition
+    /// the symbols of x that are kept stand from index 1 on.
     #[inline(always)]
     pub(crate) fn write_messages(w: &Symbols, added: Added, first: &mut [u8], second: &mut [u8]) {
         let mut x = [0u8; MAX_M];
         for index in 1..Self::M {
-            let difference = (w[index] - w[index - 1] + Q as i16) as u8;
+            let step = w[index] - w[index - 1];
+            let difference = (if Self::FROM_END { Q as i16 - step } else { Q as i16 + step }) as u8;
             x[index] = difference.min(difference.wrapping_sub(Q as u8));
         }
         for (component, position) in added.into_iter().enumerate() {

@@ -5,19 +5,32 @@ use coder::refusal::{require, Refusal};
 use crate::code::{dot, Code, Symbols, MAX_M, MAX_N};
 use crate::for_profile;
 
-/// Writes the encoded word of two messages. 01's refusals 1, 2 and 3, in this order.
-pub fn encode(profile: u64, first: &[u8], second: &[u8], out: &mut [u8]) -> Result<(), Refusal> {
-    for_profile!(profile, encode(first, second, out))
+/// Writes the encoded word of two messages. Refusals 12, 1, 2 and 3, in this order.
+pub fn encode(
+    edition: u64,
+    profile: u64,
+    first: &[u8],
+    second: &[u8],
+    out: &mut [u8],
+) -> Result<(), Refusal> {
+    for_profile!(edition, profile, encode(first, second, out))
 }
 
-impl<const Q: usize, const R: usize, const N: usize> Code<Q, R, N> {
+impl<const Q: usize, const R: usize, const N: usize, const EDITION: u64> Code<Q, R, N, EDITION> {
     pub(crate) fn encode(first: &[u8], second: &[u8], out: &mut [u8]) -> Result<(), Refusal> {
         require(first.len() == Self::K && second.len() == Self::K, Refusal::Length)?;
         require(out.len() == Self::LENGTH, Refusal::Length)?;
         require(Self::has_symbols(first) && Self::has_symbols(second), Refusal::Symbol)?;
-        let sums = Self::integrate(&Self::component(first), &Self::component(second));
-        let (s, v) = Self::first_balancing_choice(&sums);
-        Self::write_word(&sums, s, v, out);
+        let (first, second) = (Self::component(first), Self::component(second));
+        if Self::FROM_END {
+            let sums = Self::integrate_from_end(&first, &second);
+            let (s, v) = Self::first_balancing_choice_from_end(&sums);
+            Self::write_word(&sums, |index| s + i16::from(index < v), out);
+        } else {
+            let sums = Self::integrate(&first, &second);
+            let (s, v) = Self::first_balancing_choice(&sums);
+            Self::write_word(&sums, |index| s + i16::from(v <= index + 1), out);
+        }
         Ok(())
     }
 
@@ -59,6 +72,21 @@ impl<const Q: usize, const R: usize, const N: usize> Code<Q, R, N> {
         sums
     }
 
+    /// The same of edition 18: the sums from the end of b1, b′1, b2, b′2, .., 0 mod q.
+    fn integrate_from_end(first: &[i16; MAX_N], second: &[i16; MAX_N]) -> Symbols {
+        let mut sums = [0; MAX_M];
+        let mut sum = 0;
+        for i in (0..N).rev() {
+            sums[2 * i + 1] = sum + second[i];
+            sum += first[i] + second[i];
+            sums[2 * i] = sum;
+        }
+        for sum in &mut sums[..Self::M] {
+            *sum = Self::mod_q(*sum);
+        }
+        sums
+    }
+
     /// The first (s, v) that balances. Adding s and 1 more from v on weighs, at v = 1, what adding
     /// s + 1 does; going from v to v + 1 takes 1 from symbol v, or adds q − 1 where it was 0.
     fn first_balancing_choice(sums: &Symbols) -> (i16, usize) {
@@ -78,11 +106,30 @@ impl<const Q: usize, const R: usize, const N: usize> Code<Q, R, N> {
         unreachable!("01: a balancing choice always exists")
     }
 
-    /// w, then α and β.
-    fn write_word(sums: &Symbols, s: i16, v: usize, out: &mut [u8]) {
+    /// The same of edition 18. At v = 0 only s is added; going from v to v + 1 adds 1 to symbol v + 1, or
+    /// takes q − 1 where it was the highest. What all symbols weigh with 1 more is the next s.
+    fn first_balancing_choice_from_end(sums: &Symbols) -> (i16, usize) {
+        let mut at_first: i16 = sums[..Self::M].iter().sum();
+        for s in 0..Q as i16 {
+            let wrapping = Q as i16 - 1 - s;
+            let mut weight = at_first;
+            for (index, &sum) in sums[..Self::M].iter().enumerate() {
+                if weight == Self::BALANCING_VALUE {
+                    return (s, index);
+                }
+                weight += if sum == wrapping { 1 - Q as i16 } else { 1 };
+            }
+            at_first = weight;
+        }
+        unreachable!("02: a balancing choice always exists")
+    }
+
+    /// w, where so much is added at an index, then α and β.
+    #[inline(always)]
+    fn write_word(sums: &Symbols, added: impl Fn(usize) -> i16, out: &mut [u8]) {
         let mut w = [0; MAX_M];
         for (index, (symbol, &sum)) in w[..Self::M].iter_mut().zip(sums).enumerate() {
-            let level = sum + s + i16::from(v <= index + 1);
+            let level = sum + added(index);
             *symbol = if level < Q as i16 { level } else { level - Q as i16 };
         }
         let [odd, even] = Self::parity_sums(&w);

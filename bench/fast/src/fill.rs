@@ -28,7 +28,7 @@ struct Filling {
     added: Added,
 }
 
-impl<const Q: usize, const R: usize, const N: usize> Code<Q, R, N> {
+impl<const Q: usize, const R: usize, const N: usize, const EDITION: u64> Code<Q, R, N, EDITION> {
     /// Decodes a word of the right length that has symbols which are no levels. Refusals 3, 11 and
     /// 4, in this order.
     #[inline(never)]

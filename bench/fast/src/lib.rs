@@ -15,15 +15,21 @@ pub use code::{shape, Shape};
 pub use decode::decode;
 pub use encode::encode;
 
-/// Calls a function of `Code` for the profile with this number, which the compiler thus knows.
+/// Calls a function of `Code` for the edition and the profile with these numbers, which the compiler
+/// thus knows.
 macro_rules! for_profile {
-    ($number:expr, $function:ident($($argument:expr),*)) => {
-        match $number {
-            1 => $crate::code::Profile1::$function($($argument),*),
-            2 => $crate::code::Profile2::$function($($argument),*),
-            3 => $crate::code::Profile3::$function($($argument),*),
-            4 => $crate::code::Profile4::$function($($argument),*),
-            _ => Err(coder::refusal::Refusal::Profile),
+    ($edition:expr, $number:expr, $function:ident($($argument:expr),*)) => {
+        match ($edition, $number) {
+            (13, 1) => $crate::code::Profile1::<13>::$function($($argument),*),
+            (13, 2) => $crate::code::Profile2::<13>::$function($($argument),*),
+            (13, 3) => $crate::code::Profile3::<13>::$function($($argument),*),
+            (13, 4) => $crate::code::Profile4::<13>::$function($($argument),*),
+            (18, 1) => $crate::code::Profile1::<18>::$function($($argument),*),
+            (18, 2) => $crate::code::Profile2::<18>::$function($($argument),*),
+            (18, 3) => $crate::code::Profile3::<18>::$function($($argument),*),
+            (18, 4) => $crate::code::Profile4::<18>::$function($($argument),*),
+            (13 | 18, _) => Err(coder::refusal::Refusal::Profile),
+            _ => Err(coder::refusal::Refusal::Edition),
         }
     };
 }

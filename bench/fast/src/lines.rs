@@ -14,6 +14,9 @@ pub const LONGEST_ANSWER: usize = 108;
 /// What is left of a question mark when the digit 0 is taken from it.
 const MARK: u8 = ERASURE_BYTE - b'0';
 
+/// T-03: "boxlines and sheets stay with edition 13."
+const EDITION: u64 = 13;
+
 /// The longest message and word.
 const MESSAGE: usize = 45;
 const WORD: usize = 99;
@@ -98,7 +101,7 @@ impl Answer<'_> {
         let length = shape(number)?.message_length;
         let (mut first, mut second) = ([0; MESSAGE], [0; MESSAGE]);
         let (first, second) = (&mut first[..length], &mut second[..length]);
-        let Decoding { decoded, .. } = decode(number, word, first, second)?;
+        let Decoding { decoded, .. } = decode(EDITION, number, word, first, second)?;
         self.put(&[*profile]);
         match decoded.kind {
             Kind::Clean => self.put(b" C 0 0"),

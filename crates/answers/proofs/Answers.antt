@@ -7,7 +7,7 @@ use Prim.Native.Nat.{ℕ, suc, _-_, _≤_, zero-le}
 use lib.Dec.{T, leb, leb→le}
 use lib.ListN.{length, take}
 use Rattle.modular_theory.specs.Search.{allBelow}
-use Rattle.code_theory.specs.Parameters.{messageLength}
+use Rattle.code_theory.specs.Parameters.{Edition, messageLength}
 use Rattle.code_theory.specs.Profiles.{profiles, isProfile, profile}
 use Rattle.code_theory.proofs.Profiles.{every-profile, profile-none}
 use Rattle.profiles.specs.declared.row.Row.{Row}
@@ -15,7 +15,7 @@ use Rattle.profiles.specs.Row.{RowOf}
 use Rattle.profiles.proofs.Table.{message-is}
 use Rattle.code_theory.specs.Reading.{read, unreadable}
 use Rattle.code_theory.specs.Operations.{Answer, refused, answered, decodeAnswer, Report, report, decodeOutput}
-use Rattle.lines_theory.specs.Line.{answerLine, readAnswer, lineAnswer}
+use Rattle.lines_theory.specs.Line.{lineEdition, answerLine, readAnswer, lineAnswer}
 use Rattle.lines_theory.proofs.Order.{line-good}
 use Rattle.lines_theory.proofs.Bounds.{SmallAnswer, decode-small}
 use Rattle.answers.proofs.Forms.{GoodLine}
@@ -33,14 +33,14 @@ small-report (answered unreadable t) out out′ s = tt
 small-report (answered (read f a b) t) out out′ s = (s .1, s .2, s .3)
 
 -- the outputs a and b are left as a′ and b′, and r is reported
-module _ (i : ℕ) (u a b a′ b′ : List ℕ) (r : Report) (tells : r ≡ report (decodeAnswer i u (length a) (length b)))
-    (first : a′ ≡ decodeOutput true (decodeAnswer i u (length a) (length b)) a)
-    (second : b′ ≡ decodeOutput false (decodeAnswer i u (length a) (length b)) b) where
+module _ (i : ℕ) (u a b a′ b′ : List ℕ) (r : Report) (tells : r ≡ report (decodeAnswer lineEdition i u (length a) (length b)))
+    (first : a′ ≡ decodeOutput true (decodeAnswer lineEdition i u (length a) (length b)) a)
+    (second : b′ ≡ decodeOutput false (decodeAnswer lineEdition i u (length a) (length b)) b) where
   abbrev d : Answer
-  d = decodeAnswer i u (length a) (length b)
+  d = decodeAnswer lineEdition i u (length a) (length b)
 
   pub small-shown : Small r a′ b′
-  small-shown = rw (tells, first, second) (small-report d a b (decode-small i u (length a) (length b)))
+  small-shown = rw (tells, first, second) (small-report d a b (decode-small lineEdition i u (length a) (length b)))
 
   pub shown-answer : length a ≡ messageLength (profile i) → length b ≡ messageLength (profile i)
       → shownLine i r a′ b′ ≡ answerLine i (readAnswer i u)
@@ -56,9 +56,9 @@ all-messages-short : T (allBelow (λ j. short-message (suc j)) (length profiles)
 unfolding short-message profile
 all-messages-short = tt
 
-pub message-row : {i : ℕ} {t : Row} → RowOf i t → (t .message ≡ messageLength (profile i)) × (t .message ≤ 45)
+pub message-row : {o : Edition} {i : ℕ} {t : Row} → RowOf o i t → (t .message ≡ messageLength (profile i)) × (t .message ≤ 45)
 unfolding short-message
-message-row {i} of =
+message-row {i = i} of =
     let few = leb→le (messageLength (profile i)) 45 (every-profile short-message all-messages-short i (of .known)) in
     (message-is of, rw (message-is of) few)
 

@@ -13,6 +13,9 @@ use decoder::Decoded;
 use profiles::Lookup;
 use profiles::row_of;
 
+// 02, T-03: boxlines stays with the edition of 2013.
+const EDITION: usize = 13;
+
 // What decoding answered, as a line.
 fn write_decoded(
     decoded: Decoded,
@@ -63,7 +66,7 @@ fn respond_with(
     requires { ⌜ length (now second) ≡ messageLength (Profiles.profile profile) ⌝ }
     ensures { λ r. ⌜ Written (now (out .entry)) (now (out .exit)) 0 r (answerLine profile (readAnswer profile (now (word .entry)))) ⌝ }
 {
-    let decoded = decoder::decode(profile, word, first, second);
+    let decoded = decoder::decode(EDITION, profile, word, first, second);
     write_decoded(decoded, profile, first, second, out)
 }
 

@@ -11,7 +11,7 @@ use lib.ListN.{length, getD, set}
 use Rattle.modular_theory.specs.Residue.{minus}
 use Rattle.modular_theory.proofs.Search.{and-left, and-right, and-intro}
 use Rattle.modular_theory.proofs.Residue.{of-eq, _then_, reduce, small, cancel, minus-add, minus-below}
-use Rattle.code_theory.specs.Parameters.{Parameters}
+use Rattle.code_theory.specs.Parameters.{edition13, Parameters, inEdition}
 use Rattle.code_theory.specs.Component.{symbolsBelow}
 use Rattle.code_theory.specs.Balance.{interleave, integrate, differences}
 use Rattle.code_theory.specs.Codeword.{alternate}
@@ -36,7 +36,7 @@ minus-sum q a x h l =
 
 -- a is the sum before x
 pub differences-integrate : (p : Parameters) → 1 ≤ p .q → (a : ℕ) (x : List ℕ) → T (symbolsBelow (p .q) x)
-    → differences p (a ∷ integrate (p .q) a x) ≡ x
+    → differences (inEdition edition13 p) (a ∷ integrate (p .q) a x) ≡ x
 differences-integrate p h a [] b = refl
 differences-integrate p h a (x ∷ xs) b =
     let q : ℕ = p .q in

@@ -1,4 +1,4 @@
--- The starred cases, those with erasures, and how many positions are tried, computed.
+-- The starred cases, those with erasures, how many positions are tried, and words of edition 18, computed.
 -- Assumes nothing.
 use mathlib.Core.Path.{refl}
 use Rattle.modular_theory.specs.Residue.{minus}
@@ -13,21 +13,50 @@ use Rattle.code_theory.specs.Reading.{mends, changedAt, sentAt, nearRead
 use Rattle.code_theory.specs.TriedPositions.{searched, triedPositions}
 use Rattle.code_theory.specs.Profiles.{profile}
 use Rattle.code_theory.specs.Operations.{decodeAnswer}
-use Rattle.code_theory.specs.Cases.{AllHold, starred, erased, counted}
+use Rattle.code_theory.specs.Cases.{AllHold, starred, erased, counted, in18, noEdition}
 
-pub starred-hold : AllHold starred
+pub starred-hold : AllHold 13 starred
 unfolding minus balancingValue delta syndrome inCode isCheck message candidate component chosen balances earliestS earliestV balanced alpha
     beta withChecks interleaved encoded body received nearCode restored isBalanced checkSumAgrees hasChecks nearComponents hasComponents
     codeword carried mends changedAt sentAt nearReading reading receivedReading profile decodeAnswer
 starred-hold =
     ((refl, refl, refl, refl), (refl, (refl, (refl, (refl, (refl, ((refl, refl, refl), (refl, (refl, (refl, (refl, tt)))))))))))
 
-pub erased-hold : AllHold erased
+pub erased-hold : AllHold 13 erased
 unfolding minus balancingValue delta syndrome inCode isCheck message alpha beta body received nearCode restored isBalanced checkSumAgrees
     hasChecks nearComponents hasComponents codeword carried filling firstFilling filledReading receivedReading profile decodeAnswer
 erased-hold = (refl, (refl, (refl, (refl, (refl, (refl, (refl, (refl, (refl, (refl, tt))))))))))
 
-pub counted-hold : AllHold counted
+pub counted-hold : AllHold 13 counted
 unfolding minus balancingValue delta syndrome inCode alpha beta body received nearCode isBalanced checkSumAgrees hasChecks nearComponents
     hasComponents codeword mends changedAt sentAt nearReading reading searched triedPositions profile
 counted-hold = (refl, (refl, (refl, (refl, (refl, (refl, (refl, (refl, (refl, (refl, (refl, (refl, (refl, tt)))))))))))))
+
+pub in-18-hold : AllHold 18 in18
+unfolding minus balancingValue delta syndrome inCode isCheck message candidate component chosen balances earliestS earliestV balanced alpha
+    beta withChecks interleaved encoded body received nearCode restored isBalanced checkSumAgrees hasChecks nearComponents hasComponents
+    codeword carried mends changedAt sentAt nearReading reading filling firstFilling filledReading receivedReading searched triedPositions
+    profile
+in-18-hold = (
+  (refl, refl, refl, refl),
+  (
+    (refl, refl, refl, refl),
+    (
+      (refl, refl, refl, refl),
+      (
+        (refl, refl, refl),
+        (
+          (refl, refl, refl),
+          (
+            (refl, refl, refl),
+            (refl, (refl, (refl, tt))),
+          ),
+        ),
+      ),
+    ),
+  ),
+)
+
+pub no-edition-holds : AllHold 12 noEdition × AllHold 0 noEdition
+unfolding decodeAnswer
+no-edition-holds = ((refl, (refl, (refl, (refl, tt)))), (refl, (refl, (refl, (refl, tt)))))

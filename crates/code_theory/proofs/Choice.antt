@@ -1,75 +1,32 @@
--- The choices run through the walk of the integrated word: so some choice balances, and the search, in its order, finds the earliest.
+-- The choices run through the walk of one word: so some choice balances, and the search, in its edition's order, finds the earliest.
 -- Assumes nothing.
-use mathlib.Core.Path.{_≡_, refl, ap, ap₂, _∙_}
+use mathlib.Core.Path.{_≡_, refl, ap, _∙_}
 use mathlib.Core.Logic.{_≢_, inl, inr}
-use mathlib.Core.List.{List, [], _∷_}
-use Prim.Native.Nat.{ℕ, zero, suc, _+_, _-_, _*_, _%_, _≤_, _<_, zero-le, suc-le-suc}
+use mathlib.Core.List.{List}
+use Prim.Native.Nat.{ℕ, zero, suc, _-_, _*_, _%_, _≤_, _<_, zero-le, suc-le-suc}
 use native.Mathlib.Nat.{le-of-suc-le-suc, not-suc-le-zero, lt-of-not-le}
 use native.Mathlib.Omega.{arith}
 use lib.Dec.{T, eqb→eq, eqb-refl, ltb→lt}
 use lib.ListN.{length, length-set}
 use Rattle.modular_theory.specs.Search.{least, anyBelow}
 use Rattle.modular_theory.specs.Sum.{weight}
-use Rattle.modular_theory.specs.Residue.{Congruent}
 use Rattle.modular_theory.proofs.Search.{least-hit, least-miss, any-of}
-use Rattle.modular_theory.proofs.Residue.{_then_, of-eq, same, symm, reduce, add}
-use Rattle.code_theory.specs.Parameters.{Parameters, balancingValue}
-use Rattle.code_theory.specs.Balance.{addAt, integrate, shifted, shiftedFrom, zeroIndex, addOne}
+use Rattle.code_theory.specs.Parameters.{Edition, edition13, edition18, Parameters, inEdition, balancingValue}
+use Rattle.code_theory.specs.Balance.{addAt, zeroIndex, addOne}
 use Rattle.code_theory.specs.Balance.{integrated, choice, chosen, balances, earliestS, earliestV, balanced}
+use Rattle.code_theory.specs.Walk.{walked, shiftOf}
 use Rattle.code_theory.specs.Claims.{Before, Tried, BalanceExists}
 use Rattle.code_theory.proofs.Balance.{choices-meet}
+use Rattle.code_theory.proofs.Shifted.{length-integrate}
+use Rattle.code_theory.proofs.FromEnd.{length-from-end}
+use Rattle.code_theory.proofs.Walk.{chosen-walked, length-walked, shift-met, halves-together}
 
--- A choice shifts the integrated word.
-
--- where n is m + s mod q, it is m's remainder + s
-offset : {q n : ℕ} (m s : ℕ) → Congruent q n (m + s) → Congruent q n (m % q + s)
-offset {q} m s h = h then add (symm (reduce q m)) (same s)
-
--- the same symbol added to both leaves them s apart
-offset-next : {q n : ℕ} (m s x : ℕ) → Congruent q n (m + s) → Congruent q (n % q + x) (m % q + x + s)
-offset-next {q} {n} m s x h =
-    let e : m % q + s + x ≡ m % q + x + s = omega arith in
-    add (reduce q n then offset m s h) (same x) then of-eq e
-
--- or s + 1, with 1 more added to one
-offset-one : {q : ℕ} (m n s x : ℕ) → Congruent q (n + x) (m + s) → Congruent q (n + (x + 1) % q) (m + suc s)
-offset-one {q} m n s x h =
-    let e : n + (x + 1) ≡ n + x + 1 = omega arith in
-    let f : m + s + 1 ≡ m + suc s = omega arith in
-    add (same n) (reduce q (x + 1)) then of-eq e then add h (same 1) then of-eq f
-
--- the first sums are s apart, since s is added to the first symbol
-offset-first : (q x s : ℕ) → Congruent q (0 + (x + s) % q) (0 + x + s)
-offset-first q x s =
-    let e : 0 + (x + s) ≡ 0 + x + s = omega arith in
-    add (same 0) (reduce q (x + s)) then of-eq e
-
--- sums that start s apart stay so
-integrate-shifted : {q n : ℕ} (m s : ℕ) (x : List ℕ) → Congruent q n (m + s)
-    → n % q ∷ integrate q (n % q) x ≡ shifted q s (m % q ∷ integrate q (m % q) x)
-integrate-shifted m s [] h = ap (λ (a : ℕ). a ∷ []) (offset m s h .same)
-integrate-shifted {q} m s (x ∷ xs) h = ap₂ _∷_ (offset m s h .same) (integrate-shifted (m % q + x) s xs (offset-next m s x h))
-
--- and are s + 1 apart from the index on at which 1 is added
-integrate-shifted-from : {q n : ℕ} (m s : ℕ) (x : List ℕ) (i : ℕ) → i < length x → Congruent q n (m + s)
-    → n % q ∷ integrate q (n % q) (addAt q x i 1) ≡ shiftedFrom q s (suc i) (m % q ∷ integrate q (m % q) x)
-integrate-shifted-from m s [] i l h = absurd (not-suc-le-zero l)
-integrate-shifted-from {q} {n} m s (x ∷ xs) zero l h =
-    ap₂ _∷_ (offset m s h .same) (integrate-shifted (m % q + x) (suc s) xs (offset-one (m % q + x) (n % q) s x (offset-next m s x h)))
-integrate-shifted-from {q} m s (x ∷ xs) (suc i) l h =
-    ap₂ _∷_ (offset m s h .same) (integrate-shifted-from (m % q + x) s xs i (le-of-suc-le-suc l) (offset-next m s x h))
-
-pub chosen-shifted : (p : Parameters) (x : List ℕ) (s i : ℕ) → i < length x
-    → chosen p x s (choice p i) ≡ shiftedFrom (p .q) s i (integrated p x)
-unfolding chosen
-chosen-shifted p [] s i l = absurd (not-suc-le-zero l)
-chosen-shifted p (x ∷ xs) s zero l =
-    integrate-shifted (0 + x) (suc s) xs (offset-one (0 + x) 0 s ((x + s) % p .q) (offset-first (p .q) x s))
-chosen-shifted p (x ∷ xs) s (suc i) l = integrate-shifted-from (0 + x) s xs i (le-of-suc-le-suc l) (offset-first (p .q) x s)
-
-pub length-integrate : (q a : ℕ) (x : List ℕ) → length (integrate q a x) ≡ length x
-length-integrate q a [] = refl
-length-integrate q a (x ∷ xs) = ap suc (length-integrate q ((a + x) % q) xs)
+length-integrated : (p : Parameters) (x : List ℕ) → length (integrated p x) ≡ length x
+length-integrated p x = go (p .edition)
+  where
+    go : (e : Edition) → length (integrated (inEdition e p) x) ≡ length x
+    go edition13 = length-integrate (p .q) 0 x
+    go edition18 = length-from-end (p .q) x
 
 length-one : (p : Parameters) (x : List ℕ) (v : ℕ) → length (addOne p x v) ≡ length x
 length-one p x zero = refl
@@ -79,19 +36,38 @@ pub length-chosen : (p : Parameters) (x : List ℕ) (s v : ℕ) → length (chos
 unfolding chosen
 length-chosen p x s v =
     let y : List ℕ = addAt (p .q) x (zeroIndex p x) s in
-    length-integrate (p .q) 0 (addOne p y v) ∙ length-one p y v ∙ simp length-set
+    length-integrated p (addOne p y v) ∙ length-one p y v ∙ simp length-set
 
 -- The order of the search.
 
-tried-at : (p : Parameters) (m i : ℕ) → i < m → Tried p m (choice p i)
-tried-at p m i l = (suc-le-suc zero-le, l)
+pub tried-at : (p : Parameters) (m i : ℕ) → i < m → Tried p m (choice p i)
+tried-at p m i l = go (p .edition)
+  where
+    go : (e : Edition) → Tried (inEdition e p) m (choice (inEdition e p) i)
+    go edition13 = (suc-le-suc zero-le, l)
+    go edition18 = l
 
 pub tried-index : (p : Parameters) (m v : ℕ) → Tried p m v → (i : ℕ) × (i < m) × (v ≡ choice p i)
-tried-index p m zero t = absurd (not-suc-le-zero (t .0))
-tried-index p m (suc i) t = (i, t .1, refl)
+tried-index p m v t = go (p .edition) v t
+  where
+    go : (e : Edition) (v : ℕ) → Tried (inEdition e p) m v → (i : ℕ) × (i < m) × (v ≡ choice (inEdition e p) i)
+    go edition13 zero t = absurd (not-suc-le-zero (t .0))
+    go edition13 (suc i) t = (i, t .1, refl)
+    go edition18 v t = (v, t, refl)
 
 pub choice-before : (p : Parameters) (i j : ℕ) → choice p i < choice p j → i < j
-choice-before p i j l = le-of-suc-le-suc l
+choice-before p i j l = go (p .edition) l
+  where
+    go : (e : Edition) → choice (inEdition e p) i < choice (inEdition e p) j → i < j
+    go edition13 l = le-of-suc-le-suc l
+    go edition18 l = l
+
+pub before-choice : (p : Parameters) (i j : ℕ) → i < j → choice p i < choice p j
+before-choice p i j l = go (p .edition)
+  where
+    go : (e : Edition) → choice (inEdition e p) i < choice (inEdition e p) j
+    go edition13 = suc-le-suc l
+    go edition18 = l
 
 -- no choice before the earliest balances
 module _ (p : Parameters) (x : List ℕ) where
@@ -118,10 +94,13 @@ module _ (p : Parameters) (x : List ℕ) where
     unfolding balancingValue
     s-found =
         let w : ℕ = balancingValue (p .q) (length x) in
-        let e : length (integrated p x) ≡ length x = length-integrate (p .q) 0 x in
-        let even : length x * (p .q - 1) ≡ 2 * w = omega arith in
-        lt-of-not-le (λ (h : p .q ≤ earliestS p x). choices-meet (p .q) w (integrated p x) levels (rw e some) (rw e even) (λ s i l j k.
-        earlier-at s i (rw e at j) (inl (omega arith)) (ap weight (chosen-shifted p x s i (rw e at j)) ∙ k)))
+        let d : List ℕ = walked p x in
+        let e : length d ≡ length x = length-walked p levels x in
+        let even : length d * (p .q - 1) ≡ 2 * w = rw e (omega arith) in
+        lt-of-not-le (λ (h : p .q ≤ earliestS p x). choices-meet (p .q) w d levels (rw e some) even (λ t i l j k.
+        let (s, b, f) = shift-met p levels t l in
+        earlier-at s i (rw e at j) (inl (omega arith))
+        (ap weight (chosen-walked p levels x s i (rw e at j)) ∙ halves-together p levels d (shiftOf p s) i w even .from (rw f k))))
 
     index-found : least (λ i. balances p x (earliestS p x) (choice p i)) (length x) < length x
     unfolding earliestS

@@ -13,8 +13,8 @@ use Rattle.code_theory.proofs.Errors.{error-carried, errors-told}
 use Rattle.code_theory.proofs.Whole.{received-symbols, whole-reading}
 use Rattle.code_theory.proofs.Erased.{erasures-filled, erased-by-filling}
 use Rattle.code_theory.proofs.TriedPositions.{counts-told, most-tried}
-use Rattle.code_theory.proofs.Profiles.{profiles-fit}
-use Rattle.code_theory.proofs.Cases.{starred-hold, erased-hold, counted-hold}
+use Rattle.code_theory.proofs.Profiles.{edition-numbers, profiles-fit}
+use Rattle.code_theory.proofs.Cases.{starred-hold, erased-hold, counted-hold, in-18-hold, no-edition-holds}
 
 pub claims : Claims
 claims =
@@ -41,8 +41,11 @@ claims =
       erased-by-filling = erased-by-filling;
       counts-told = counts-told;
       most-tried = most-tried;
+      edition-numbers = edition-numbers;
       profiles-fit = profiles-fit;
       starred-hold = starred-hold;
       erased-hold = erased-hold;
       counted-hold = counted-hold;
+      in-18-hold = in-18-hold;
+      no-edition-holds = no-edition-holds;
     }

@@ -58,7 +58,7 @@ alternate-weight [] = refl
 alternate-weight (x ∷ xs) = omega (arith, alternate-weight xs)
 
 -- numbers below q whose sum is q - 1 mod q have the sum q - 1
-sum-exact : (q a b : ℕ) → a < q → b < q → Congruent q (a + b) (q - 1) → a + b ≡ q - 1
+pub sum-exact : (q a b : ℕ) → a < q → b < q → Congruent q (a + b) (q - 1) → a + b ≡ q - 1
 sum-exact q a b ha hb e =
     ⊎-elim (λ (k : q ≤ a + b). absurd (over k)) (λ (k : a + b < q). small k (omega arith) e) (le-or-lt q (a + b))
   where

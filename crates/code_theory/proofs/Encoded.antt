@@ -5,7 +5,7 @@ use mathlib.Core.Path.{_≡_, sym, ap, ap₂, subst, _∙_}
 use mathlib.Core.Logic.{_⊎_, inl, inr}
 use mathlib.Core.Bool.{Bool, true, false, _&&_}
 use mathlib.Core.List.{List, [], _∷_}
-use Prim.Native.Nat.{ℕ, zero, suc, _+_, _%_, _≤_, _<_}
+use Prim.Native.Nat.{ℕ, zero, suc, _+_, _-_, _%_, _≤_, _<_}
 use native.Mathlib.Nat.{add-comm, mod-lt}
 use native.Mathlib.Omega.{arith}
 use lib.Dec.{T, eqb, ltb, lt→ltb}
@@ -14,9 +14,9 @@ use lib.Seq.{lt-length-set, getD-set-same, set-set, set-getD}
 use Rattle.modular_theory.specs.Sum.{weight}
 use Rattle.modular_theory.specs.Residue.{minus}
 use Rattle.modular_theory.proofs.Search.{and-left, and-right, and-intro}
-use Rattle.code_theory.specs.Parameters.{Parameters, Sized, balancedLength, balancingValue}
+use Rattle.code_theory.specs.Parameters.{Edition, edition13, edition18, Parameters, inEdition, Sized, balancedLength, balancingValue}
 use Rattle.code_theory.specs.Component.{symbolsBelow, inCode, message, component}
-use Rattle.code_theory.specs.Balance.{interleave, addAt, withZero, zeroIndex, addOne}
+use Rattle.code_theory.specs.Balance.{interleave, addAt, withZero, addOne}
 use Rattle.code_theory.specs.Balance.{differences, choice, chosen, earliestS, earliestV, balanced}
 use Rattle.code_theory.specs.Codeword.{alternate, alpha, beta, withChecks, interleaved, encoded}
 use Rattle.code_theory.specs.Codeword.{body, differenced, received, lowered, restored, carried}
@@ -25,10 +25,11 @@ use Rattle.code_theory.proofs.Weights.{double, double-is, parity}
 use Rattle.code_theory.proofs.Syndrome.{Zero, ColumnOf, code-zero, lowered-column}
 use Rattle.code_theory.proofs.Columns.{q-positive}
 use Rattle.code_theory.proofs.Moves.{Column, neither, first, second, NearIn}
-use Rattle.code_theory.proofs.Symbols.{symbol-below, symbols-set, symbols-append}
+use Rattle.code_theory.proofs.Symbols.{symbol-below, symbols-raised, symbols-append}
 use Rattle.code_theory.proofs.Conditions.{codeword-of, body-with-checks}
+use Rattle.code_theory.proofs.FromEnd.{from-end-below, undone-from-end}
 use Rattle.code_theory.proofs.Choice.{length-chosen, tried-index}
-use Rattle.code_theory.proofs.Pair.{length-component, length-interleave, length-interleaved, balance-of-pair}
+use Rattle.code_theory.proofs.Pair.{length-component, length-interleave, length-zero, length-interleaved, balance-of-pair}
 use Rattle.code_theory.proofs.Component.{component-holding}
 use Rattle.code_theory.proofs.Restored.{restored-zero, restored-column}
 use Rattle.code_theory.proofs.Alternate.{alternate-first, alternate-second, minus-sum, differences-integrate}
@@ -50,9 +51,6 @@ symbols-interleave q (c ∷ x) (d ∷ y) a b =
     and-intro (ltb c q) (ltb d q && symbolsBelow q (interleave x y)) (and-left (ltb c q) (symbolsBelow q x) a)
     (and-intro (ltb d q) (symbolsBelow q (interleave x y)) (and-left (ltb d q) (symbolsBelow q y) b)
     (symbols-interleave q x y (and-right (ltb c q) (symbolsBelow q x) a) (and-right (ltb d q) (symbolsBelow q y) b)))
-
-symbols-raised : (q : ℕ) → 1 ≤ q → (c : List ℕ) (i e : ℕ) → T (symbolsBelow q c) → T (symbolsBelow q (addAt q c i e))
-symbols-raised q h c i e b = symbols-set q c i ((getD c i 0 + e) % q) (mod-lt (getD c i 0 + e) h) b
 
 -- a word's components are c and d, or those with 1 added to a symbol of one of them
 data Sent (q : ℕ) (c d : List ℕ) (z : List ℕ) : Type 0 where
@@ -100,15 +98,24 @@ choice-sent p c d zero e l = as-made (alternate-first c d e) (alternate-second c
 choice-sent p c d (suc t) e l = raise-sent (p .q) c d t e l
 
 -- differencing the word of a choice gives back what was interleaved, with that 1 added: where s was added is dropped
-undone : (p : Parameters) → 1 ≤ p .q → (z : List ℕ) (s i : ℕ) → T (symbolsBelow (p .q) z)
+undone : (p : Parameters) → 1 ≤ p .q → (z : List ℕ) (s i : ℕ) → T (symbolsBelow (p .q) z) → i ≤ length z
     → differences p (chosen p (withZero p z) s (choice p i)) ≡ addOne p z i
 unfolding chosen
-undone p h z s zero b = differences-integrate p h _ z b
-undone p h z s (suc i) b = differences-integrate p h _ (addAt (p .q) z i 1) (symbols-raised (p .q) h z i 1 b)
+undone p h z s i b l = go (p .edition) i l
+  where
+    go : (e : Edition) (i : ℕ) → i ≤ length z
+        → let r : Parameters = inEdition e p in differences r (chosen r (withZero r z) s (choice r i)) ≡ addOne r z i
+    go edition13 zero l = differences-integrate p h _ z b
+    go edition13 (suc i) l = differences-integrate p h _ (addAt (p .q) z i 1) (symbols-raised (p .q) h z i 1 b)
+    go edition18 i l = undone-from-end p h z s i b l
 
-chosen-below : (p : Parameters) → 1 ≤ p .q → (x : List ℕ) (s v : ℕ) → T (symbolsBelow (p .q) (chosen p x s v))
+pub chosen-below : (p : Parameters) → 1 ≤ p .q → (x : List ℕ) (s v : ℕ) → T (symbolsBelow (p .q) (chosen p x s v))
 unfolding chosen
-chosen-below p h x s v = integrate-below (p .q) h 0 (addOne p (addAt (p .q) x (zeroIndex p x) s) v)
+chosen-below p h x s v = go (p .edition)
+  where
+    go : (e : Edition) → T (symbolsBelow (p .q) (chosen (inEdition e p) x s v))
+    go edition13 = integrate-below (p .q) h 0 (addOne (inEdition edition13 p) (addAt (p .q) x 0 s) v)
+    go edition18 = from-end-below (p .q) h (addOne (inEdition edition18 p) (addAt (p .q) x (length x - 1) s) v)
 
 word-below : {p : Parameters} {a c : List ℕ} → Holding p a c → T (symbolsBelow (p .q) c)
 word-below {p} {a} {c} h = and-right (eqb (length c) (p .n)) (symbolsBelow (p .q) c) (h .word)
@@ -153,10 +160,10 @@ module _ (p : Parameters) (s : Sized p) (a b : List ℕ) (ha : Holding p a (comp
       let d : List ℕ = component p b in
       let z : List ℕ = interleave c d in
       let (i, l, e) = tried-index p (balancedLength p) v tried in
-      let k : i ≤ length z = omega (arith, length-interleaved p a b) in
+      let k : i ≤ length z = omega (arith, length-interleaved p a b, length-zero p z) in
       let back : differences p w ≡ addOne p z i =
       ap (λ (v : ℕ). differences p (chosen p (withZero p z) t v)) e
-      ∙ undone p (q-positive p s) z t i (symbols-interleave (p .q) c d (word-below ha) (word-below hb)) in
+      ∙ undone p (q-positive p s) z t i (symbols-interleave (p .q) c d (word-below ha) (word-below hb)) k in
       subst (Sent (p .q) c d) (sym back) (choice-sent p c d i (length-component p a ∙ sym (length-component p b)) k)
 
   near : NearIn p w

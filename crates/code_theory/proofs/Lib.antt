@@ -7,6 +7,9 @@ pub mod Distance
 pub mod Alternate
 -- Why a balance can always be found
 pub mod Balance
+pub mod Shifted
+pub mod FromEnd
+pub mod Walk
 pub mod Choice
 pub mod Pair
 -- The component code

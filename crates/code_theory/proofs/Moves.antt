@@ -1,5 +1,5 @@
 -- Two words that differ by e at index i and by -e at index j cannot both have components near the code: both syndromes would move, each
--- between zero and a column, in opposite ways, and the last rows do not allow that.
+-- between zero and a column, in opposite ways, and the last rows do not allow that. What an edition brings is a sign of e.
 -- Assumes nothing.
 use mathlib.Core.Path.{_≡_, sym}
 use mathlib.Core.Bool.{Bool, true, false}
@@ -10,11 +10,11 @@ use native.Mathlib.Omega.{arith}
 use lib.ListN.{length}
 use Rattle.modular_theory.specs.Sum.{dot}
 use Rattle.modular_theory.specs.Residue.{Congruent, Invertible}
-use Rattle.modular_theory.proofs.Residue.{of-eq, same, symm, _then_, add, mul, cancel, cancel-unit}
+use Rattle.modular_theory.proofs.Residue.{of-eq, same, symm, _then_, add, mul, scale, cancel, cancel-unit}
 use Rattle.code_theory.specs.Parameters.{Parameters, Sized}
 use Rattle.code_theory.specs.Component.{checkRow}
 use Rattle.code_theory.specs.Codeword.{differenced}
-use Rattle.code_theory.proofs.Weights.{double, checkWeight, dot-differenced}
+use Rattle.code_theory.proofs.Weights.{double, sign, sign-invertible, checkWeight, dot-differenced}
 use Rattle.code_theory.proofs.Syndrome.{Zero, ColumnOf}
 use Rattle.code_theory.proofs.Columns.{q-positive, last-row, last-below, one-not-zero}
 
@@ -156,19 +156,23 @@ near-rows p s c h = go h
 pub no-move : (p : Parameters) → Sized p → {w w′ : List ℕ} {e i j : ℕ} → Move (p .q) w w′ e i j → Invertible (p .q) e
     → length w ≡ suc (double (p .n)) → length w′ ≡ suc (double (p .n)) → ToldApart p i j
     → NearIn p w → NearIn p w′ → ⊥
-no-move p s {w} {w′} {e} {i} {j} m u l l′ t a a′ = no-shift p s shift u t (near-rows p s (parts w) a) (near-rows p s (parts w′) a′)
+no-move p s {w} {w′} {e} {i} {j} m u l l′ t a a′ =
+    no-shift p s shift (sign-invertible p (q-positive p s) u) t (near-rows p s (parts w) a) (near-rows p s (parts w′) a′)
   where
     parts : List ℕ → Bool → List ℕ
     parts v b = differenced p b v
 
     row-is : (b : Bool) (k : ℕ) (v : List ℕ) → length v ≡ suc (double (p .n))
-        → Congruent (p .q) (rowsOf p (parts v) b k) (dot (rowWeight p b k) v)
+        → Congruent (p .q) (rowsOf p (parts v) b k) (sign p * dot (rowWeight p b k) v)
     row-is b k v h = dot-differenced p (q-positive p s) b (checkRow p k) v h
 
-    shift : Shift p (rowsOf p (parts w)) (rowsOf p (parts w′)) e i j
+    -- the rows move by the change with the edition's sign
+    shift : Shift p (rowsOf p (parts w)) (rowsOf p (parts w′)) (sign p * e) i j
     shift =
         record {
           rows = λ b k h.
-              add (row-is b k w′ l′) (same (rowWeight p b k j * e)) then m .sums (rowWeight p b k)
-              then add (symm (row-is b k w l)) (same (rowWeight p b k i * e));
+              let f : ℕ → ℕ = rowWeight p b k in
+              let out : (v : List ℕ) (t : ℕ) → sign p * dot f v + f t * (sign p * e) ≡ sign p * (dot f v + f t * e) = λ v t. omega arith in
+              add (row-is b k w′ l′) (same (f j * (sign p * e))) then of-eq (out w′ j) then scale (sign p) (m .sums f)
+              then of-eq (sym (out w i)) then add (symm (row-is b k w l)) (same (f i * (sign p * e)));
         }

@@ -2,12 +2,12 @@
 -- Assumes nothing.
 use mathlib.Core.Path.{_≡_, refl}
 use mathlib.Core.List.{List, [], _∷_}
-use Prim.Native.Nat.{ℕ, _-_, _*_, _/_, _%_}
+use Prim.Native.Nat.{ℕ, suc, _-_, _*_, _/_, _%_}
 use native.Mathlib.Omega.{arith}
-use lib.ListN.{length}
-use Rattle.code_theory.specs.Parameters.{Parameters, Sized, balancedLength}
+use lib.ListN.{length, length-append}
+use Rattle.code_theory.specs.Parameters.{Edition, edition13, edition18, Parameters, inEdition, Sized, balancedLength}
 use Rattle.code_theory.specs.Component.{checkAt, candidate, component}
-use Rattle.code_theory.specs.Balance.{interleave}
+use Rattle.code_theory.specs.Balance.{interleave, withZero}
 use Rattle.code_theory.specs.Codeword.{interleaved}
 use Rattle.code_theory.specs.Claims.{BalanceOfPair}
 use Rattle.code_theory.proofs.Choice.{balance-exists}
@@ -22,13 +22,21 @@ length-interleave [] y h = refl
 length-interleave (a ∷ x) [] h = omega arith
 length-interleave (a ∷ x) (b ∷ y) h = omega (arith, length-interleave x y (omega arith))
 
+pub length-zero : (p : Parameters) (x : List ℕ) → length (withZero p x) ≡ suc (length x)
+length-zero p x = go (p .edition)
+  where
+    go : (e : Edition) → length (withZero (inEdition e p) x) ≡ suc (length x)
+    go edition13 = refl
+    go edition18 = omega (arith, length-append x (0 ∷ []))
+
 module _ (p : Parameters) (a b : List ℕ) where
   pub length-interleaved : length (interleaved p a b) ≡ balancedLength p
   unfolding interleaved
   length-interleaved =
       let e : length (component p a) ≡ p .n = length-component p a in
       let f : length (component p b) ≡ p .n = length-component p b in
-      omega (arith, length-interleave (component p a) (component p b) (omega arith))
+      let x : List ℕ = interleave (component p a) (component p b) in
+      omega (arith, length-interleave (component p a) (component p b) (omega arith), length-zero p x)
 
   -- twice the balancing value is even
   pub even-interleaved : Sized p → length (interleaved p a b) * (p .q - 1) % 2 ≡ 0

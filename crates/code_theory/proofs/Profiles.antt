@@ -1,7 +1,7 @@
 -- The four profiles are sized and prime: a test that is computed over the table, and what it says of each row.
 -- Assumes nothing.
-use mathlib.Core.Path.{_≡_, refl, sym, subst}
-use mathlib.Core.Logic.{⊎-elim}
+use mathlib.Core.Path.{_≡_, refl, sym, ap, subst}
+use mathlib.Core.Logic.{_⊎_, inl, inr, ⊎-elim}
 use mathlib.Core.Bool.{Bool, false, not, _&&_, _||_}
 use Prim.Native.Nat.{ℕ, zero, suc, _-_, _%_, _^_, _≤_, _<_}
 use native.Mathlib.Nat.{not-le-of-lt}
@@ -11,10 +11,10 @@ use lib.Dec.{T, leb, ltb, eqb, leb→le, ltb→lt, eqb→eq, le→leb, T-not}
 use Rattle.modular_theory.specs.Search.{allBelow}
 use Rattle.modular_theory.specs.Residue.{Prime}
 use Rattle.modular_theory.proofs.Search.{and-intro, and-left, and-right, and-parts, or-cases, le-or-lt, all-at}
-use Rattle.code_theory.specs.Parameters.{Parameters, Sized, balancingValue, delta}
+use Rattle.code_theory.specs.Parameters.{Edition, edition13, isEdition, Parameters, inEdition, Sized, balancingValue, delta}
 use Rattle.code_theory.specs.Component.{erasure}
-use Rattle.code_theory.specs.Profiles.{row, profiles, isProfile, profile, derivedRow}
-use Rattle.code_theory.specs.Claims.{ProfilesFit}
+use Rattle.code_theory.specs.Profiles.{row, profiles, isProfile, profile, profileIn, derivedRow}
+use Rattle.code_theory.specs.Claims.{EditionNumbers, ProfilesFit}
 
 -- no number from 2 up to q - 1 divides q
 abbrev isPrime : ℕ → Bool
@@ -50,6 +50,20 @@ sized p h = from (and-parts (eqb (p .q % 2) 1) (leb 3 (p .q)) (ltb (p .n) (p .q 
           highest = leb→le _ _ (and-right (leb 2 (p .n)) (leb (p .q ^ (p .r - 2)) (p .n)) (t .3));
         }
 
+pub edition-numbers : EditionNumbers
+edition-numbers = ((λ k. (named k, numbered k)), (λ i. refl), (λ i. refl))
+  where
+    named : (k : ℕ) → T (isEdition k) → (k ≡ 13) ⊎ (k ≡ 18)
+    named k h = ⊎-elim (λ t. inl (eqb→eq k 13 t)) (λ t. inr (eqb→eq k 18 t)) (or-cases (eqb k 13) (eqb k 18) h)
+
+    numbered : (k : ℕ) → (k ≡ 13) ⊎ (k ≡ 18) → T (isEdition k)
+    numbered k (inl e) = subst (λ (x : ℕ). T (isEdition x)) (sym e) tt
+    numbered k (inr e) = subst (λ (x : ℕ). T (isEdition x)) (sym e) tt
+
+-- an edition changes no number
+pub sized-in : (e : Edition) (p : Parameters) → Sized p → Sized (inEdition e p)
+sized-in e p s = record { odd = s .odd; levels = s .levels; columns = s .columns; second = s .second; highest = s .highest }
+
 -- a test that passes for the number of each row passes for every profile's number
 pub every-profile : (t : ℕ → Bool) → T (allBelow (λ j. t (suc j)) (length profiles)) → (i : ℕ) → T (isProfile i) → T (t i)
 every-profile t h zero k = absurd k
@@ -62,7 +76,8 @@ pub profile-none : (i : ℕ) → isProfile i ≡ false → profile i ≡ row 0 0
 unfolding profile
 profile-none zero e = refl
 profile-none (suc i) e =
-    ⊎-elim (λ (h : length profiles ≤ i). List·getD-eq-default profiles (row 0 0 0) h) (λ h. absurd (past h)) (le-or-lt (length profiles) i)
+    ⊎-elim (λ (h : length profiles ≤ i). ap (inEdition edition13) (List·getD-eq-default profiles (row 0 0 0) h)) (λ h. absurd (past h))
+    (le-or-lt (length profiles) i)
   where
     past : i < length profiles → ⊥
     past h =
@@ -81,12 +96,12 @@ pub profiles-fit : ProfilesFit
 unfolding fits profile derivedRow balancingValue delta
 profiles-fit = (row-fits, refl)
   where
-    row-fits : (i : ℕ) → T (isProfile i) → Sized (profile i) × Prime (profile i .q)
-    row-fits i h =
+    row-fits : (e i : ℕ) → T (isProfile i) → Sized (profileIn e i) × Prime (profileIn e i .q)
+    row-fits e i h =
         let f : T (fits i) = every-profile fits all-fit i h in
         let s : Bool = isSized (profile i) in
         let p : Bool = isPrime (profile i .q) in
-        (sized (profile i) (and-left s p f), prime (profile i .q) (and-right s p f))
+        (sized (profileIn e i) (and-left s p f), prime (profileIn e i .q) (and-right s p f))
 
 -- no profile has so many levels that an erasure is one
 pub few-levels : (i : ℕ) → T (isProfile i) → profile i .q ≤ erasure

@@ -1,11 +1,13 @@
 -- What the test of a word's symbols says of each of them, and back.
 -- Assumes nothing.
 use mathlib.Core.List.{List, [], _∷_, _++_}
-use Prim.Native.Nat.{ℕ, zero, suc, _≤_, _<_, zero-le, suc-le-suc}
+use Prim.Native.Nat.{ℕ, zero, suc, _+_, _%_, _≤_, _<_, zero-le, suc-le-suc}
+use native.Mathlib.Nat.{mod-lt}
 use lib.Dec.{T, ltb, ltb→lt, lt→ltb}
 use lib.ListN.{length, getD, set}
 use Rattle.modular_theory.proofs.Search.{and-left, and-right, and-intro}
 use Rattle.code_theory.specs.Component.{symbolsBelow}
+use Rattle.code_theory.specs.Balance.{addAt}
 
 -- past the end it is 0
 pub symbol-below : (q : ℕ) → 1 ≤ q → (c : List ℕ) → T (symbolsBelow q c) → (i : ℕ) → getD c i 0 < q
@@ -30,3 +32,7 @@ symbols-append q [] d a b = b
 symbols-append q (x ∷ xs) d a b =
     and-intro (ltb x q) (symbolsBelow q (xs ++ d)) (and-left (ltb x q) (symbolsBelow q xs) a)
     (symbols-append q xs d (and-right (ltb x q) (symbolsBelow q xs) a) b)
+
+-- e added mod q to one of them
+pub symbols-raised : (q : ℕ) → 1 ≤ q → (c : List ℕ) (i e : ℕ) → T (symbolsBelow q c) → T (symbolsBelow q (addAt q c i e))
+symbols-raised q h c i e b = symbols-set q c i ((getD c i 0 + e) % q) (mod-lt (getD c i 0 + e) h) b

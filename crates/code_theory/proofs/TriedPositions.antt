@@ -19,7 +19,7 @@ use Rattle.code_theory.specs.Codeword.{body, isBalanced, checkSumAgrees,
 use Rattle.code_theory.specs.Erasures.{erasures}
 use Rattle.code_theory.specs.Reading.{Correction, clean, corrected, filled, Reading, read, unreadable, reading}
 use Rattle.code_theory.specs.TriedPositions.{positionsUpTo, searched, lastTried, triedPositions}
-use Rattle.code_theory.specs.Profiles.{profile}
+use Rattle.code_theory.specs.Profiles.{profile, profileIn}
 use Rattle.code_theory.specs.Claims.{CountsTold, MostTried}
 use Rattle.code_theory.proofs.Merge.{cases}
 use Rattle.code_theory.proofs.Errors.{CorrectedBy, reading-corrected}
@@ -142,5 +142,7 @@ counts-told p v =
 -- computed
 pub most-tried : MostTried
 unfolding profile
-most-tried v =
-    (counts-told (profile 1) v .most, counts-told (profile 2) v .most, counts-told (profile 3) v .most, counts-told (profile 4) v .most)
+most-tried e v = (most 1, most 2, most 3, most 4)
+  where
+    most : (i : ℕ) → triedPositions (profileIn e i) v ≤ profileIn e i .n + 1
+    most i = counts-told (profileIn e i) v .most

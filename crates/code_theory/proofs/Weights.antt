@@ -1,21 +1,21 @@
 -- A check of a component is a weighted sum over the word that was differenced: taking every other symbol and differencing both move into
--- the weights.
+-- the weights. Edition 18 differences the other way round, which turns the sum's sign.
 -- Assumes nothing.
 use mathlib.Core.Path.{_≡_, refl, sym, ap, subst, _∙_}
 use mathlib.Core.Logic.{_⊎_, inl, inr, ⊎-elim}
 use mathlib.Core.Bool.{Bool, true, false}
 use mathlib.Core.List.{List, [], _∷_}
 use Prim.Native.Nat.{ℕ, zero, suc, _+_, _-_, _*_, _≤_, _<_, zero-le, suc-le-suc}
-use native.Mathlib.Nat.{not-suc-le-zero, suc-ne-zero, suc-inj, le-refl}
+use native.Mathlib.Nat.{not-suc-le-zero, suc-ne-zero, suc-inj, le-refl, one-mul}
 use native.Mathlib.Omega.{arith}
 use lib.Dec.{ltb}
 use lib.ListN.{length}
 use borrow.Author.Tests.{lt-ltb, le-ltb}
 use Rattle.modular_theory.specs.Sum.{weight, dot}
-use Rattle.modular_theory.specs.Residue.{Congruent}
-use Rattle.modular_theory.proofs.Residue.{of-eq, same, symm, _then_, add, scale, multiple, minus-add, minus-below}
+use Rattle.modular_theory.specs.Residue.{Congruent, Invertible, minus}
+use Rattle.modular_theory.proofs.Residue.{of-eq, same, symm, _then_, add, mul, scale, multiple, cancel, minus-add, minus-below}
 use Rattle.modular_theory.proofs.Sum.{dot-one, dot-same}
-use Rattle.code_theory.specs.Parameters.{Parameters}
+use Rattle.code_theory.specs.Parameters.{Edition, edition13, edition18, Parameters, inEdition}
 use Rattle.code_theory.specs.Component.{Below}
 use Rattle.code_theory.specs.Balance.{neighbourDifference, differences}
 use Rattle.code_theory.specs.Codeword.{alternate, differenced}
@@ -56,18 +56,57 @@ pub times-pred : (q a : ℕ) → 1 ≤ q → (q - 1) * a + a ≡ a * q
 times-pred zero a h = absurd (not-suc-le-zero h)
 times-pred (suc s) a h = rw (suc-sub-one s) (omega arith)
 
+-- 1, or in edition 18 -1 mod q
+abbrev pub sign : Parameters → ℕ
+sign p = elim (p .edition) [ edition13 ↦ 1 | edition18 ↦ p .q - 1 ]
+
+-- a difference is that of the symbols with the sign
+sign-difference : (p : Parameters) → 1 ≤ p .q → (a x : ℕ) → Congruent (p .q) (neighbourDifference p a x + sign p * a) (sign p * x)
+sign-difference p h a x = go (p .edition)
+  where
+    go : (e : Edition) → let r : Parameters = inEdition e p in Congruent (p .q) (neighbourDifference r a x + sign r * a) (sign r * x)
+    go edition13 = rw (one-mul a, one-mul x) (minus-add (p .q) x a h)
+    go edition18 =
+        let q : ℕ = p .q in
+        let d : ℕ = minus q a x in
+        let l : d + (q - 1) * a + (a + x) ≡ d + x + a * q = omega (arith, times-pred q a h) in
+        let r : a + x * q ≡ (q - 1) * x + (a + x) = omega (arith, times-pred q x h) in
+        cancel (a + x) (of-eq l then multiple q (d + x) a then minus-add q a x h then symm (multiple q a x) then of-eq r)
+
+-- the sign keeps what has an inverse
+pub sign-invertible : (p : Parameters) → 1 ≤ p .q → {e : ℕ} → Invertible (p .q) e → Invertible (p .q) (sign p * e)
+sign-invertible p h {e} u =
+    let s : ℕ = sign p in
+    let j : ℕ = u .inverse in
+    let k : s * e * (s * j) ≡ s * s * (e * j) = omega arith in
+    record { inverse = s * j; product = of-eq k then mul (square (p .edition)) (u .product) }
+  where
+    square : (o : Edition) → Congruent (p .q) (sign (inEdition o p) * sign (inEdition o p)) 1
+    square edition13 = same 1
+    square edition18 =
+        let q : ℕ = p .q in
+        let l : (q - 1) * (q - 1) + (q - 1) ≡ 0 + (q - 1) * q = omega (arith, times-pred q (q - 1) h) in
+        let r : 0 + 1 * q ≡ 1 + (q - 1) = omega arith in
+        cancel (q - 1) (of-eq l then multiple q 0 (q - 1) then symm (multiple q 0 1) then of-eq r)
+
 -- a is the symbol before w
 dot-differences : (p : Parameters) → 1 ≤ p .q → (g : ℕ → ℕ) (a : ℕ) (w : List ℕ) → g (length w) ≡ 0
-    → Congruent (p .q) (dot g (differences p (a ∷ w)) + g 0 * a) (dot (slope (p .q) g) w)
-dot-differences p h g a [] e = let k : 0 + g 0 * a ≡ 0 = omega (arith, ap (λ (x : ℕ). x * a) e) in of-eq k
+    → Congruent (p .q) (dot g (differences p (a ∷ w)) + g 0 * (sign p * a)) (sign p * dot (slope (p .q) g) w)
+dot-differences p h g a [] e =
+    let k : 0 + g 0 * (sign p * a) ≡ sign p * 0 = omega (arith, ap (λ (x : ℕ). x * (sign p * a)) e) in
+    of-eq k
 dot-differences p h g a (x ∷ xs) e =
     let q : ℕ = p .q in
     let d : ℕ = dot (λ t. g (suc t)) (differences p (x ∷ xs)) in
     let y : ℕ = neighbourDifference p a x in
-    let l : g 0 * y + d + g 0 * a ≡ g 0 * (y + a) + d = omega arith in
-    let k : g 0 * x + d + g 1 * x * q ≡ (g 0 + (q - 1) * g 1) * x + (d + g 1 * x) = omega (arith, times-pred q (g 1 * x) h) in
-    of-eq l then add (scale (g 0) (minus-add q x a h)) (same d) then symm (multiple q (g 0 * x + d) (g 1 * x)) then of-eq k
-    then add (same ((g 0 + (q - 1) * g 1) * x)) (dot-differences p h (λ t. g (suc t)) x xs e)
+    let b : ℕ = sign p * a in
+    let z : ℕ = sign p * x in
+    let l : g 0 * y + d + g 0 * b ≡ g 0 * (y + b) + d = omega arith in
+    let k : g 0 * z + d + g 1 * z * q ≡ (g 0 + (q - 1) * g 1) * z + (d + g 1 * z) = omega (arith, times-pred q (g 1 * z) h) in
+    let m : (g 0 + (q - 1) * g 1) * z + sign p * dot (slope q (λ t. g (suc t))) xs
+    ≡ sign p * ((g 0 + (q - 1) * g 1) * x + dot (slope q (λ t. g (suc t))) xs) = omega arith in
+    of-eq l then add (scale (g 0) (sign-difference p h a x)) (same d) then symm (multiple q (g 0 * z + d) (g 1 * z)) then of-eq k
+    then add (same ((g 0 + (q - 1) * g 1) * z)) (dot-differences p h (λ t. g (suc t)) x xs e) then of-eq m
 
 -- f below n, and 0 from there on
 abbrev pub cut : ℕ → (ℕ → ℕ) → ℕ → ℕ
@@ -137,7 +176,11 @@ length-differences p (x ∷ y ∷ w) h = ap suc (length-differences p (y ∷ w) 
 pub differences-below : (p : Parameters) → 1 ≤ p .q → (w : List ℕ) → Below (p .q) (differences p w)
 differences-below p h [] i = h
 differences-below p h (x ∷ []) i = h
-differences-below p h (x ∷ y ∷ w) zero = minus-below (p .q) y x h
+differences-below p h (x ∷ y ∷ w) zero = go (p .edition)
+  where
+    go : (e : Edition) → neighbourDifference (inEdition e p) x y < p .q
+    go edition13 = minus-below (p .q) y x h
+    go edition18 = minus-below (p .q) x y h
 differences-below p h (x ∷ y ∷ w) (suc i) = differences-below p h (y ∷ w) i
 
 pub length-alternate : (n : ℕ) (b : Bool) (z : List ℕ) → length z ≡ double n → length (alternate b z) ≡ n
@@ -160,7 +203,7 @@ last-weight n true f = spread-take (cut n f) n ∙ cut-past n f n (le-refl n)
 last-weight n false f = spread-skip (cut n f) n
 
 pub dot-differenced : (p : Parameters) → 1 ≤ p .q → (b : Bool) (f : ℕ → ℕ) (w : List ℕ) → length w ≡ suc (double (p .n))
-    → Congruent (p .q) (dot f (differenced p b w)) (dot (checkWeight p b f) w)
+    → Congruent (p .q) (dot f (differenced p b w)) (sign p * dot (checkWeight p b f) w)
 dot-differenced p h b f [] e = absurd (suc-ne-zero (double (p .n)) (sym e))
 dot-differenced p h b f (x ∷ w) e =
     let c : List ℕ = differenced p b (x ∷ w) in
@@ -169,6 +212,10 @@ dot-differenced p h b f (x ∷ w) e =
     let within : (i : ℕ) → i < length c → i < p .n = λ i l. subst (λ (k : ℕ). i < k) (length-differenced p b (x ∷ w) e) l in
     let k : dot f c ≡ d =
     dot-same f (cut (p .n) f) c (λ i l. sym (cut-below (p .n) f i (within i l))) ∙ dot-alternate b (cut (p .n) f) (differences p (x ∷ w)) in
-    let l : d + g 0 * x * p .q ≡ (0 + (p .q - 1) * g 0) * x + (d + g 0 * x) = omega (arith, times-pred (p .q) (g 0 * x) h) in
+    let y : ℕ = sign p * x in
+    let l : d + g 0 * y * p .q ≡ (0 + (p .q - 1) * g 0) * y + (d + g 0 * y) = omega (arith, times-pred (p .q) (g 0 * y) h) in
     let z : g (length w) ≡ 0 = ap g (suc-inj e) ∙ last-weight (p .n) b f in
-    of-eq k then symm (multiple (p .q) d (g 0 * x)) then of-eq l then add (same ((0 + (p .q - 1) * g 0) * x)) (dot-differences p h g x w z)
+    let m : (0 + (p .q - 1) * g 0) * y + sign p * dot (slope (p .q) g) w ≡ sign p * ((0 + (p .q - 1) * g 0) * x + dot (slope (p .q) g) w) =
+    omega arith in
+    of-eq k then symm (multiple (p .q) d (g 0 * y)) then of-eq l
+    then add (same ((0 + (p .q - 1) * g 0) * y)) (dot-differences p h g x w z) then of-eq m

@@ -1,14 +1,14 @@
--- Balancing (01: How a word is made, 3 to 5).
+-- Balancing (01: How a word is made, 3 to 5; in the edition of 2018 by 02, T-03).
 -- Assumes nothing.
 use mathlib.Core.Bool.{Bool}
-use mathlib.Core.List.{List, [], _∷_}
-use Prim.Native.Nat.{ℕ, zero, suc, _+_, _%_}
+use mathlib.Core.List.{List, [], _∷_, _++_}
+use Prim.Native.Nat.{ℕ, zero, suc, _+_, _-_, _%_}
 use lib.Dec.{eqb}
 use lib.ListN.{length, getD, set}
 use Rattle.modular_theory.specs.Search.{least, anyBelow}
 use Rattle.modular_theory.specs.Sum.{weight}
 use Rattle.modular_theory.specs.Residue.{minus}
-use Rattle.code_theory.specs.Parameters.{Parameters, balancingValue}
+use Rattle.code_theory.specs.Parameters.{edition13, edition18, Parameters, balancingValue}
 
 -- two words symbol by symbol: x1, y1, x2, y2, ..
 abbrev pub interleave : List ℕ → List ℕ → List ℕ
@@ -25,6 +25,16 @@ abbrev pub integrate : ℕ → ℕ → List ℕ → List ℕ
 integrate q a [] = []
 integrate q a (x ∷ xs) = (a + x) % q ∷ integrate q ((a + x) % q) xs
 
+-- x added mod q to the sum of all that follows, which is the first symbol of w
+abbrev pub addBefore : ℕ → ℕ → List ℕ → List ℕ
+addBefore q x [] = x % q ∷ []
+addBefore q x (a ∷ w) = (a + x) % q ∷ a ∷ w
+
+-- 02: "integration runs from the end: wm = xm and wi = w(i+1) + xi mod q"
+abbrev pub integrateFromEnd : ℕ → List ℕ → List ℕ
+integrateFromEnd q [] = []
+integrateFromEnd q (x ∷ xs) = addBefore q x (integrateFromEnd q xs)
+
 -- s added mod q to every symbol, as a choice's s is to the integrated word's
 abbrev pub shifted : ℕ → ℕ → List ℕ → List ℕ
 shifted q s [] = []
@@ -36,13 +46,13 @@ shiftedFrom q s zero d = shifted q (suc s) d
 shiftedFrom q s (suc i) [] = []
 shiftedFrom q s (suc i) (a ∷ d) = (a + s) % q ∷ shiftedFrom q s i d
 
--- 01: x of the interleaved halves: the zero that is added to them stands first
+-- 01: x of the interleaved halves: the zero that is added to them stands first; 02: in edition 18 last
 abbrev pub withZero : Parameters → List ℕ → List ℕ
-withZero p x = 0 ∷ x
+withZero p x = elim (p .edition) [ edition13 ↦ 0 ∷ x | edition18 ↦ x ++ (0 ∷ []) ]
 
 -- the index in x of that zero, where a choice's s is added
 abbrev pub zeroIndex : Parameters → List ℕ → ℕ
-zeroIndex p x = 0
+zeroIndex p x = elim (p .edition) [ edition13 ↦ 0 | edition18 ↦ length x - 1 ]
 
 -- 1 added mod q to xv; v is a position, so 0 names no symbol
 abbrev pub addOne : Parameters → List ℕ → ℕ → List ℕ
@@ -51,23 +61,23 @@ addOne p x (suc i) = addAt (p .q) x i 1
 
 -- 01: w of x
 abbrev pub integrated : Parameters → List ℕ → List ℕ
-integrated p x = integrate (p .q) 0 x
+integrated p x = elim (p .edition) [ edition13 ↦ integrate (p .q) 0 x | edition18 ↦ integrateFromEnd (p .q) x ]
 
--- what differencing gives for two neighbours x and y of w
+-- what differencing gives for two neighbours x and y of w: the later less the earlier; in edition 18 the earlier less the later
 abbrev pub neighbourDifference : Parameters → ℕ → ℕ → ℕ
-neighbourDifference p x y = minus (p .q) y x
+neighbourDifference p x y = elim (p .edition) [ edition13 ↦ minus (p .q) y x | edition18 ↦ minus (p .q) x y ]
 
--- 01: differencing w mod q (dropping the first, where the zero was added): a symbol for each two neighbours
+-- 01: differencing w mod q (dropping the first; 02: in edition 18 the last, where the zero was added): a symbol for each two neighbours
 abbrev pub differences : Parameters → List ℕ → List ℕ
 differences p [] = []
 differences p (x ∷ []) = []
 differences p (x ∷ y ∷ w) = neighbourDifference p x y ∷ differences p (y ∷ w)
 
--- the v that is tried after i others: they rise from 1
+-- the v that is tried after i others: they rise from 1; 02: in edition 18 from 0
 abbrev pub choice : Parameters → ℕ → ℕ
-choice p i = suc i
+choice p i = elim (p .edition) [ edition13 ↦ suc i | edition18 ↦ i ]
 
--- 01: w of the choice s, v: s added to x1 and 1 to xv, and integrated
+-- 01: w of the choice s, v: s added to x1 (02: in edition 18 to xm) and 1 to xv, and integrated
 unfoldable pub chosen : Parameters → List ℕ → ℕ → ℕ → List ℕ
 chosen p x s v = integrated p (addOne p (addAt (p .q) x (zeroIndex p x) s) v)
 

@@ -1,5 +1,5 @@
--- The starred cases of document 01 ("Checked by hand"), words with erased symbols (02, T-01), and how many positions are tried (02, T-08):
--- a row each.
+-- The starred cases of document 01 ("Checked by hand"), words with erased symbols (02, T-01), how many positions are tried (02, T-08), and
+-- words of edition 18 (02, T-03): a row each.
 -- Assumes nothing.
 use mathlib.Core.Path.{_≡_}
 use mathlib.Core.List.{List, [], _∷_, _++_}
@@ -7,13 +7,13 @@ use Prim.Native.Nat.{ℕ}
 use lib.ListN.{replicate, set}
 use lib.IntN.{pos, negsuc}
 use Rattle.modular_theory.specs.Sum.{weight}
-use Rattle.code_theory.specs.Parameters.{Parameters, messageLength}
+use Rattle.code_theory.specs.Parameters.{editionOf, Parameters, inEdition, messageLength}
 use Rattle.code_theory.specs.Component.{component}
 use Rattle.code_theory.specs.Balance.{earliestS, earliestV, balanced}
 use Rattle.code_theory.specs.Codeword.{interleaved, encoded}
 use Rattle.code_theory.specs.Reading.{Change, change, corrected, filled, Reading, read, unreadable, receivedReading}
 use Rattle.code_theory.specs.TriedPositions.{triedPositions}
-use Rattle.code_theory.specs.Profiles.{row, profile}
+use Rattle.code_theory.specs.Profiles.{row, profileIn}
 use Rattle.code_theory.specs.Operations.{decodeAnswer, report, reportNumber}
 
 pub data Case : Type 0 where
@@ -32,26 +32,29 @@ pub data Case : Type 0 where
   -- profile, received word; how many positions are tried
   counting : ℕ → List ℕ → ℕ → Case
 
--- parameters of q levels, for a case that gives no r and no n: to balancing they do not matter
-abbrev pub levelsOnly : ℕ → Parameters
-levelsOnly q = row q 0 0
+-- parameters of q levels in edition e, for a case that gives no r and no n: to balancing they do not matter
+abbrev pub levelsOnly : ℕ → ℕ → Parameters
+levelsOnly e q = inEdition (editionOf e) (row q 0 0)
 
-abbrev pub Holds : Case → Type 0
-Holds (balancing q x s v w sum) =
-    (earliestS (levelsOnly q) x ≡ s) × (earliestV (levelsOnly q) x ≡ v) × (balanced (levelsOnly q) x ≡ w) × (weight w ≡ sum)
-Holds (encoding i a b u) = encoded (profile i) a b ≡ u
-Holds (choosing i a b s v u) =
-    (earliestS (profile i) (interleaved (profile i) a b) ≡ s)
-    × (earliestV (profile i) (interleaved (profile i) a b) ≡ v)
-    × (encoded (profile i) a b ≡ u)
-Holds (checking i a c) = component (profile i) a ≡ c
-Holds (decoding i u d) = receivedReading (profile i) u ≡ d
-Holds (refusing i u n) = reportNumber (report (decodeAnswer i u (messageLength (profile i)) (messageLength (profile i)))) ≡ n
-Holds (counting i u n) = triedPositions (profile i) u ≡ n
+-- the case in edition e
+abbrev pub Holds : ℕ → Case → Type 0
+Holds e (balancing q x s v w sum) =
+    (earliestS (levelsOnly e q) x ≡ s) × (earliestV (levelsOnly e q) x ≡ v) × (balanced (levelsOnly e q) x ≡ w) × (weight w ≡ sum)
+Holds e (encoding i a b u) = encoded (profileIn e i) a b ≡ u
+Holds e (choosing i a b s v u) =
+    (earliestS (profileIn e i) (interleaved (profileIn e i) a b) ≡ s)
+    × (earliestV (profileIn e i) (interleaved (profileIn e i) a b) ≡ v)
+    × (encoded (profileIn e i) a b ≡ u)
+Holds e (checking i a c) = component (profileIn e i) a ≡ c
+Holds e (decoding i u d) = receivedReading (profileIn e i) u ≡ d
+Holds e (refusing i u n) =
+    let k : ℕ = messageLength (profileIn e i) in
+    reportNumber (report (decodeAnswer e i u k k)) ≡ n
+Holds e (counting i u n) = triedPositions (profileIn e i) u ≡ n
 
-abbrev pub AllHold : List Case → Type 0
-AllHold [] = Unit {0}
-AllHold (c ∷ cs) = Holds c × AllHold cs
+abbrev pub AllHold : ℕ → List Case → Type 0
+AllHold e [] = Unit {0}
+AllHold e (c ∷ cs) = Holds e c × AllHold e cs
 
 abbrev pub zeros : ℕ → List ℕ
 zeros k = replicate k 0
@@ -129,3 +132,29 @@ counted =
     ∷ counting 3 (2 ∷ 2 ∷ 4 ∷ replicate 46 2 ++ (1 ∷ 3 ∷ [])) 2
     ∷ counting 4 (3 ∷ 3 ∷ 6 ∷ replicate 94 3 ++ (2 ∷ 4 ∷ [])) 2
     ∷ []
+
+-- edition 18's word of profile 1 for the pair of `shown`
+abbrev pub shown18 : List ℕ
+shown18 = 1 ∷ 0 ∷ 2 ∷ 2 ∷ 2 ∷ replicate 10 1 ++ (0 ∷ 0 ∷ 1 ∷ 1 ∷ [])
+
+-- balancing and words of edition 18, worked from 02's text
+abbrev pub in18 : List Case
+in18 =
+    -- x of 002's example 1, one that balances as it stands, where nothing is added, and one where both s and v are above 0
+    balancing 5 (4 ∷ 2 ∷ 1 ∷ 0 ∷ 0 ∷ 0 ∷ []) 1 0 (3 ∷ 4 ∷ 2 ∷ 1 ∷ 1 ∷ 1 ∷ []) 12
+    ∷ balancing 5 (0 ∷ 0 ∷ 0 ∷ 0 ∷ 0 ∷ 2 ∷ []) 0 0 (replicate 6 2) 12
+    ∷ balancing 5 (0 ∷ 0 ∷ 0 ∷ 1 ∷ 0 ∷ 0 ∷ []) 1 2 (3 ∷ 3 ∷ 2 ∷ 2 ∷ 1 ∷ 1 ∷ []) 12
+    ∷ choosing 1 (0 ∷ 0 ∷ 0 ∷ 0 ∷ 1 ∷ []) (zeros 5) 0 2 shown18
+    ∷ choosing 1 (zeros 5) (zeros 5) 1 0 (replicate 17 1 ++ (0 ∷ 2 ∷ []))
+    ∷ choosing 3 (zeros 20 ++ (1 ∷ [])) (1 ∷ zeros 20) 0 48
+    (1 ∷ 1 ∷ 0 ∷ 2 ∷ 4 ∷ 4 ∷ 3 ∷ 3 ∷ 3 ∷ replicate 38 2 ++ (1 ∷ 0 ∷ 0 ∷ 4 ∷ []))
+    -- corrected in w, and filled
+    ∷ decoding 1 (set shown18 5 2)
+    (read (corrected (record { position = 6; symbol = 1; error = pos 1 })) (0 ∷ 0 ∷ 0 ∷ 0 ∷ 1 ∷ []) (zeros 5))
+    ∷ decoding 1 (erase (erase shown18 0) 2) (shownFilled (change 1 1 ∷ change 3 2 ∷ []))
+    ∷ counting 1 (set shown18 5 2) 3
+    ∷ []
+
+-- 02: 12 comes before 1, 2 and 3
+abbrev pub noEdition : List Case
+noEdition = refusing 1 shown 12 ∷ refusing 5 [] 12 ∷ refusing 1 [] 12 ∷ refusing 1 (set shown 3 3) 12 ∷ []

@@ -10,7 +10,8 @@ use lib.ListN.{length, getD, set}
 use lib.IntN.{pos, natAbs, _-ℤ_}
 use Rattle.modular_theory.specs.Sum.{weight}
 use Rattle.modular_theory.specs.Residue.{Invertible, Prime, minus}
-use Rattle.code_theory.specs.Parameters.{Parameters, Sized, messageLength, balancedLength, codewordLength, balancingValue, delta}
+use Rattle.code_theory.specs.Parameters.{edition13, edition18, isEdition, Parameters, Sized, messageLength, balancedLength}
+use Rattle.code_theory.specs.Parameters.{codewordLength, balancingValue, delta}
 use Rattle.code_theory.specs.Component.{isWord, erasure, isReceived, inCode, message, component}
 use Rattle.code_theory.specs.Balance.{chosen, earliestS, earliestV, balanced}
 use Rattle.code_theory.specs.Codeword.{alternate, withChecks, interleaved, encoded, received, lowered}
@@ -20,8 +21,8 @@ use Rattle.code_theory.specs.Reading.{distance, Correction, Change, chan
 use Rattle.code_theory.specs.Reading.{unreadable, readAs, reading}
 use Rattle.code_theory.specs.Reading.{changesAt, filledReading, receivedReading}
 use Rattle.code_theory.specs.TriedPositions.{triedPositions}
-use Rattle.code_theory.specs.Profiles.{isProfile, profile, table, derivedRow}
-use Rattle.code_theory.specs.Cases.{AllHold, starred, erased, counted}
+use Rattle.code_theory.specs.Profiles.{isProfile, profileIn, table, derivedRow}
+use Rattle.code_theory.specs.Cases.{AllHold, starred, erased, counted, in18, noEdition}
 
 -- Why a balance can always be found.
 
@@ -29,9 +30,9 @@ use Rattle.code_theory.specs.Cases.{AllHold, starred, erased, counted}
 abbrev pub Before : ℕ → ℕ → ℕ → ℕ → Type 0
 Before s v s′ v′ = (s < s′) ⊎ ((s ≡ s′) × (v < v′))
 
--- v is one of those that are tried for m symbols: from 1 to m
+-- v is one of those that are tried for m symbols: from 1 to m; 02: in edition 18 from 0 to m - 1
 abbrev pub Tried : Parameters → ℕ → ℕ → Type 0
-Tried p m v = (1 ≤ v) × (v ≤ m)
+Tried p m v = elim (p .edition) as (λ _. Type 0) [ edition13 ↦ (1 ≤ v) × (v ≤ m) | edition18 ↦ v < m ]
 
 -- the earliest choice is one of the choices, it balances x, and no choice before it does
 pub record Balanced (p : Parameters) (x : List ℕ) : Type 0 where
@@ -254,31 +255,46 @@ pub record CountTold (p : Parameters) (v : List ℕ) : Type 0 where
 abbrev pub CountsTold : Type 0
 CountsTold = (p : Parameters) (v : List ℕ) → CountTold p v
 
--- 02: "It never passes 9, 27, 25 and 49 for profiles 1 to 4"
+-- 02: "It never passes 9, 27, 25 and 49 for profiles 1 to 4", in any edition
 abbrev pub MostTried : Type 0
 MostTried =
-    (v : List ℕ)
-    → (triedPositions (profile 1) v ≤ 9)
-    × (triedPositions (profile 2) v ≤ 27)
-    × (triedPositions (profile 3) v ≤ 25)
-    × (triedPositions (profile 4) v ≤ 49)
+    (e : ℕ) (v : List ℕ)
+    → (triedPositions (profileIn e 1) v ≤ 9)
+    × (triedPositions (profileIn e 2) v ≤ 27)
+    × (triedPositions (profileIn e 3) v ≤ 25)
+    × (triedPositions (profileIn e 4) v ≤ 49)
 
--- The four profiles are sized and prime, and their columns are those of 01's table.
+-- 02, T-03: "the edition, 13 or 18", and no other number; every profile has the edition that is named
+abbrev pub EditionNumbers : Type 0
+EditionNumbers =
+    ((k : ℕ) → T (isEdition k) ↔ ((k ≡ 13) ⊎ (k ≡ 18)))
+    × ((i : ℕ) → profileIn 13 i .edition ≡ edition13)
+    × ((i : ℕ) → profileIn 18 i .edition ≡ edition18)
+
+-- The four profiles are sized and prime in any edition, and their columns are those of 01's table.
 abbrev pub ProfilesFit : Type 0
 ProfilesFit =
-    ((i : ℕ) → T (isProfile i) → Sized (profile i) × Prime (profile i .q)) × (map derivedRow (1 ∷ 2 ∷ 3 ∷ 4 ∷ []) ≡ table)
+    ((e i : ℕ) → T (isProfile i) → Sized (profileIn e i) × Prime (profileIn e i .q)) × (map derivedRow (1 ∷ 2 ∷ 3 ∷ 4 ∷ []) ≡ table)
 
 -- Document 01's starred cases.
 abbrev pub StarredHold : Type 0
-StarredHold = AllHold starred
+StarredHold = AllHold 13 starred
 
 -- Words with erasures.
 abbrev pub ErasedHold : Type 0
-ErasedHold = AllHold erased
+ErasedHold = AllHold 13 erased
 
 -- How many positions are tried.
 abbrev pub CountedHold : Type 0
-CountedHold = AllHold counted
+CountedHold = AllHold 13 counted
+
+-- Words of edition 18.
+abbrev pub In18Hold : Type 0
+In18Hold = AllHold 18 in18
+
+-- Numbers that are no edition's.
+abbrev pub NoEditionHolds : Type 0
+NoEditionHolds = AllHold 12 noEdition × AllHold 0 noEdition
 
 pub record Claims : Type 0 where
   pub balance-exists : BalanceExists
@@ -303,7 +319,10 @@ pub record Claims : Type 0 where
   pub erased-by-filling : ErasedByFilling
   pub counts-told : CountsTold
   pub most-tried : MostTried
+  pub edition-numbers : EditionNumbers
   pub profiles-fit : ProfilesFit
   pub starred-hold : StarredHold
   pub erased-hold : ErasedHold
   pub counted-hold : CountedHold
+  pub in-18-hold : In18Hold
+  pub no-edition-holds : NoEditionHolds

@@ -2,6 +2,7 @@ pub mod Parameters
 pub mod Refusal
 pub mod Component
 pub mod Balance
+pub mod Walk
 pub mod Codeword
 pub mod Erasures
 pub mod Reading

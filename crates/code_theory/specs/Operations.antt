@@ -2,35 +2,39 @@
 -- reading.
 -- Assumes nothing.
 use mathlib.Core.Bool.{Bool, true, false, _&&_}
-use mathlib.Core.List.{List, [], _∷_}
+use mathlib.Core.List.{List, [], _∷_, _++_}
 use Prim.Native.Nat.{ℕ, zero, suc}
 use lib.Dec.{eqb, leb}
 use lib.ListN.{length}
 use Rattle.code_theory.specs.Refusal.{Test, asks, firstRefusal, onSuccess}
-use Rattle.code_theory.specs.Parameters.{Parameters, messageLength, codewordLength}
+use Rattle.code_theory.specs.Parameters.{isEdition, Parameters, messageLength, codewordLength}
 use Rattle.code_theory.specs.Component.{symbolsBelow, isReceived}
 use Rattle.code_theory.specs.Codeword.{encoded}
 use Rattle.code_theory.specs.Erasures.{erasures, mostErasures}
 use Rattle.code_theory.specs.Reading.{Finding, Reading, read, unreadable, receivedReading}
 use Rattle.code_theory.specs.TriedPositions.{triedPositions}
-use Rattle.code_theory.specs.Profiles.{isProfile, profile}
+use Rattle.code_theory.specs.Profiles.{isProfile, profileIn}
 
--- 01: Write, what is tested, in this order: profile i, messages a and b, an output of l symbols
-abbrev pub encodeTests : ℕ → List ℕ → List ℕ → ℕ → List Test
-encodeTests i a b l =
-    let p : Parameters = profile i in
-    asks (isProfile i) 1
-    ∷ asks (eqb (length a) (messageLength p) && eqb (length b) (messageLength p) && eqb l (codewordLength p)) 2
+-- what is tested first, in this order: edition e (02, T-03: "before 1"), profile i
+abbrev pub callTests : ℕ → ℕ → List Test
+callTests e i = asks (isEdition e) 12 ∷ asks (isProfile i) 1 ∷ []
+
+-- 01: Write, what is tested, in this order: edition and profile, messages a and b, an output of l symbols
+abbrev pub encodeTests : ℕ → ℕ → List ℕ → List ℕ → ℕ → List Test
+encodeTests e i a b l =
+    let p : Parameters = profileIn e i in
+    callTests e i
+    ++ (asks (eqb (length a) (messageLength p) && eqb (length b) (messageLength p) && eqb l (codewordLength p)) 2
     ∷ asks (symbolsBelow (p .q) a && symbolsBelow (p .q) b) 3
-    ∷ []
+    ∷ [])
 
 -- the number of the refusal, or 0
-unfoldable pub encodeRefusal : ℕ → List ℕ → List ℕ → ℕ → ℕ
-encodeRefusal i a b l = firstRefusal (encodeTests i a b l)
+unfoldable pub encodeRefusal : ℕ → ℕ → List ℕ → List ℕ → ℕ → ℕ
+encodeRefusal e i a b l = firstRefusal (encodeTests e i a b l)
 
 -- the output afterwards: the encoded word, or what it held where the call is refused
-unfoldable pub encodeOutput : ℕ → List ℕ → List ℕ → List ℕ → List ℕ
-encodeOutput i a b out = onSuccess (encodeRefusal i a b (length out)) (encoded (profile i) a b) out
+unfoldable pub encodeOutput : ℕ → ℕ → List ℕ → List ℕ → List ℕ → List ℕ
+encodeOutput e i a b out = onSuccess (encodeRefusal e i a b (length out)) (encoded (profileIn e i) a b) out
 
 -- what a call answers beside its output: it is done, or refused by a number
 pub data Outcome : Type 0 where
@@ -47,31 +51,33 @@ abbrev pub outcomeNumber : Outcome → ℕ
 outcomeNumber done = 0
 outcomeNumber (refusedBy k) = k
 
--- 01: Read, refused by one of the numbers 1 to 3 and 02's 11, or a reading and how many positions were tried (02, T-08)
+-- 01: Read, refused by one of the numbers 1 to 3 and 02's 11 and 12, or a reading and how many positions were tried (02, T-08)
 pub data Answer : Type 0 where
   refused : ℕ → Answer
   answered : Reading → ℕ → Answer
 
--- what is tested, in this order: profile i, received word u, outputs of k and l symbols
-abbrev pub decodeTests : ℕ → List ℕ → ℕ → ℕ → List Test
-decodeTests i u k l =
-    let p : Parameters = profile i in
-    asks (isProfile i) 1
-    ∷ asks (eqb (length u) (codewordLength p) && eqb k (messageLength p) && eqb l (messageLength p)) 2
+-- what is tested, in this order: edition and profile, received word u, outputs of k and l symbols
+abbrev pub decodeTests : ℕ → ℕ → List ℕ → ℕ → ℕ → List Test
+decodeTests e i u k l =
+    let p : Parameters = profileIn e i in
+    callTests e i
+    ++ (asks (eqb (length u) (codewordLength p) && eqb k (messageLength p) && eqb l (messageLength p)) 2
     ∷ asks (isReceived p u) 3
     ∷ asks (leb (erasures u) (mostErasures p)) 11
-    ∷ []
+    ∷ [])
 
 -- a reading and a count, unless a number refuses
 abbrev pub readUnless : ℕ → Reading → ℕ → Answer
 readUnless zero d t = answered d t
 readUnless (suc n) d t = refused (suc n)
 
-unfoldable pub decodeAnswer : ℕ → List ℕ → ℕ → ℕ → Answer
-decodeAnswer i u k l = readUnless (firstRefusal (decodeTests i u k l)) (receivedReading (profile i) u) (triedPositions (profile i) u)
+unfoldable pub decodeAnswer : ℕ → ℕ → List ℕ → ℕ → ℕ → Answer
+decodeAnswer e i u k l =
+    let p : Parameters = profileIn e i in
+    readUnless (firstRefusal (decodeTests e i u k l)) (receivedReading p u) (triedPositions p u)
 
--- what is answered beside the outputs: the number of a refusal by 1 to 3 or 11; or that no codeword was found, or what was, and how many
--- positions were tried
+-- what is answered beside the outputs: the number of a refusal by 1 to 3, 11 or 12; or that no codeword was found, or what was, and how
+-- many positions were tried
 pub data Report : Type 0 where
   refusal : ℕ → Report
   failure : ℕ → Report

@@ -1,9 +1,23 @@
 -- The parameters of the code, and the numbers that follow from them.
 -- Assumes nothing.
 use mathlib.Core.Path.{_≡_}
+use mathlib.Core.Bool.{Bool, true, false, _||_}
 use Prim.Native.Nat.{ℕ, _+_, _-_, _*_, _/_, _%_, _^_, _≤_, _<_}
+use lib.Dec.{eqb}
 use lib.IntN.{pos, _-ℤ_, _*ℤ_}
 use Rattle.modular_theory.specs.Residue.{remainder}
+
+-- 02, T-03: the edition that a box follows, of 2013 (01) or of 2018
+pub data Edition : Type 0 where
+  edition13 edition18 : Edition
+
+-- the number is an edition's
+abbrev pub isEdition : ℕ → Bool
+isEdition k = eqb k 13 || eqb k 18
+
+-- the edition of that number; 13 also where the number is none's
+abbrev pub editionOf : ℕ → Edition
+editionOf k = elim (eqb k 18) [ true ↦ edition18 | false ↦ edition13 ]
 
 pub record Parameters : Type 0 where
   -- the number of levels
@@ -12,6 +26,11 @@ pub record Parameters : Type 0 where
   pub r : ℕ
   -- the length of a component
   pub n : ℕ
+  pub edition : Edition
+
+-- the same numbers in an edition
+abbrev pub inEdition : Edition → Parameters → Parameters
+inEdition e p = record { q = p .q; r = p .r; n = p .n; edition = e }
 
 -- 01: k, the length of a message (01: user word)
 abbrev pub messageLength : Parameters → ℕ

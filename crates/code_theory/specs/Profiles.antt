@@ -5,11 +5,12 @@ use mathlib.Core.List.{List, [], _∷_}
 use Prim.Native.Nat.{ℕ}
 use lib.Dec.{leb}
 use lib.ListN.{length, getD}
-use Rattle.code_theory.specs.Parameters.{Parameters, messageLength, balancedLength, codewordLength, balancingValue, delta}
+use Rattle.code_theory.specs.Parameters.{edition13, editionOf, Parameters, inEdition, messageLength, balancedLength, codewordLength}
+use Rattle.code_theory.specs.Parameters.{balancingValue, delta}
 
--- q, r, n of a row
+-- q, r, n of a row; 01 has one edition
 abbrev pub row : ℕ → ℕ → ℕ → Parameters
-row q r n = record { q = q; r = r; n = n }
+row q r n = record { q = q; r = r; n = n; edition = edition13 }
 
 abbrev pub profiles : List Parameters
 profiles = row 3 3 8 ∷ row 3 4 26 ∷ row 5 3 24 ∷ row 7 3 48 ∷ []
@@ -18,9 +19,13 @@ profiles = row 3 3 8 ∷ row 3 4 26 ∷ row 5 3 24 ∷ row 7 3 48 ∷ []
 abbrev pub isProfile : ℕ → Bool
 isProfile i = leb 1 i && leb i (length profiles)
 
--- the parameters of profile i; zeros where the number is no profile's, as 0 is
+-- the parameters of profile i, in edition 13; zeros where the number is no profile's, as 0 is
 unfoldable pub profile : ℕ → Parameters
-profile i = getD (row 0 0 0 ∷ profiles) i (row 0 0 0)
+profile i = inEdition edition13 (getD (row 0 0 0 ∷ profiles) i (row 0 0 0))
+
+-- the same in the edition of number k
+abbrev pub profileIn : ℕ → ℕ → Parameters
+profileIn k i = inEdition (editionOf k) (profile i)
 
 -- 01's table, whole: profile, q, r, n, k, m, N, middle, δ
 abbrev pub table : List (List ℕ)

@@ -1,8 +1,8 @@
 // Runs encode and decode on stored cases (tests/README.md: pairs, words). Pairs come on standard input, a line
-// `profile first second length` each, and the answer is the word. Words are in the file `words`, a line
-// `profile word first_length second_length` each, and the answer is `C 0 0 0 first second 0`, `M place symbol error first second tried`,
-// or `F place symbol 0 first second 0` with a place and a symbol for each mark. In a word and in a message `?` is a mark. A refusal is
-// `R number`, and `R 4 tried` for an unreadable word (02, T-08: how many places were tried).
+// `edition profile first second length` each, and the answer is the word. Words are in the file `words`, a line
+// `edition profile word first_length second_length` each, and the answer is `C 0 0 0 first second 0`,
+// `M place symbol error first second tried`, or `F place symbol 0 first second 0` with a place and a symbol for each mark. In a word and in
+// a message `?` is a mark. A refusal is `R number`, and `R 4 tried` for an unreadable word (02, T-08: how many places were tried).
 mod print;
 mod text;
 
@@ -26,8 +26,8 @@ use text::smaller;
 use text::until;
 
 // Encodes into the output, and prints the word or the refusal.
-fn encode_and_print(profile: usize, first: &[u8], second: &[u8], out: &mut [u8]) {
-    let answer = encoder::encode(profile, first, second, out);
+fn encode_and_print(edition: usize, profile: usize, first: &[u8], second: &[u8], out: &mut [u8]) {
+    let answer = encoder::encode(edition, profile, first, second, out);
     match answer {
         Encoded::Done => print_word(out),
         Encoded::Refused(number) => print_refusal(number, is_untouched(out)),
@@ -75,8 +75,14 @@ fn print_unreadable(tried: usize, first: &[u8], second: &[u8]) {
 }
 
 // Decodes into the outputs, and prints the answer and the messages, or the refusal.
-fn decode_and_print(profile: usize, word: &[u8], first: &mut [u8], second: &mut [u8]) {
-    let answer = decoder::decode(profile, word, first, second);
+fn decode_and_print(
+    edition: usize,
+    profile: usize,
+    word: &[u8],
+    first: &mut [u8],
+    second: &mut [u8],
+) {
+    let answer = decoder::decode(edition, profile, word, first, second);
     match answer {
         Decoded::Clean => {
             io::write_all(STDOUT_FILENO, b"C 0 0 0");
@@ -97,24 +103,32 @@ fn decode_and_print(profile: usize, word: &[u8], first: &mut [u8], second: &mut 
 
 fn answer_pair(line: &[u8]) {
     let mut first = [0u8; 64];
-    let a = smaller(parse_symbols(field(line, 1), &mut first), 64);
+    let a = smaller(parse_symbols(field(line, 2), &mut first), 64);
     let mut second = [0u8; 64];
-    let b = smaller(parse_symbols(field(line, 2), &mut second), 64);
+    let b = smaller(parse_symbols(field(line, 3), &mut second), 64);
     let mut out = [FILL; 128];
-    let n = smaller(parse_number(field(line, 3)), 128);
-    let profile = parse_number(field(line, 0));
-    encode_and_print(profile, &first[..a], &second[..b], &mut out[..n]);
+    let n = smaller(parse_number(field(line, 4)), 128);
+    let edition = parse_number(field(line, 0));
+    let profile = parse_number(field(line, 1));
+    encode_and_print(edition, profile, &first[..a], &second[..b], &mut out[..n]);
 }
 
 fn answer_word(line: &[u8]) {
     let mut word = [0u8; 128];
-    let n = smaller(parse_symbols(field(line, 1), &mut word), 128);
+    let n = smaller(parse_symbols(field(line, 2), &mut word), 128);
     let mut first = [FILL; 64];
-    let k = smaller(parse_number(field(line, 2)), 64);
+    let k = smaller(parse_number(field(line, 3)), 64);
     let mut second = [FILL; 64];
-    let l = smaller(parse_number(field(line, 3)), 64);
-    let profile = parse_number(field(line, 0));
-    decode_and_print(profile, &word[..n], &mut first[..k], &mut second[..l]);
+    let l = smaller(parse_number(field(line, 4)), 64);
+    let edition = parse_number(field(line, 0));
+    let profile = parse_number(field(line, 1));
+    decode_and_print(
+        edition,
+        profile,
+        &word[..n],
+        &mut first[..k],
+        &mut second[..l],
+    );
 }
 
 fn answer(line: &[u8], is_words: bool) {

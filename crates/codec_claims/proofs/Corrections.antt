@@ -13,7 +13,7 @@ use Rattle.code_theory.specs.Erasures.{erasures, firstFilling}
 use Rattle.code_theory.specs.Reading.{Correction, clean, corrected, filled}
 use Rattle.code_theory.specs.Reading.{Reading, read, unreadable, reading, filledReading, receivedReading}
 use Rattle.code_theory.specs.TriedPositions.{triedPositions}
-use Rattle.code_theory.specs.Profiles.{profile}
+use Rattle.code_theory.specs.Profiles.{profileIn}
 use Rattle.code_theory.specs.Refusal.{firstRefusal}
 use Rattle.code_theory.specs.Operations.{Report, refusal, failure, success, answered, report, readUnless, decodeTests, decodeAnswer}
 use Rattle.code_theory.specs.Claims.{ErrorTold}
@@ -62,26 +62,29 @@ received-told p s v long symbols =
     rw (e, receivedReading) (reading-told p s v word none))
     (λ e. rw (e, receivedReading) (filled-told p v (triedPositions p v)))
 
-decode-told : (i : ℕ) (v : List ℕ) (k l : ℕ) → Told (profile i) v (report (decodeAnswer i v k l))
+decode-told : (o i : ℕ) (v : List ℕ) (k l : ℕ) → Told (profileIn o i) v (report (decodeAnswer o i v k l))
 unfolding decodeAnswer
-decode-told i v k l = go (firstRefusal (decodeTests i v k l)) refl
+decode-told o i v k l = go (firstRefusal (decodeTests o i v k l)) refl
   where
-    t : ℕ
-    t = triedPositions (profile i) v
+    p : Parameters
+    p = profileIn o i
 
-    go : (n : ℕ) → firstRefusal (decodeTests i v k l) ≡ n → Told (profile i) v (report (readUnless n (receivedReading (profile i) v) t))
+    t : ℕ
+    t = triedPositions p v
+
+    go : (n : ℕ) → firstRefusal (decodeTests o i v k l) ≡ n → Told p v (report (readUnless n (receivedReading p v) t))
     go zero e =
-        let (known, (lengths, (symbols, rest))) = passed-every (decodeTests i v k l) tt e in
-        let (sized, prime) = profiles-fit .0 i known in
-        received-told (profile i) sized v (three-lengths (length v) k l _ _ _ lengths .0) symbols
+        let (edition, (known, (lengths, (symbols, rest)))) = passed-every (decodeTests o i v k l) tt e in
+        let (sized, prime) = profiles-fit .0 o i known in
+        received-told p sized v (three-lengths (length v) k l _ _ _ lengths .0) symbols
     go (suc n) e = tt
 
 -- of whatever decode's contract allows
-pub correction-told : (i : ℕ) (v : List ℕ) (r : Decoded) (first first′ second second′ : List ℕ)
-    → DecodeAllows i v r first first′ second second′ → (c : Correction) (t : ℕ) → decodedReport r ≡ success (corrected c) t
-    → ErrorTold (profile i .q) v c × (t ≡ triedTo (profile i) (c .position))
-correction-told i v r first first′ second second′ h c t e =
-    subst (Told (profile i) v) (sym (h .answer) ∙ e) (decode-told i v (length first) (length second))
+pub correction-told : (o i : ℕ) (v : List ℕ) (r : Decoded) (first first′ second second′ : List ℕ)
+    → DecodeAllows o i v r first first′ second second′ → (c : Correction) (t : ℕ) → decodedReport r ≡ success (corrected c) t
+    → ErrorTold (profileIn o i .q) v c × (t ≡ triedTo (profileIn o i) (c .position))
+correction-told o i v r first first′ second second′ h c t e =
+    subst (Told (profileIn o i) v) (sym (h .answer) ∙ e) (decode-told o i v (length first) (length second))
 
 pub decode-errors : DecodeErrors
-decode-errors i v r first first′ second second′ h c t e = correction-told i v r first first′ second second′ h c t e .0
+decode-errors o i v r first first′ second second′ h c t e = correction-told o i v r first first′ second second′ h c t e .0

@@ -6,10 +6,11 @@ use Prim.Native.Nat.{ℕ, zero, suc, _+_, _≤_, zero-le}
 use native.Mathlib.Nat.{le-refl, le-trans}
 use lib.Dec.{le→leb}
 use lib.ListN.{length}
+use Rattle.code_theory.specs.Parameters.{Parameters}
 use Rattle.code_theory.specs.Erasures.{erasures}
 use Rattle.code_theory.specs.Reading.{Reading, read, unreadable, receivedReading}
 use Rattle.code_theory.specs.TriedPositions.{triedPositions}
-use Rattle.code_theory.specs.Profiles.{profile}
+use Rattle.code_theory.specs.Profiles.{profileIn}
 use Rattle.code_theory.specs.Refusal.{firstRefusal}
 use Rattle.code_theory.specs.Operations.{answered, readUnless, decodeTests, decodeAnswer}
 use Rattle.code_theory.specs.Operations.{report, reportTried}
@@ -28,24 +29,25 @@ unless-tried : (n : ℕ) (d : Reading) (t : ℕ) → reportTried (report (readUn
 unless-tried zero d t = rw (read-tried d t) (le-refl t)
 unless-tried (suc n) d t = zero-le
 
-module _ (i : ℕ) (v : List ℕ) (k l : ℕ) where
-  read-counts : LetThrough i v k l → erasures v ≤ 2 → reportTried (report (decodeAnswer i v k l)) ≡ triedPositions (profile i) v
+module _ (o i : ℕ) (v : List ℕ) (k l : ℕ) where
+  read-counts : LetThrough o i v k l → erasures v ≤ 2 → reportTried (report (decodeAnswer o i v k l)) ≡ triedPositions (profileIn o i) v
   unfolding decodeAnswer
   read-counts passed few =
-      let (known, (long, (symbols, _))) = let-three i v k l passed in
-      let none : firstRefusal (decodeTests i v k l) ≡ 0 =
-      past (decodeTests i v k l) [] (known, (long, (symbols, (le→leb (erasures v) 2 few, tt)))) in
-      rw none (read-tried (receivedReading (profile i) v) (triedPositions (profile i) v))
+      let (edition, (known, (long, (symbols, _)))) = let-three o i v k l passed in
+      let none : firstRefusal (decodeTests o i v k l) ≡ 0 =
+      past (decodeTests o i v k l) [] (edition, (known, (long, (symbols, (le→leb (erasures v) 2 few, tt))))) in
+      rw none (read-tried (receivedReading (profileIn o i) v) (triedPositions (profileIn o i) v))
 
-  most-counts : reportTried (report (decodeAnswer i v k l)) ≤ profile i .n + 1
+  most-counts : reportTried (report (decodeAnswer o i v k l)) ≤ profileIn o i .n + 1
   unfolding decodeAnswer
   most-counts =
-      le-trans (unless-tried (firstRefusal (decodeTests i v k l)) _ (triedPositions (profile i) v)) (counts-told (profile i) v .most)
+      let p : Parameters = profileIn o i in
+      le-trans (unless-tried (firstRefusal (decodeTests o i v k l)) _ (triedPositions p v)) (counts-told p v .most)
 
 pub decode-counts : DecodeCounts
-decode-counts i v r first first′ second second′ h =
+decode-counts o i v r first first′ second second′ h =
     record {
-      let-through = λ passed few. ap reportTried (h .answer) ∙ read-counts i v (length first) (length second) passed few;
-      to-corrected = λ c t e. correction-told i v r first first′ second second′ h c t e .1;
-      most = rw (h .answer) (most-counts i v (length first) (length second));
+      let-through = λ passed few. ap reportTried (h .answer) ∙ read-counts o i v (length first) (length second) passed few;
+      to-corrected = λ c t e. correction-told o i v r first first′ second second′ h c t e .1;
+      most = rw (h .answer) (most-counts o i v (length first) (length second));
     }

@@ -8,13 +8,13 @@ use native.Mathlib.Omega.{arith}
 use lib.Dec.{T, eqb}
 use lib.ListN.{length, set, length-set}
 use Rattle.modular_theory.proofs.Search.{and-right}
-use Rattle.code_theory.specs.Parameters.{Sized, codewordLength}
+use Rattle.code_theory.specs.Parameters.{isEdition, Parameters, Sized, codewordLength}
 use Rattle.code_theory.specs.Component.{symbolsBelow, isWord, erasure, isReceived}
 use Rattle.code_theory.specs.Codeword.{codeword}
 use Rattle.code_theory.specs.Erasures.{erasures}
 use Rattle.code_theory.specs.Reading.{Reading, filledReading}
 use Rattle.code_theory.specs.TriedPositions.{triedPositions}
-use Rattle.code_theory.specs.Profiles.{isProfile, profile}
+use Rattle.code_theory.specs.Profiles.{isProfile, profileIn}
 use Rattle.code_theory.specs.Operations.{answered, report, reportNumber}
 use Rattle.code_theory.specs.Claims as Reads
 use Rattle.code_theory.proofs.Merge.{word-length}
@@ -30,55 +30,58 @@ use Rattle.codec_claims.specs.Decoding.{Allowed}
 use Rattle.codec_claims.specs.Filling.{WithErasures, FillsErasures}
 use Rattle.codec_claims.proofs.Decoding.{none-read, admitted, small, answered-by}
 
-module _ (i : ℕ) (t : T (isProfile i)) where
-  sized : Sized (profile i)
-  sized = profiles-fit .0 i t .0
+module _ (o i : ℕ) (edition : T (isEdition o)) (t : T (isProfile i)) where
+  abbrev p : Parameters
+  p = profileIn o i
 
-  law : Reads.Fills (profile i) 2
-  law = erasures-filled (profile i) sized (small i t) 2 (apart (profile i) sized (profiles-fit .0 i t .1))
+  sized : Sized p
+  sized = profiles-fit .0 o i t .0
+
+  law : Reads.Fills p 2
+  law = erasures-filled p sized (small o i edition t) 2 (apart p sized (profiles-fit .0 o i t .1))
 
   -- the contract speaks of the rule's reading
-  filled-by : (v : List ℕ) → WithErasures i v → {r : Decoded} {first second : List ℕ} → (a : Allowed i v r first second)
-      → Answers (answered (filledReading (profile i) v) (triedPositions (profile i) v)) r (a .before-first) first (a .before-second) second
+  filled-by : (v : List ℕ) → WithErasures o i v → {r : Decoded} {first second : List ℕ} → (a : Allowed o i v r first second)
+      → Answers (answered (filledReading p v) (triedPositions p v)) r (a .before-first) first (a .before-second) second
   filled-by v m {r} {first} {second} a =
-      subst (λ (d : Reading). Answers (answered d (triedPositions (profile i) v)) r (a .before-first) first (a .before-second) second)
-      (erased-by-filling (profile i) v (m .some)) (admitted i t v (m .long) (m .symbols) (m .few) a)
+      subst (λ (d : Reading). Answers (answered d (triedPositions p v)) r (a .before-first) first (a .before-second) second)
+      (erased-by-filling p v (m .some)) (admitted o i edition t v (m .long) (m .symbols) (m .few) a)
 
   -- for which no position is tried
-  none-tried : (v : List ℕ) → WithErasures i v → triedPositions (profile i) v ≡ 0
-  none-tried v m = counts-told (profile i) v .if-erased (m .some)
+  none-tried : (v : List ℕ) → WithErasures o i v → triedPositions p v ≡ 0
+  none-tried v m = counts-told p v .if-erased (m .some)
 
   -- codewords with erased symbols
-  module _ (u : List ℕ) (c : T (codeword (profile i) u)) where
-    word : T (isWord (profile i .q) (codewordLength (profile i)) u)
-    word = codeword-word (profile i) sized u c
+  module _ (u : List ℕ) (c : T (codeword p u)) where
+    word : T (isWord (p .q) (codewordLength p) u)
+    word = codeword-word p sized u c
 
-    long : length u ≡ codewordLength (profile i)
-    long = word-length (profile i .q) (codewordLength (profile i)) u word
+    long : length u ≡ codewordLength p
+    long = word-length (p .q) (codewordLength p) u word
 
-    symbols : T (isReceived (profile i) u)
+    symbols : T (isReceived p u)
     symbols =
-        levels-received (profile i .q) u (and-right (eqb (length u) (codewordLength (profile i))) (symbolsBelow (profile i .q) u) word)
+        levels-received (p .q) u (and-right (eqb (length u) (codewordLength p)) (symbolsBelow (p .q) u) word)
 
-    one-erased : (k : ℕ) → erasures (set u k erasure) ≡ 1 → WithErasures i (set u k erasure)
+    one-erased : (k : ℕ) → erasures (set u k erasure) ≡ 1 → WithErasures o i (set u k erasure)
     one-erased k e =
         record {
           long = length-set u k erasure ∙ long;
-          symbols = erased-received (profile i .q) u k symbols;
+          symbols = erased-received (p .q) u k symbols;
           some = omega arith;
           few = omega arith;
         }
 
-    two-erased : (j k : ℕ) → erasures (set (set u j erasure) k erasure) ≡ 2 → WithErasures i (set (set u j erasure) k erasure)
+    two-erased : (j k : ℕ) → erasures (set (set u j erasure) k erasure) ≡ 2 → WithErasures o i (set (set u j erasure) k erasure)
     two-erased j k e =
         record {
           long = length-set (set u j erasure) k erasure ∙ length-set u j erasure ∙ long;
-          symbols = erased-received (profile i .q) (set u j erasure) k (erased-received (profile i .q) u j symbols);
+          symbols = erased-received (p .q) (set u j erasure) k (erased-received (p .q) u j symbols);
           some = omega arith;
           few = omega arith;
         }
 
-  pub decode-fills-at : FillsErasures i
+  pub decode-fills-at : FillsErasures o i
   decode-fills-at =
       record {
         one =
@@ -86,23 +89,23 @@ module _ (i : ℕ) (t : T (isProfile i)) where
             let (count, is) = law .one (omega arith) u c k l in
             let v = set u k erasure in
             let m = one-erased u c k count in
-            answered-by i t u is (none-tried v m) (filled-by v m a);
+            answered-by o i edition t u is (none-tried v m) (filled-by v m a);
         two =
             λ u c j k less l r first second a.
             let (count, is) = law .two (omega arith) u c j k less l in
             let v = set (set u j erasure) k erasure in
             let m = two-erased u c j k count in
-            answered-by i t u is (none-tried v m) (filled-by v m a);
+            answered-by o i edition t u is (none-tried v m) (filled-by v m a);
         read =
             λ v m u c agrees r first second a.
-            answered-by i t u (law .reads v u (m .few) c agrees) (none-tried v m) (filled-by v m a);
+            answered-by o i edition t u (law .reads v u (m .few) c agrees) (none-tried v m) (filled-by v m a);
         only = λ v few u u′ c c′ a a′. law .only v u u′ few c c′ a a′;
         refused =
             λ v m r first second a.
             let h = filled-by v m a in
             let f = law .refused v in
-            let number : Reading → ℕ = λ d. reportNumber (report (answered d (triedPositions (profile i) v))) in (
-              λ e. f .0 (none-read (filledReading (profile i) v) (triedPositions (profile i) v) (ap reportNumber (sym (h .answer)) ∙ e)),
+            let number : Reading → ℕ = λ d. reportNumber (report (answered d (triedPositions p v))) in (
+              λ e. f .0 (none-read (filledReading p v) (triedPositions p v) (ap reportNumber (sym (h .answer)) ∙ e)),
               λ g. ap reportNumber (h .answer) ∙ ap number (f .1 g),
             );
       }

@@ -6,15 +6,15 @@ use Rattle.codec_claims.proofs.Encoding.{encode-writes}
 use Rattle.codec_claims.proofs.Decoding.{decode-corrects-at}
 
 pub round-trip : RoundTrip
-round-trip i a b made out word h p e s r before-first first before-second second d first-long second-long =
-    let w = encode-writes i a b made out word h p e s .1 in
+round-trip o i a b made out word h d p e s r before-first first before-second second allowed first-long second-long =
+    let w = encode-writes o i a b made out word h d p e s .1 in
     let (clean, pair) =
-    decode-corrects-at i p .unchanged word (w .is-codeword) r first second
+    decode-corrects-at o i d p .unchanged word (w .is-codeword) r first second
     record {
       before-first = before-first;
       before-second = before-second;
       first-long = first-long;
       second-long = second-long;
-      allowed = d;
+      allowed = allowed;
     } in
     record { report = clean; first-is = pair .first-is ∙ w .first; second-is = pair .second-is ∙ w .second }

@@ -6,11 +6,11 @@ use mathlib.Core.List.{List}
 use Prim.Native.Nat.{ℕ}
 use lib.Dec.{T, eqb}
 use lib.ListN.{length}
-use Rattle.code_theory.specs.Parameters.{messageLength, codewordLength}
+use Rattle.code_theory.specs.Parameters.{isEdition, messageLength, codewordLength}
 use Rattle.code_theory.specs.Component.{symbolsBelow}
 use Rattle.code_theory.specs.Balance.{balanced}
 use Rattle.code_theory.specs.Codeword.{interleaved, withChecks, codeword, carried}
-use Rattle.code_theory.specs.Profiles.{isProfile, profile}
+use Rattle.code_theory.specs.Profiles.{isProfile, profile, profileIn}
 use Rattle.code_theory.specs.Operations.{done, refusedBy}
 use Rattle.code_theory.specs.Claims.{Balanced}
 use Rattle.encoder.specs.declared.Encoded.{Encoded}
@@ -26,31 +26,33 @@ abbrev pub levelsFit : ℕ → List ℕ → List ℕ → Bool
 levelsFit i a b = symbolsBelow (profile i .q) a && symbolsBelow (profile i .q) b
 
 -- u is the word that 01 asks for
-pub record WordOf (i : ℕ) (a b u : List ℕ) : Type 0 where
+pub record WordOf (e i : ℕ) (a b u : List ℕ) : Type 0 where
   -- a choice balances x, and the earliest is taken
-  pub balance : Balanced (profile i) (interleaved (profile i) a b)
+  pub balance : Balanced (profileIn e i) (interleaved (profileIn e i) a b)
   -- w of that choice, α, β
-  pub word : u ≡ withChecks (profile i .q) (balanced (profile i) (interleaved (profile i) a b))
-  pub is-codeword : T (codeword (profile i) u)
+  pub word : u ≡ withChecks (profileIn e i .q) (balanced (profileIn e i) (interleaved (profileIn e i) a b))
+  pub is-codeword : T (codeword (profileIn e i) u)
   -- the pair that it carries
-  pub first : carried (profile i) true u ≡ a
-  pub second : carried (profile i) false u ≡ b
+  pub first : carried (profileIn e i) true u ≡ a
+  pub second : carried (profileIn e i) false u ≡ b
 
 -- a pair of the right lengths and levels is written
 abbrev pub EncodeWrites : Type 0
 EncodeWrites =
-    (i : ℕ) (a b : List ℕ) (r : Encoded) (out out′ : List ℕ) → EncodeAllows i a b r out out′
-    → T (isProfile i) → T (encodeLengthsFit i a b (length out)) → T (levelsFit i a b)
-    → (encodedOutcome r ≡ done) × WordOf i a b out′
+    (e i : ℕ) (a b : List ℕ) (r : Encoded) (out out′ : List ℕ) → EncodeAllows e i a b r out out′
+    → T (isEdition e) → T (isProfile i) → T (encodeLengthsFit i a b (length out)) → T (levelsFit i a b)
+    → (encodedOutcome r ≡ done) × WordOf e i a b out′
 
 -- any other call is refused by the first number that applies, and leaves the output
 abbrev pub RefusedBy : ℕ → Encoded → List ℕ → List ℕ → Type 0
 RefusedBy k r out out′ = (encodedOutcome r ≡ refusedBy k) × (out′ ≡ out)
 
-pub record RefusesEncoding (i : ℕ) (a b : List ℕ) (r : Encoded) (out out′ : List ℕ) : Type 0 where
-  pub by-1 : isProfile i ≡ false → RefusedBy 1 r out out′
-  pub by-2 : T (isProfile i) → encodeLengthsFit i a b (length out) ≡ false → RefusedBy 2 r out out′
-  pub by-3 : T (isProfile i) → T (encodeLengthsFit i a b (length out)) → levelsFit i a b ≡ false → RefusedBy 3 r out out′
+pub record RefusesEncoding (e i : ℕ) (a b : List ℕ) (r : Encoded) (out out′ : List ℕ) : Type 0 where
+  pub by-12 : isEdition e ≡ false → RefusedBy 12 r out out′
+  pub by-1 : T (isEdition e) → isProfile i ≡ false → RefusedBy 1 r out out′
+  pub by-2 : T (isEdition e) → T (isProfile i) → encodeLengthsFit i a b (length out) ≡ false → RefusedBy 2 r out out′
+  pub by-3 : T (isEdition e) → T (isProfile i) → T (encodeLengthsFit i a b (length out)) → levelsFit i a b ≡ false → RefusedBy 3 r out out′
 
 abbrev pub EncodeRefuses : Type 0
-EncodeRefuses = (i : ℕ) (a b : List ℕ) (r : Encoded) (out out′ : List ℕ) → EncodeAllows i a b r out out′ → RefusesEncoding i a b r out out′
+EncodeRefuses =
+    (e i : ℕ) (a b : List ℕ) (r : Encoded) (out out′ : List ℕ) → EncodeAllows e i a b r out out′ → RefusesEncoding e i a b r out out′

@@ -5,9 +5,9 @@ use mathlib.Core.List.{List}
 use Prim.Native.Nat.{ℕ}
 use lib.Dec.{T}
 use lib.ListN.{length}
-use Rattle.code_theory.specs.Parameters.{messageLength}
+use Rattle.code_theory.specs.Parameters.{isEdition, messageLength}
 use Rattle.code_theory.specs.Reading.{clean}
-use Rattle.code_theory.specs.Profiles.{isProfile, profile}
+use Rattle.code_theory.specs.Profiles.{isProfile, profileIn}
 use Rattle.code_theory.specs.Operations.{success}
 use Rattle.encoder.specs.declared.Encoded.{Encoded}
 use Rattle.encoder.specs.Answer.{EncodeAllows}
@@ -23,8 +23,8 @@ pub record GivesBack (a b : List ℕ) (r : Decoded) (first second : List ℕ) : 
 
 abbrev pub RoundTrip : Type 0
 RoundTrip =
-    (i : ℕ) (a b : List ℕ) (made : Encoded) (out word : List ℕ) → EncodeAllows i a b made out word
-    → T (isProfile i) → T (Encode.encodeLengthsFit i a b (length out)) → T (Encode.levelsFit i a b)
-    → (r : Decoded) (before-first first before-second second : List ℕ) → DecodeAllows i word r before-first first before-second second
-    → length before-first ≡ messageLength (profile i) → length before-second ≡ messageLength (profile i)
+    (e i : ℕ) (a b : List ℕ) (made : Encoded) (out word : List ℕ) → EncodeAllows e i a b made out word
+    → T (isEdition e) → T (isProfile i) → T (Encode.encodeLengthsFit i a b (length out)) → T (Encode.levelsFit i a b)
+    → (r : Decoded) (before-first first before-second second : List ℕ) → DecodeAllows e i word r before-first first before-second second
+    → length before-first ≡ messageLength (profileIn e i) → length before-second ≡ messageLength (profileIn e i)
     → GivesBack a b r first second

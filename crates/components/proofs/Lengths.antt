@@ -4,15 +4,16 @@ use mathlib.Core.Path.{_≡_, sym, ap, _∙_}
 use mathlib.Core.Bool.{Bool, true, false, _&&_}
 use mathlib.Core.List.{List, _++_}
 use Prim.Native.Nat.{ℕ, suc, _-_, _≤_}
+use native.Mathlib.Omega.{arith}
 use lib.Dec.{T, eqb, leb, eqb→eq, leb→le}
 use lib.ListN.{length, take, replicate}
 use lib.Seq.{take-append-seam}
 use Rattle.modular_theory.specs.Search.{allBelow}
 use Rattle.modular_theory.proofs.Search.{holds, and-intro, and-left, and-right, eq-test, passes}
-use Rattle.code_theory.specs.Parameters.{Parameters, messageLength, balancedLength}
-use Rattle.code_theory.specs.Codeword.{interleaved}
+use Rattle.code_theory.specs.Parameters.{edition13, Parameters, messageLength, balancedLength}
+use Rattle.code_theory.specs.Component.{component}
 use Rattle.code_theory.specs.Profiles.{profiles, isProfile, profile}
-use Rattle.code_theory.proofs.Pair.{length-interleaved}
+use Rattle.code_theory.proofs.Pair.{length-component, length-interleave}
 use Rattle.code_theory.proofs.Profiles.{every-profile}
 use Rattle.profiles.specs.declared.row.Row.{Row}
 use Rattle.profiles.specs.Row.{Valid, parameters, RowOf}
@@ -44,8 +45,11 @@ module _ (i : ℕ) (a b : List ℕ) where
   tested p m = array (p && bothLong m (length a) (length b))
 
   length-first : (p : Parameters) → length (zeroFirst p a b) ≡ balancedLength p
-  unfolding zeroFirst interleaved
-  length-first p = length-interleaved p a b
+  unfolding zeroFirst
+  length-first p =
+      let e : length (component p a) ≡ p .n = length-component p a in
+      let f : length (component p b) ≡ p .n = length-component p b in
+      omega (arith, length-interleave (component p a) (component p b) (omega arith))
 
   -- the components stand before the zeros
   pub components-interleaved : T (isProfile i) → length a ≡ messageLength (profile i) → length b ≡ messageLength (profile i)
@@ -66,7 +70,7 @@ module _ (i : ℕ) (a b : List ℕ) where
   no-profile e = ap (λ (p : Bool). tested p (messageLength (profile i))) (sym e)
 
   -- by the row that is asked for
-  module _ {t : Row} (of : RowOf i t) where
+  module _ {t : Row} (of : RowOf edition13 i t) where
     by-row : array (bothLong (t .message) (length a) (length b)) ≡ componentsOf i a b
     unfolding componentsOf
     by-row =
@@ -93,4 +97,5 @@ module _ (i : ℕ) (a b : List ℕ) where
           )
 
       pub right-components : {x : List ℕ} → x ≡ padded (parameters t) a b → x ≡ componentsOf i a b
+      unfolding profile
       right-components f = f ∙ ap (λ (p : Parameters). padded p a b) (of .same) ∙ ap array (sym e) ∙ by-row

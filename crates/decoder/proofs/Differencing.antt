@@ -10,20 +10,20 @@ use native.Mathlib.Omega.{arith}
 use lib.Dec.{T, eqb, ltb, lt→ltb}
 use lib.ListN.{length, getD, take, drop, set, replicate, length-set, length-drop, getD-replicate}
 use lib.Seq.{getD-take, getD-drop, getD-set-other, ext-getD, length-take-le}
-use Rattle.modular_theory.proofs.Residue.{minus-below}
 use Rattle.modular_theory.proofs.Search.{holds, and-intro, or-left, or-right, eq-test}
-use Rattle.code_theory.specs.Parameters.{Parameters}
+use Rattle.code_theory.specs.Parameters.{Edition, edition13, edition18, Parameters, inEdition}
 use Rattle.code_theory.specs.Balance.{neighbourDifference, differences}
 use Rattle.code_theory.specs.Codeword.{alternate, body, received}
 use Rattle.code_theory.proofs.Symbols.{symbol-below, symbols-set}
-use Rattle.code_theory.proofs.Weights.{length-differences}
+use Rattle.code_theory.proofs.Weights.{length-differences, differences-below}
 use Rattle.code_theory.proofs.Columns.{q-positive}
 use Rattle.modular.proofs.Bytes.{byte-difference}
 use Rattle.profiles.specs.declared.row.Row.{Row}
 use Rattle.profiles.specs.Row.{parameters, Valid}
-use Rattle.differences.specs.Overlaid.{differencesAt, changedBy}
+use Rattle.differences.specs.Overlaid.{differenceOf, differencesAt, changedBy}
 use Rattle.differences.proofs.Indices.{length-held, first-held, difference-held, other-held}
 use Rattle.decoder.specs.Received.{BodyArray}
+use Rattle.decoder.specs.Direction.{isBackward}
 use Rattle.decoder.specs.Totals.{WholeWord, Components}
 
 difference-at : (p : Parameters) (w : List ℕ) (j : ℕ) → suc j < length w
@@ -32,6 +32,16 @@ difference-at p [] j h = absurd (not-suc-le-zero h)
 difference-at p (x ∷ []) j h = absurd (not-suc-le-zero (le-of-suc-le-suc h))
 difference-at p (x ∷ y ∷ w) zero h = refl
 difference-at p (x ∷ y ∷ w) (suc j) h = difference-at p (y ∷ w) j (le-of-suc-le-suc h)
+
+-- the differences that the code takes, in the direction of the edition, are those meant
+bytes-differ : (p : Parameters) {x y : ℕ} → x < p .q → y < p .q → p .q ≤ 255
+    → differenceOf (isBackward p) (p .q) x y ≡ neighbourDifference p x y
+unfolding differenceOf
+bytes-differ p {x} {y} h k l = go (p .edition)
+  where
+    go : (o : Edition) → differenceOf (isBackward (inEdition o p)) (p .q) x y ≡ neighbourDifference (inEdition o p) x y
+    go edition13 = byte-difference k (le-of-lt h) l refl .0
+    go edition18 = byte-difference h (le-of-lt k) l refl .0
 
 one-add : (j : ℕ) → 1 + j ≡ suc j
 one-add j = omega arith
@@ -91,8 +101,11 @@ module _ {t : Row} {u : List ℕ} (w : WholeWord t u) where
 -- An array that held levels, once differences of u are put into it: it holds the components where every other difference was right before.
 module _ {t : Row} {u : List ℕ} (w : WholeWord t u) (asked : ℕ → Bool) {x : List ℕ} (b : BodyArray t x)
     (kept : (j : ℕ) → suc j < t .balanced → asked (suc j) ≡ false → getD x (suc j) 0 ≡ between t u j) where
+  abbrev back : Bool
+  back = isBackward (parameters t)
+
   abbrev placed : List ℕ
-  placed = differencesAt asked (t .q) u x
+  placed = differencesAt asked back (t .q) u x
 
   difference-is : (j : ℕ) → suc j < t .balanced → getD placed (suc j) 0 ≡ between t u j
   difference-is j l = at (asked (suc j)) refl
@@ -102,29 +115,29 @@ module _ {t : Row} {u : List ℕ} (w : WholeWord t u) (asked : ℕ → Bool) {x 
           let fits : suc j < length x = omega (arith, b .size, short (w .valid), l) in
           let there : suc j < length u = omega (arith, symbols-long w, l) in
           let before : suc j - 1 ≡ j = omega arith in
-          difference-held asked (t .q) u x j fits there (holds (asked (suc j)) e)
-          ∙ byte-difference (level w (suc j)) (le-of-lt (level w (suc j - 1))) (omega (arith, w .valid .levels)) refl .0
+          difference-held asked back (t .q) u x j fits there (holds (asked (suc j)) e)
+          ∙ bytes-differ (parameters t) (level w (suc j - 1)) (level w (suc j)) (omega (arith, w .valid .levels))
           ∙ ap (λ (k : ℕ). neighbourDifference (parameters t) (getD u k 0) (getD u (suc j) 0)) before
-      at false e = other-held asked (t .q) u x (suc j) e ∙ kept j l e
+      at false e = other-held asked back (t .q) u x (suc j) e ∙ kept j l e
 
   placed-below : (j : ℕ) → j < t .balanced → getD placed j 0 < t .q
-  placed-below zero l = rw (first-held asked (t .q) u x) (b .below 0 l)
-  placed-below (suc j) l = rw (difference-is j l) (minus-below (t .q) (getD u (suc j) 0) (getD u j 0) (q₁ w))
+  placed-below zero l = rw (first-held asked back (t .q) u x) (b .below 0 l)
+  placed-below (suc j) l = rw (difference-is j l) (differences-below (parameters t) (q₁ w) (getD u j 0 ∷ getD u (suc j) 0 ∷ []) 0)
 
-  pub components-placed : {y : List ℕ} → y ≡ placed → Components t u y
-  components-placed e =
-      rw e
-      (components w (record { valid = w .valid; size = length-held asked (t .q) u x ∙ b .size; below = placed-below }) difference-is)
+  components-placed : {d : Bool} → d ≡ back → {y : List ℕ} → y ≡ differencesAt asked d (t .q) u x → Components t u y
+  components-placed f e =
+      rw (e, f)
+      (components w (record { valid = w .valid; size = length-held asked back (t .q) u x ∙ b .size; below = placed-below }) difference-is)
 
 -- an index of a body is one of the array's
 inside : {t : Row} → Valid t → (j : ℕ) → j < t .balanced → T (ltb j (min (t .balanced) 97))
 inside {t} v j l = lt→ltb j (min (t .balanced) 97) (rw (min-eq-left (short v)) l)
 
 -- all of them
-pub components-differenced : {t : Row} {u x y : List ℕ} → WholeWord t u → BodyArray t x
-    → y ≡ differencesAt (λ j. ltb j (min (t .balanced) 97)) (t .q) u x → Components t u y
-components-differenced {t} {u} {x} w b e =
-    components-placed w (λ j. ltb j (min (t .balanced) 97)) b (λ j l f. absurd (subst T f (inside (w .valid) (suc j) l))) e
+pub components-differenced : {t : Row} {u x y : List ℕ} → WholeWord t u → BodyArray t x → {d : Bool} → d ≡ isBackward (parameters t)
+    → y ≡ differencesAt (λ j. ltb j (min (t .balanced) 97)) d (t .q) u x → Components t u y
+components-differenced {t} {u} {x} w b d-is e =
+    components-placed w (λ j. ltb j (min (t .balanced) 97)) b (λ j l f. absurd (subst T f (inside (w .valid) (suc j) l))) d-is e
 
 pub word-set : {t : Row} {u : List ℕ} → WholeWord t u → (i : ℕ) {y : ℕ} → y < t .q → WholeWord t (set u i y)
 word-set {t} {u} w i {y} l =
@@ -132,9 +145,10 @@ word-set {t} {u} w i {y} l =
 
 -- those that change where the symbol at index i is corrected to s
 pub components-corrected : {t : Row} {u x y : List ℕ} (i s : ℕ) → WholeWord t u → s < t .q → Components t u x
-    → y ≡ differencesAt (changedBy i (min (t .balanced) 97)) (t .q) (set u i s) x → Components t (set u i s) y
-components-corrected {t} {u} {x} i s w l c e =
-    components-placed (word-set w i l) (changedBy i (min (t .balanced) 97)) (c .levels) kept e
+    → {d : Bool} → d ≡ isBackward (parameters t)
+    → y ≡ differencesAt (changedBy i (min (t .balanced) 97)) d (t .q) (set u i s) x → Components t (set u i s) y
+components-corrected {t} {u} {x} i s w l c d-is e =
+    components-placed (word-set w i l) (changedBy i (min (t .balanced) 97)) (c .levels) kept d-is e
   where
     -- neither symbol of a difference that is left is the one corrected
     other : (j : ℕ) → suc j < t .balanced → changedBy i (min (t .balanced) 97) (suc j) ≡ false

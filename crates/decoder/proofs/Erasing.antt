@@ -1,17 +1,18 @@
 -- What an erased symbol adds to the syndromes, by the columns that it meets.
 -- Assumes nothing.
-use mathlib.Core.Path.{_≡_, refl, sym, ap, ap₂, _∙_}
-use mathlib.Core.Logic.{_⊎_, inl, inr, _≢_}
+use mathlib.Core.Path.{_≡_, refl, sym, ap, _∙_}
+use mathlib.Core.Logic.{_⊎_, inl, inr}
 use mathlib.Core.Bool.{Bool, true, false}
 use mathlib.Core.List.{List, [], _∷_}
-use Prim.Native.Nat.{ℕ, zero, suc, _+_, _-_, _*_, _/_, _%_, _<_}
+use Prim.Native.Nat.{ℕ, zero, suc, _+_, _-_, _*_, _/_, _%_, _≤_, _<_}
 use native.Mathlib.Omega.{arith}
 use lib.Dec.{eqb}
 use lib.ListN.{getD}
 use borrow.Author.Tests.{lt-ltb, le-ltb, eq-eqb, ne-eqb}
 use Rattle.code_theory.specs.Parameters.{Parameters, balancedLength}
 use Rattle.code_theory.proofs.Columns.{q-positive}
-use Rattle.decoding_theory.specs.Syndromes.{moved, columnEntry, columnOf, times, movedOf}
+use Rattle.decoding_theory.specs.Syndromes.{moved, columnEntry, columnOf, times}
+use Rattle.decoding_theory.specs.Decoded.{gainBy}
 use Rattle.decoding_theory.specs.Filled.{addedByOne, inBody, asCheck, erasedAt}
 use Rattle.decoding_theory.proofs.Value.{tabulate-same}
 use Rattle.profiles.specs.declared.row.Row.{Row}
@@ -19,9 +20,12 @@ use Rattle.profiles.specs.Row.{parameters, Valid}
 use Rattle.symbols.specs.declared.sums.Syndrome.{Syndrome}
 use Rattle.symbols.specs.declared.sums.Syndromes.{Syndromes}
 use Rattle.symbols.specs.Syndromes.{rows}
+use Rattle.decoder.specs.Sides.{isFirst}
 use Rattle.decoder.specs.Rows.{FourRows, rowsOf, Moved}
+use Rattle.decoder.specs.Search.{Moves}
 use Rattle.decoder.specs.Erased.{SameRows, SameErased, in-body, as-check, OneMore}
 use Rattle.decoder.proofs.FourRows.{row-cases, rows-digit, rows-last}
+use Rattle.decoder.proofs.Gaining.{first-test, first-column, second-column, moved-by}
 
 -- the four rows of a word of zeros
 abbrev pub zeroRow : List ℕ
@@ -57,25 +61,23 @@ module _ (t : Row) (v : Valid t) where
       (λ j h. ap (λ (x : ℕ). (x + f * columnEntry p j a) % t .q) (rows-zero j h))
 
   -- zeros moved by one more of a symbol
-  pub more-rows : (c b : Bool) (k : ℕ) {f a : ℕ} {s : Syndrome} → f ≡ times p c b 1 → a ≡ columnOf c b k → Moved t f a zeroRow (rows s)
-      → SameRows t (rows s) (addedByOne p c b k)
-  unfolding addedByOne movedOf
-  more-rows c b k {f} {a} {s} e g m =
-      record { four = s; levels = m .levels; is = refl; are = sym (m .are ∙ moved-zero f a ∙ ap₂ (λ (x y : ℕ). moved p x y []) e g) }
+  more-rows : (c b : Bool) (k : ℕ) {f a : ℕ} {s : Syndrome} → f ≡ times p c b (gainBy p 1) % t .q → a ≡ columnOf c b k
+      → Moved t f a zeroRow (rows s) → SameRows t (rows s) (addedByOne p c b k)
+  unfolding addedByOne
+  more-rows c b k {f} {a} {s} f-is a-is m =
+      record { four = s; levels = m .levels; is = refl; are = sym (m .are ∙ moved-zero f a ∙ moved-by p c b k (gainBy p 1) f-is a-is []) }
 
-  -- what one more of a symbol of the body adds, at an odd position
-  pub odd-more : (i : ℕ) {f f′ a a′ : ℕ} (y : Syndromes) → i % 2 ≡ 0 → f ≡ t .q - 1 → a ≡ suc (i / 2)
-      → Moved t f a zeroRow (rows (y .first)) → f′ ≡ 1 → a′ ≡ i / 2 → Moved t f′ a′ zeroRow (rows (y .second)) → OneMore t i y
-  odd-more i y e g h m g′ h′ m′ =
-      let b : eqb (i % 2) 0 ≡ true = eq-eqb (i % 2) 0 e in
-      record { first = rw b (more-rows true true (i / 2) g h m); second = rw b (more-rows false true (i / 2) g′ h′ m′) }
-
-  -- and at an even one
-  pub even-more : (i : ℕ) {f f′ a a′ : ℕ} (y : Syndromes) → i % 2 ≢ 0 → f ≡ 1 → a ≡ suc (i / 2) → Moved t f a zeroRow (rows (y .first))
-      → f′ ≡ t .q - 1 → a′ ≡ suc (i / 2) → Moved t f′ a′ zeroRow (rows (y .second)) → OneMore t i y
-  even-more i y e g h m g′ h′ m′ =
-      let b : eqb (i % 2) 0 ≡ false = ne-eqb (i % 2) 0 e in
-      record { first = rw b (more-rows true false (i / 2) g h m); second = rw b (more-rows false false (i / 2) g′ h′ m′) }
+  -- what one more of a symbol of the body adds
+  pub added-one : (i : ℕ) {F G : List ℕ} (y : Syndromes) → Moves t (isFirst (i % 2)) 1 F G
+      → Moved t (getD F 1 0) (i / 2 + 1) zeroRow (rows (y .first))
+      → Moved t (getD G 1 0) (i / 2 + i % 2) zeroRow (rows (y .second)) → OneMore t i y
+  added-one i y w m m′ =
+      let b : Bool = isFirst (i % 2) in
+      let even : i % 2 ≤ 1 = omega arith in
+      record {
+        first = rw (first-test (i % 2)) (more-rows true b (i / 2) (w .first-by) (first-column b (i / 2)) m);
+        second = rw (first-test (i % 2)) (more-rows false b (i / 2) (w .second-by) (second-column (i % 2) (i / 2) even) m′);
+      }
 
   -- The erased symbol at an index.
 

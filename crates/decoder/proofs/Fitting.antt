@@ -1,33 +1,28 @@
 -- The tests of a position, and the search for the first that passes them.
 -- Assumes nothing.
-use mathlib.Core.Path.{_≡_, refl, sym, ap, _∙_}
+use mathlib.Core.Path.{_≡_, refl, ap, _∙_}
 use mathlib.Core.Logic.{⊎-elim}
-use mathlib.Core.Bool.{Bool, true, false, not}
+use mathlib.Core.Bool.{Bool, true, false}
 use mathlib.Core.List.{List}
 use Prim.Native.Nat.{ℕ, zero, suc, _+_, _-_, _*_, _%_, _≤_, _<_}
-use native.Mathlib.Nat.{zero-add, add-zero}
 use native.Mathlib.Numerals.{add-one}
 use native.Mathlib.Omega.{arith}
 use lib.Dec.{eqb}
 use lib.ListN.{getD}
 use Rattle.modular_theory.specs.Search.{least}
-use Rattle.modular_theory.specs.Residue.{minus}
 use Rattle.modular_theory.proofs.Search.{least-is, least-le, least-hit, le-or-lt, holds}
-use Rattle.modular_theory.proofs.Residue.{of-eq, _then_, reduce, minus-is}
 use Rattle.code_theory.specs.Parameters.{Parameters}
-use Rattle.code_theory.proofs.Columns.{q-positive}
 use Rattle.code_theory.proofs.Merge.{cases}
 use Rattle.decoding_theory.specs.Syndromes.{nearSyndromes, index, moved, movedOf}
-use Rattle.decoding_theory.specs.Decoded.{Sums, gain, inRange, offByLack, nearAfter, fits, positionCount, firstFit}
+use Rattle.decoding_theory.specs.Decoded.{Sums, gainBy, gain, inRange, offByLack, nearAfter, fits, positionCount, firstFit}
 use Rattle.decoding_theory.specs.TriedPositions.{triedBody}
 use Rattle.decoding_theory.proofs.Tests.{false-test}
 use Rattle.decoding_theory.proofs.TriedPositions.{tried-to, tried-all}
 use Rattle.decoder.specs.declared.locate.Search.{Search}
-use Rattle.decoder.specs.Multiples.{Multiples}
 use Rattle.decoder.specs.Sides.{isFirst}
 use Rattle.decoder.specs.Totals.{Totalled}
-use Rattle.decoder.specs.Search.{parametersOf, sumsIn, parityOf, factor, Moves, Tries, after}
-use Rattle.decoder.proofs.Moving.{moved-congruent}
+use Rattle.decoder.specs.Search.{parametersOf, sumsIn, parityOf, Tries, after}
+use Rattle.decoder.proofs.Gaining.{first-column, second-column, moved-by}
 
 -- Parities by number.
 
@@ -45,17 +40,6 @@ not-first : (parity : ℕ) → (parity ≡ 0 → ⊥) → isFirst parity ≡ fal
 not-first zero z = absurd (z refl)
 not-first (suc parity) z = refl
 
--- the multiples of the lack and of its negative move the syndromes, by the parity
-module _ (x : Search) {more less : List ℕ} {f : ℕ} (m : Multiples (x .row .q) more × (getD more 1 0 ≡ x .s .lack))
-    (l : Multiples (x .row .q) less × (getD less 1 0 ≡ f)) (e : f ≡ minus (x .row .q) 0 (x .s .lack)) where
-  pub moves-odd : x .parity ≡ 0 → Moves x less more
-  moves-odd z = record { first-table = l .0; second-table = m .0; first-by = rw z (l .1 ∙ e); second-by = rw z (m .1) }
-
-  pub moves-even : (x .parity ≡ 0 → ⊥) → Moves x more less
-  moves-even z =
-      let even : parityOf x ≡ false = not-first (x .parity) z in
-      record { first-table = m .0; second-table = l .0; first-by = rw even (m .1); second-by = rw even (l .1 ∙ e) }
-
 -- the check symbol of the parity
 module _ (x : Search) (w : Totalled (x .row) (x .s)) {y : ℕ} where
   pub off-odd : x .parity ≡ 0 → y ≡ (x .s .asked .alpha + x .s .lack) % x .row .q
@@ -70,34 +54,17 @@ module _ (x : Search) (w : Totalled (x .row) (x .s)) {y : ℕ} where
 
 -- A syndrome with a multiple of its column added is the one after the correction.
 module _ {x : Search} {columns : List (List ℕ)} {F G : List ℕ} (a : Tries x columns F G) (k : ℕ) (S : List ℕ) where
-  -- less a column
-  less : {f : ℕ} → f ≡ minus (x .row .q) 0 (x .s .lack)
-      → moved (parametersOf x) f (suc k) S ≡ moved (parametersOf x) (x .row .q - x .s .lack) (suc k) S
-  less {f} f-is =
-      let q : ℕ = x .row .q in
-      let e : ℕ = x .s .lack in
-      let some : 1 ≤ q = q-positive (parametersOf x) (a .given .valid .sized) in
-      let g : f ≡ (0 + (q - e)) % q = f-is ∙ sym (minus-is q 0 e some (omega (arith, a .given .totalled .lack-below))) in
-      moved-congruent (parametersOf x) (suc k) S (of-eq g then reduce q (0 + (q - e)) then of-eq (zero-add (q - e)))
+  -- component c's, where what the symbol lacks is as it was summed up
+  lacking : (c : Bool) → movedOf (parametersOf x) c (parityOf x) k (gainBy (parametersOf x) (x .s .lack)) S ≡ after x k c S
+  lacking c =
+      ap (λ (e : ℕ). movedOf (parametersOf x) c (parityOf x) k (gainBy (parametersOf x) e) S) (a .given .totalled .lacks)
 
   pub first-moved : moved (parametersOf x) (getD F 1 0) (k + 1) S ≡ after x k true S
-  unfolding movedOf
-  first-moved = go (x .parity) (a .moves .first-by)
-    where
-      go : (parity : ℕ) {f : ℕ} → f ≡ factor (x .row .q) (x .s .lack) (isFirst parity)
-          → moved (parametersOf x) f (k + 1) S ≡ movedOf (parametersOf x) true (isFirst parity) k (gain (parametersOf x) (sumsIn x)) S
-      go zero f-is = rw (← a .given .totalled .lacks, add-one) (less f-is)
-      go (suc parity) f-is = rw (← a .given .totalled .lacks, add-one, f-is)
+  first-moved = moved-by _ true (parityOf x) k _ (a .moves .first-by) (first-column (parityOf x) k) S ∙ lacking true
 
   pub second-moved : moved (parametersOf x) (getD G 1 0) (k + x .parity) S ≡ after x k false S
-  unfolding movedOf
-  second-moved = go (x .parity) (a .given .parity-number) (a .moves .second-by)
-    where
-      go : (parity : ℕ) → parity ≤ 1 → {f : ℕ} → f ≡ factor (x .row .q) (x .s .lack) (not (isFirst parity))
-          → moved (parametersOf x) f (k + parity) S ≡ movedOf (parametersOf x) false (isFirst parity) k (gain (parametersOf x) (sumsIn x)) S
-      go zero h f-is = rw (← a .given .totalled .lacks, add-zero, f-is)
-      go (suc zero) h f-is = rw (← a .given .totalled .lacks, add-one) (less f-is)
-      go (suc (suc j)) h f-is = absurd (omega arith)
+  second-moved =
+      moved-by _ false (parityOf x) k _ (a .moves .second-by) (second-column (x .parity) k (a .given .parity-number)) S ∙ lacking false
 
 -- A position fits where it passes the three tests.
 module _ (p : Parameters) (S : Sums) (b : Bool) (k x : ℕ) where

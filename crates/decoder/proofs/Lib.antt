@@ -5,6 +5,7 @@ pub mod Differencing
 -- Syndromes
 pub mod FourRows
 pub mod Moving
+pub mod Gaining
 pub mod Fitting
 pub mod Filling
 pub mod Erasing

@@ -37,6 +37,6 @@ pub record Answers (a : Answer) (r : Decoded) (first first′ second second′ :
   pub first-out : first′ ≡ decodeOutput true a first
   pub second-out : second′ ≡ decodeOutput false a second
 
--- what decode may answer to the word u in profile i
-abbrev pub DecodeAllows : ℕ → List ℕ → Decoded → List ℕ → List ℕ → List ℕ → List ℕ → Type 0
-DecodeAllows i u r first first′ second second′ = Answers (decodeAnswer i u (length first) (length second)) r first first′ second second′
+-- what decode may answer to the word u in edition e (02) and profile i
+abbrev pub DecodeAllows : ℕ → ℕ → List ℕ → Decoded → List ℕ → List ℕ → List ℕ → List ℕ → Type 0
+DecodeAllows e i u r first first′ second second′ = Answers (decodeAnswer e i u (length first) (length second)) r first first′ second second′

@@ -1,3 +1,4 @@
+pub mod Direction
 pub mod Multiples
 pub mod Rows
 pub mod Sides

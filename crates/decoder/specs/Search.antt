@@ -1,14 +1,14 @@
 -- What the search for a changed symbol goes by, and what correcting one does to the syndromes.
 -- Assumes nothing.
 use mathlib.Core.Path.{_≡_}
-use mathlib.Core.Bool.{Bool, true, false, not}
+use mathlib.Core.Bool.{Bool, true, false}
 use mathlib.Core.List.{List}
-use Prim.Native.Nat.{ℕ, _≤_}
+use Prim.Native.Nat.{ℕ, _%_, _≤_}
 use lib.ListN.{getD}
-use Rattle.modular_theory.specs.Residue.{minus}
 use Rattle.code_theory.specs.Parameters.{Parameters}
-use Rattle.decoding_theory.specs.Syndromes.{movedOf}
-use Rattle.decoding_theory.specs.Decoded.{Sums, gain}
+use Rattle.decoding_theory.specs.Syndromes.{times, movedOf}
+use Rattle.decoding_theory.specs.Decoded.{Sums, gainBy, gain}
+use Rattle.profiles.specs.declared.row.Row.{Row}
 use Rattle.profiles.specs.Row.{Valid, parameters}
 use Rattle.symbols.specs.declared.sums.Syndromes.{Syndromes}
 use Rattle.symbols.specs.Columns.{Columns}
@@ -35,24 +35,18 @@ pub record Searches (x : Search) : Type 0 where
   pub totalled : Totalled (x .row) (x .s)
   pub parity-number : x .parity ≤ 1
 
--- the symbol whose multiples move the first component's syndrome where one at an odd position (true) or an even one (false) is
--- corrected: the negative of what the symbol lacks, or the lack
-abbrev pub factor : ℕ → ℕ → Bool → ℕ
-factor q e true = minus q 0 e
-factor q e false = e
-
--- the multiples by which a corrected symbol of the parity moves the syndromes: the second component's moves by the opposite
-pub record Moves (x : Search) (byFirst bySecond : List ℕ) : Type 0 where
-  pub first-table : Multiples (x .row .q) byFirst
-  pub second-table : Multiples (x .row .q) bySecond
-  pub first-by : getD byFirst 1 0 ≡ factor (x .row .q) (x .s .lack) (parityOf x)
-  pub second-by : getD bySecond 1 0 ≡ factor (x .row .q) (x .s .lack) (not (parityOf x))
+-- the multiples, of each level, by which the first component's syndrome and the second's move where a symbol of the parity b gains e
+pub record Moves (t : Row) (b : Bool) (e : ℕ) (byFirst bySecond : List ℕ) : Type 0 where
+  pub first-table : Multiples (t .q) byFirst
+  pub second-table : Multiples (t .q) bySecond
+  pub first-by : getD byFirst 1 0 ≡ times (parameters t) true b (gainBy (parameters t) e) % t .q
+  pub second-by : getD bySecond 1 0 ≡ times (parameters t) false b (gainBy (parameters t) e) % t .q
 
 -- what a position is tried with: all of that, and the row's columns
 pub record Tries (x : Search) (columns : List (List ℕ)) (byFirst bySecond : List ℕ) : Type 0 where
   pub given : Searches x
   pub table : Columns (x .row .q) (x .row .n) columns
-  pub moves : Moves x byFirst bySecond
+  pub moves : Moves (x .row) (parityOf x) (x .s .lack) byFirst bySecond
 
 -- the r rows of component c's syndrome, S, once the symbol at index k of the parity is corrected
 abbrev pub after : Search → ℕ → Bool → List ℕ → List ℕ

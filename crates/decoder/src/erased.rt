@@ -1,14 +1,14 @@
 // Decoding of a word with one or two erased symbols (02: marks): the sums over the word with 0 there, what each of them adds, and the
 // pair of the word once it is filled.
 use crate::column::moved;
+use crate::differenced::correct_components;
+use crate::effect::effect_of;
 use crate::message::write_pair;
-use crate::multiples::multiples;
 use crate::totals::Totals;
 use crate::totals::sums_of;
 use crate::word::Change;
 use crate::word::Changes;
 use crate::word::Decoded;
-use differences::correct_differences;
 use fillings::Erased;
 use fillings::Filling;
 use fillings::Sums;
@@ -43,18 +43,12 @@ fn one_more(row: Row, columns: &[[u8; 3]; 48], i: usize) -> Syndromes
         high: 0,
         ones: 0,
     };
-    let more = multiples(row.q, 1);
-    let less = multiples(row.q, row.q - 1);
+    let parity = i % 2;
     let k = i / 2;
-    if i % 2 == 0 {
-        return Syndromes {
-            first: moved(row, columns, zero, &less, k + 1),
-            second: moved(row, columns, zero, &more, k),
-        };
-    }
+    let effect = effect_of(row, parity, 1);
     Syndromes {
-        first: moved(row, columns, zero, &more, k + 1),
-        second: moved(row, columns, zero, &less, k + 1),
+        first: moved(row, columns, zero, &effect.first, k + 1),
+        second: moved(row, columns, zero, &effect.second, k + parity),
     }
 }
 
@@ -129,7 +123,7 @@ fn complete_one(row: Row, word: &[u8], i: usize, first: &mut [u8], second: &mut 
     let Filling::One(y, after) = find_one(row, word, i, &mut x) else {
         return Decoded::Unreadable(0);
     };
-    correct_differences(row.q, row.balanced, word, i, y, &mut x);
+    correct_components(row, word, i, y, &mut x);
     write_pair(row, after.first, after.second, &mut x, first, second);
     let position = i + 1;
     Decoded::Filled(Changes::One(Change {
@@ -156,9 +150,9 @@ fn complete_two(
     let Filling::Two(y, z, after) = find_two(row, word, i, j, &mut x) else {
         return Decoded::Unreadable(0);
     };
-    correct_differences(row.q, row.balanced, word, i, y, &mut x);
+    correct_components(row, word, i, y, &mut x);
     word[i] = y;
-    correct_differences(row.q, row.balanced, word, j, z, &mut x);
+    correct_components(row, word, j, z, &mut x);
     write_pair(row, after.first, after.second, &mut x, first, second);
     let position = i + 1;
     let other = j + 1;

@@ -1,6 +1,7 @@
 // Decoding (01: Read): the pair of messages that a received word carries, with at most one symbol corrected, or with one or two erased
 // symbols filled. Its steps are this crate's own and those of crates `symbols`, `syndromes`, `differences` and `fillings`.
 mod column;
+mod differenced;
 mod effect;
 mod erased;
 mod locate;

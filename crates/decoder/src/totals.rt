@@ -1,5 +1,5 @@
 // What is summed over a received word, once: its excess, its check symbols and the syndromes of its components.
-use differences::difference_body;
+use crate::differenced::take_components;
 use modular::negative;
 use profiles::Row;
 use symbols::Checks;
@@ -58,6 +58,6 @@ pub(crate) fn sums_of(row: Row, columns: &[[u8; 3]; 48], word: &[u8], x: &mut [u
     requires { ⌜ WholeWord row (now word) × Columns (row .q) (row .n) (now columns) × BodyArray row (now x) ⌝ }
     ensures { λ s. ⌜ SummedWord row (now (word .entry)) (now (x .exit)) s ⌝ }
 {
-    difference_body(row.q, row.balanced, word, x);
+    take_components(row, word, x);
     total(row, columns, word, x)
 }

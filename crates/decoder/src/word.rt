@@ -1,4 +1,5 @@
 // Decoding of a received word, by its sums.
+use crate::differenced::correct_components;
 use crate::effect::effect_of;
 use crate::effect::syndromes_after;
 use crate::erased::decode_one;
@@ -10,11 +11,12 @@ use crate::locate::locate;
 use crate::message::write_pair;
 use crate::totals::Totals;
 use crate::totals::sums_of;
-use differences::correct_differences;
+use profiles::EditionLookup;
 use profiles::Lookup;
 use profiles::Row;
 use profiles::Screened;
-use profiles::row_of;
+use profiles::edition_of;
+use profiles::row_in;
 use profiles::screen;
 use symbols::Syndromes;
 use symbols::columns;
@@ -57,7 +59,7 @@ pub enum Decoded {
     Filled(Changes),
     // 01: number 4; 02: with how many positions were tried.
     Unreadable(usize),
-    // 01: number 1 to 3; 02: number 11.
+    // 01: number 1 to 3; 02: number 11 or 12.
     Refused(u8),
 }
 
@@ -124,7 +126,7 @@ fn correct(
 {
     let i = 2 * k + search.parity;
     let y = balancing_symbol(search, word[i]);
-    correct_differences(search.row.q, search.row.balanced, word, i, y, x);
+    correct_components(search.row, word, i, y, x);
     write_pair(search.row, after.first, after.second, x, first, second);
     Decoded::Corrected(corrected(i + 1, word[i], y, tried))
 }
@@ -152,7 +154,7 @@ fn decode_unbalanced(
         return Decoded::Unreadable(0);
     }
     let search = Search { row, s, parity };
-    let effect = effect_of(search);
+    let effect = effect_of(row, parity, s.lack);
     let fit = locate(search, columns, &effect.first, &effect.second, word);
     match fit {
         Fit::At(k, tried) => {
@@ -203,14 +205,24 @@ fn decode_word(row: Row, word: &[u8], first: &mut [u8], second: &mut [u8]) -> De
     decode_balanced(row, s, &mut x, first, second)
 }
 
-// 01: Read. Refused 1: no such profile; 2: a length is wrong; 3: a symbol is neither a level nor an erasure; 11 (02): more than two symbols
-// are erased. A refusal and `Unreadable` change no output.
-pub fn decode(profile: usize, word: &[u8], first: &mut [u8], second: &mut [u8]) -> Decoded
+// 01: Read, in the edition of that number (02). Refused 12 (02): the edition is neither 13 nor 18; 1: no such profile; 2: a length is
+// wrong; 3: a symbol is neither a level nor an erasure; 11 (02): more than two symbols are erased. A refusal and `Unreadable` change no
+// output.
+pub fn decode(
+    edition: usize,
+    profile: usize,
+    word: &[u8],
+    first: &mut [u8],
+    second: &mut [u8],
+) -> Decoded
     ensures { λ r. ⌜
-        DecodeAllows profile (now (word .entry)) r
+        DecodeAllows edition profile (now (word .entry)) r
         (now (first .entry)) (now (first .exit)) (now (second .entry)) (now (second .exit)) ⌝ }
 {
-    let Lookup::Found(row) = row_of(profile) else {
+    let EditionLookup::Known(edition) = edition_of(edition) else {
+        return Decoded::Refused(12);
+    };
+    let Lookup::Found(row) = row_in(edition, profile) else {
         return Decoded::Refused(1);
     };
     let screened = screen(row, word, first.len(), second.len());

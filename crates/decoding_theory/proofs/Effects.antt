@@ -5,7 +5,7 @@ use mathlib.Core.Logic.{⊎-elim}
 use mathlib.Core.Bool.{Bool, true, false, not}
 use mathlib.Core.List.{List}
 use Prim.Native.Nat.{ℕ, _+_, _-_, _*_, _/_, _%_, _≤_, _<_}
-use native.Mathlib.Nat.{zero-add, one-mul, mul-comm}
+use native.Mathlib.Nat.{zero-add}
 use native.Mathlib.Omega.{arith}
 use lib.Dec.{eqb}
 use lib.ListN.{length, getD, set}
@@ -14,30 +14,46 @@ use lib.Seq.{getD-set-same}
 use borrow.Author.Tests.{eq-eqb, ne-eqb, lt-ltb, le-ltb}
 use Rattle.modular_theory.specs.Sum.{weight}
 use Rattle.modular_theory.specs.Residue.{Congruent}
-use Rattle.modular_theory.proofs.Residue.{of-eq, same, _then_, add, reduce, scale}
+use Rattle.modular_theory.proofs.Residue.{of-eq, same, symm, _then_, add, reduce, scale}
 use Rattle.modular_theory.proofs.Integer.{difference-more}
 use Rattle.code_theory.specs.Parameters.{Parameters, Sized, balancedLength, codewordLength}
 use Rattle.code_theory.specs.Codeword.{body}
+use Rattle.code_theory.proofs.Weights.{sign}
 use Rattle.code_theory.proofs.Columns.{q-positive}
 use Rattle.decoding_theory.specs.Syndromes.{columnEntry, moved, index, columnOf, times, movedOf}
 use Rattle.decoding_theory.specs.Decoded.{checkSymbol, checkIndex, Sums, update, gainBy, target, positionCount}
 use Rattle.decoding_theory.specs.Filled.{addedByOne, Erased, inBody, asCheck, erasedAt, plusMultiple, sumsWith}
 use Rattle.decoding_theory.proofs.Tests.{for-both}
 use Rattle.decoding_theory.proofs.Value.{tabulate-at, tabulate-same}
-use Rattle.decoding_theory.proofs.Moved.{less}
+use Rattle.decoding_theory.proofs.Moved.{less, gain-small, sign-gain}
 use Rattle.decoding_theory.proofs.Changed.{OfParity, of-parity, in-parity, index-cases, check-within, check-past}
 use Rattle.decoding_theory.proofs.Changed.{body-kept, other-kept, Summed, update-here, update-other, summed-moved}
 use Rattle.decoding_theory.proofs.Nearby.{received-kept}
 
 -- Effects.
 
+-- 1 or -1 mod q: how often the column comes in by one more, edition aside
+side : Parameters → Bool → Bool → ℕ
+side p true true = p .q - 1
+side p true false = 1
+side p false true = 1
+side p false false = p .q - 1
+
+times-side : (p : Parameters) → 1 ≤ p .q → (c b : Bool) (e a : ℕ) → e ≤ p .q → Congruent (p .q) (times p c b e * a) (side p c b * a * e)
+unfolding side
+times-side p h true true e a l = symm (less (p .q) a e h l)
+times-side p h true false e a l = let f : e * a ≡ 1 * a * e = omega arith in of-eq f
+times-side p h false true e a l = let f : e * a ≡ 1 * a * e = omega arith in of-eq f
+times-side p h false false e a l = symm (less (p .q) a e h l)
+
 -- a column comes in y times as often by y more as by one more
 often : (p : Parameters) → 1 ≤ p .q → (c b : Bool) (y a : ℕ) → y ≤ p .q
     → Congruent (p .q) (y * (times p c b (gainBy p 1) * a)) (times p c b (gainBy p y) * a)
-often p h true true y a l = of-eq (mul-comm y ((p .q - 1) * a)) then less (p .q) a y h l
-often p h true false y a l = of-eq (ap (λ (x : ℕ). y * x) (one-mul a))
-often p h false true y a l = of-eq (ap (λ (x : ℕ). y * x) (one-mul a))
-often p h false false y a l = of-eq (mul-comm y ((p .q - 1) * a)) then less (p .q) a y h l
+often p h c b y a l =
+    let s : ℕ = side p c b * a in
+    let f : y * (s * (sign p * 1)) ≡ s * (sign p * y) = omega arith in
+    scale y (times-side p h c b (gainBy p 1) a (gain-small p 1 h) then scale s (symm (sign-gain p 1 h h))) then of-eq f
+    then scale s (sign-gain p y h l) then symm (times-side p h c b (gainBy p y) a (gain-small p y l))
 
 pub plus-effect : (p : Parameters) → 1 ≤ p .q → (c b : Bool) (k y : ℕ) → y ≤ p .q → (S : List ℕ)
     → plusMultiple p y (addedByOne p c b k) S ≡ movedOf p c b k (gainBy p y) S

@@ -1,20 +1,21 @@
--- One changed symbol moves a syndrome by a multiple of one column, since a row of a component is a weighted sum over the word.
+-- One changed symbol moves a syndrome by a multiple of one column, since a row of a component is a weighted sum over the word. The edition
+-- is a sign of that multiple.
 -- Assumes nothing.
 use mathlib.Core.Path.{_≡_, refl, sym, ap, _∙_}
 use mathlib.Core.Bool.{Bool, true, false}
 use mathlib.Core.List.{List}
 use Prim.Native.Nat.{ℕ, zero, suc, _+_, _-_, _*_, _%_, _≤_, _<_}
-use native.Mathlib.Nat.{le-refl, mul-comm}
+use native.Mathlib.Nat.{le-refl, mul-comm, one-mul}
 use native.Mathlib.Omega.{arith}
 use lib.ListN.{length, getD, set, length-set}
 use Rattle.modular_theory.specs.Sum.{dot}
 use Rattle.modular_theory.specs.Residue.{Congruent}
-use Rattle.modular_theory.proofs.Residue.{of-eq, same, symm, _then_, add, multiple, cancel}
+use Rattle.modular_theory.proofs.Residue.{of-eq, same, symm, _then_, add, scale, multiple, cancel}
 use Rattle.modular_theory.proofs.Sum.{dot-gain}
-use Rattle.code_theory.specs.Parameters.{Parameters}
+use Rattle.code_theory.specs.Parameters.{Edition, edition13, edition18, Parameters, inEdition}
 use Rattle.code_theory.specs.Component.{checkRow, syndrome}
 use Rattle.code_theory.specs.Codeword.{differenced}
-use Rattle.code_theory.proofs.Weights.{double, double-is, later, dot-differenced, times-pred, weight-first-odd}
+use Rattle.code_theory.proofs.Weights.{double, double-is, sign, later, dot-differenced, times-pred, weight-first-odd}
 use Rattle.code_theory.proofs.Weights.{weight-second-odd, weight-first-even, weight-second-even}
 use Rattle.code_theory.proofs.Columns.{entry}
 use Rattle.code_theory.proofs.Moves.{rowWeight}
@@ -63,16 +64,19 @@ pub record Gain (p : Parameters) (w : List ℕ) (b : Bool) (k y e : ℕ) : Type 
   pub gained : Congruent (p .q) (getD w (index b k) 0 + e) y
 
 module _ {p : Parameters} (h : 1 ≤ p .q) {w : List ℕ} {b : Bool} {k y e : ℕ} (m : Gain p w b k y e) where
-  -- the syndrome of component c, where at that index its rows have the weights of column a, times g in place of e
+  -- the syndrome of component c, where at that index its rows have the weights of column a, times g in place of e with the sign
   moved-by : (c : Bool) (g a : ℕ) {S : List ℕ}
-      → ((j : ℕ) → Congruent (p .q) (rowWeight p c j (index b k) * e) (g * columnEntry p j a)) → Rows p (differenced p c w) S
+      → ((j : ℕ) → Congruent (p .q) (rowWeight p c j (index b k) * (sign p * e)) (g * columnEntry p j a)) → Rows p (differenced p c w) S
       → Rows p (differenced p c (set w (index b k) y)) (moved p g a S)
   moved-by c g a f r =
       moved-rows (differenced p c (set w (index b k) y)) g a r
       (λ j l.
       let row : ℕ → ℕ = checkRow p j in
-      dot-differenced p h c row (set w (index b k) y) (length-set w (index b k) y ∙ m .long)
-      then dot-gain (rowWeight p c j) w (index b k) y e (m .within) (m .gained)
+      let weights : ℕ → ℕ = rowWeight p c j in
+      let i : ℕ = index b k in
+      let out : sign p * (dot weights w + weights i * e) ≡ sign p * dot weights w + weights i * (sign p * e) = omega arith in
+      dot-differenced p h c row (set w i y) (length-set w i y ∙ m .long)
+      then scale (sign p) (dot-gain weights w i y e (m .within) (m .gained)) then of-eq out
       then add (symm (dot-differenced p h c row w (m .long))) (f j))
 
 -- the weights of row j at index k of a parity
@@ -80,7 +84,7 @@ weight-at : (p : Parameters) (c : Bool) (j : ℕ) {i i′ x : ℕ} (e : ℕ) →
 weight-at p c j e f g = ap (λ (i : ℕ). rowWeight p c j i * e) f ∙ ap (λ (x : ℕ). x * e) g
 
 pub weight-times : (p : Parameters) → 1 ≤ p .q → (c b : Bool) (k e j : ℕ) → e ≤ p .q
-    → Congruent (p .q) (rowWeight p c j (index b k) * e) (times p c b (gainBy p e) * columnEntry p j (columnOf c b k))
+    → Congruent (p .q) (rowWeight p c j (index b k) * e) (times p c b e * columnEntry p j (columnOf c b k))
 weight-times p h true true k e j l =
     of-eq (weight-at p true j e (index-odd k) (weight-first-odd p (checkRow p j) k)) then less (p .q) (entry p j k) e h l
 weight-times p h true false k e j l =
@@ -92,8 +96,30 @@ weight-times p h false true k e j l =
 weight-times p h false false k e j l =
     of-eq (weight-at p false j e (index-even k) (weight-second-even p (checkRow p j) k)) then less (p .q) (entry p j k) e h l
 
+-- the sign by what the components gain
+pub gain-small : (p : Parameters) (e : ℕ) → e ≤ p .q → gainBy p e ≤ p .q
+gain-small p e l = go (p .edition)
+  where
+    go : (o : Edition) → gainBy (inEdition o p) e ≤ p .q
+    go edition13 = l
+    go edition18 = omega arith
+
+pub sign-gain : (p : Parameters) (e : ℕ) → 1 ≤ p .q → e ≤ p .q → Congruent (p .q) (sign p * e) (gainBy p e)
+sign-gain p e h l = go (p .edition)
+  where
+    go : (o : Edition) → Congruent (p .q) (sign (inEdition o p) * e) (gainBy (inEdition o p) e)
+    go edition13 = of-eq (one-mul e)
+    go edition18 =
+        let f : (p .q - 1) * e ≡ (p .q - 1) * 1 * e = omega arith in
+        let g : (p .q - e) * 1 ≡ p .q - e = omega arith in
+        of-eq f then less (p .q) 1 e h l then of-eq g
+
 pub moved-side : {p : Parameters} → 1 ≤ p .q → {w S : List ℕ} (c b : Bool) {k y e : ℕ} → Gain p w b k y e → Rows p (differenced p c w) S
     → Rows p (differenced p c (set w (index b k) y)) (movedOf p c b k (gainBy p e) S)
 unfolding movedOf
 moved-side {p} h c b {k} {y} {e} m r =
-    moved-by h m c (times p c b (gainBy p e)) (columnOf c b k) (λ j. weight-times p h c b k e j (m .small)) r
+    moved-by h m c (times p c b (gainBy p e)) (columnOf c b k)
+    (λ j.
+    scale (rowWeight p c j (index b k)) (sign-gain p e h (m .small))
+    then weight-times p h c b k (gainBy p e) j (gain-small p e (m .small)))
+    r

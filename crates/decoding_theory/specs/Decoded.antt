@@ -2,7 +2,7 @@
 -- Assumes nothing.
 use mathlib.Core.Bool.{Bool, true, false, _&&_}
 use mathlib.Core.List.{List}
-use Prim.Native.Nat.{ℕ, suc, _+_, _%_}
+use Prim.Native.Nat.{ℕ, suc, _+_, _-_, _%_}
 use lib.Dec.{eqb, ltb}
 use lib.ListN.{getD, set}
 use lib.IntN.{ℤ, pos, negℤ, _-ℤ_}
@@ -10,7 +10,7 @@ use Rattle.modular_theory.specs.Residue.{remainder}
 use Rattle.modular_theory.specs.Level.{levelOf, isZero}
 use Rattle.modular_theory.specs.Search.{least}
 use Rattle.modular_theory.specs.Sum.{weight}
-use Rattle.code_theory.specs.Parameters.{Parameters, balancedLength, balancingValue}
+use Rattle.code_theory.specs.Parameters.{edition13, edition18, Parameters, balancedLength, balancingValue}
 use Rattle.code_theory.specs.Component.{message}
 use Rattle.code_theory.specs.Codeword.{alpha, beta, body, received}
 use Rattle.code_theory.specs.Reading.{Finding, correctionAt, clean, corrected, Reading, read, unreadable}
@@ -58,9 +58,9 @@ update true y f false = f false
 update false y f true = f true
 update false y f false = y
 
--- what the components gain, mod q, where a symbol of the body gains e
+-- what the components gain, mod q, where a symbol of the body gains e; in edition 18 they lose it
 abbrev pub gainBy : Parameters → ℕ → ℕ
-gainBy p e = e
+gainBy p e = elim (p .edition) [ edition13 ↦ e | edition18 ↦ p .q - e ]
 
 -- the sums once the symbol at index k of the parity b is e more, mod q, and the excess is a
 abbrev pub movedSums : Parameters → Bool → ℕ → ℕ → ℤ → Sums → Sums

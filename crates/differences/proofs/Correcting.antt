@@ -11,8 +11,7 @@ use lib.Dec.{T, eqb, ltb, ltb→lt, lt→ltb, eqb→eq}
 use lib.ListN.{length, getD, set, length-set}
 use lib.Seq.{getD-set-same, getD-set-other}
 use Rattle.modular_theory.proofs.Search.{and-intro, and-left, and-right, or-left, or-right, or-cases, eq-test, same-test, fails}
-use Rattle.modular.specs.Byte.{byteDifference}
-use Rattle.differences.specs.Overlaid.{overlaid, differenceAt, hasDifference, differencesAt, changedBy}
+use Rattle.differences.specs.Overlaid.{overlaid, differenceOf, differenceAt, hasDifference, differencesAt, changedBy}
 use Rattle.differences.proofs.Overlaying.{overlaid-same, overlaid-none, overlaid-more}
 use Rattle.differences.proofs.AfterFirst.{after-first, after-first-of, below-each}
 
@@ -21,10 +20,10 @@ abbrev ownOf : ℕ → ℕ → Bool
 ownOf i j = eqb j i && ltb 0 j
 
 -- x is x₀ with that one
-pub record OwnCorrected (q : ℕ) (w x₀ : List ℕ) (i y : ℕ) (x : List ℕ) : Type 0 where
-  pub is : x ≡ overlaid (ownOf i) (differenceAt q (set w i y)) x₀
+pub record OwnCorrected (backward : Bool) (q : ℕ) (w x₀ : List ℕ) (i y : ℕ) (x : List ℕ) : Type 0 where
+  pub is : x ≡ overlaid (ownOf i) (differenceAt backward q (set w i y)) x₀
 
-module _ (q : ℕ) (w x₀ : List ℕ) (i y : ℕ) where
+module _ (backward : Bool) (q : ℕ) (w x₀ : List ℕ) (i y : ℕ) where
   abbrev sent : List ℕ
   sent = set w i y
 
@@ -35,30 +34,31 @@ module _ (q : ℕ) (w x₀ : List ℕ) (i y : ℕ) where
   is-own j t = (eqb→eq j i (and-left (eqb j i) (ltb 0 j) t), ltb→lt 0 j (and-right (eqb j i) (ltb 0 j) t))
 
   -- there is none where i is the first
-  pub own-none : i ≤ 0 → OwnCorrected q w x₀ i y x₀
+  pub own-none : i ≤ 0 → OwnCorrected backward q w x₀ i y x₀
   own-none h =
       record {
         is =
-            overlaid-none own (differenceAt q sent) x₀
+            overlaid-none own (differenceAt backward q sent) x₀
             (λ j. fails (λ t. let (e, some) = is-own j t in not-suc-le-zero {n = 0} (omega (arith, e, some))));
       }
 
-  pub own-corrected : 0 < i → i < length w → {d : ℕ} → d ≡ byteDifference q y (getD w (i - 1) 0) → OwnCorrected q w x₀ i y (set x₀ i d)
+  pub own-corrected : 0 < i → i < length w → {d : ℕ} → d ≡ differenceOf backward q (getD w (i - 1) 0) y
+      → OwnCorrected backward q w x₀ i y (set x₀ i d)
   own-corrected h l {d} e =
       record {
         is =
-            ap₂ (λ (x : List ℕ) (k : ℕ). set x i k) (overlaid-none none (differenceAt q sent) x₀ (λ j. refl)) (e ∙ same)
-            ∙ overlaid-more none own (differenceAt q sent) x₀ i (and-intro (eqb i i) (ltb 0 i) (eq-test {a = i} refl) (lt→ltb 0 i h))
-            (λ j n. sym (fails (λ t. n (is-own j t .0))));
+            ap₂ (λ (x : List ℕ) (k : ℕ). set x i k) (overlaid-none none (differenceAt backward q sent) x₀ (λ j. refl)) (e ∙ same)
+            ∙ overlaid-more none own (differenceAt backward q sent) x₀ i
+            (and-intro (eqb i i) (ltb 0 i) (eq-test {a = i} refl) (lt→ltb 0 i h)) (λ j n. sym (fails (λ t. n (is-own j t .0))));
       }
     where
       none : ℕ → Bool
       none j = false
 
-      same : byteDifference q y (getD w (i - 1) 0) ≡ differenceAt q sent i
+      same : differenceOf backward q (getD w (i - 1) 0) y ≡ differenceAt backward q sent i
       same =
-          ap₂ (byteDifference q) (sym (getD-set-same w i y 0 l))
-          (sym (getD-set-other w i (i - 1) y 0 (λ z. not-suc-le-zero {n = 0} (omega (arith, z, h)))))
+          ap₂ (differenceOf backward q) (sym (getD-set-other w i (i - 1) y 0 (λ z. not-suc-le-zero {n = 0} (omega (arith, z, h)))))
+          (sym (getD-set-same w i y 0 l))
 
   module _ (m : ℕ) {end : ℕ} (f : end ≡ min (min m 97) (length w)) where
     -- all that change
@@ -109,10 +109,10 @@ module _ (q : ℕ) (w x₀ : List ℕ) (i y : ℕ) where
         (c .which)
 
     -- none where the symbol is none of the first m
-    pub none-corrected : end ≤ i → x₀ ≡ differencesAt (changedBy i (min m 97)) q sent x₀
+    pub none-corrected : end ≤ i → x₀ ≡ differencesAt (changedBy i (min m 97)) backward q sent x₀
     unfolding differencesAt
     none-corrected h =
-        overlaid-none changed (differenceAt q sent) x₀
+        overlaid-none changed (differenceAt backward q sent) x₀
         (λ j. fails (λ t. past j (is-changed j t)))
       where
         past : (j : ℕ) → Touched j → ⊥
@@ -121,25 +121,27 @@ module _ (q : ℕ) (w x₀ : List ℕ) (i y : ℕ) where
             not-suc-le-zero {n = 0} (omega (arith, h, c .inside))
 
     -- no other than its own where it is the last
-    pub next-none : i < end → end ≤ i + 1 → {x : List ℕ} → OwnCorrected q w x₀ i y x → x ≡ differencesAt (changedBy i (min m 97)) q sent x₀
+    pub next-none : i < end → end ≤ i + 1 → {x : List ℕ} → OwnCorrected backward q w x₀ i y x
+        → x ≡ differencesAt (changedBy i (min m 97)) backward q sent x₀
     unfolding differencesAt
     next-none l h {x} e =
-        e .is ∙ overlaid-same own changed (differenceAt q sent) x₀
+        e .is ∙ overlaid-same own changed (differenceAt backward q sent) x₀
         (λ j. same-test (own j) (changed j) (own-changed l j)
         (λ t. changed-own j (λ z. not-suc-le-zero {n = 0} (omega (arith, z, h, is-changed j t .inside))) t))
 
-    pub next-corrected : i < end → i + 1 < end → {x : List ℕ} → OwnCorrected q w x₀ i y x
-        → {d : ℕ} → d ≡ byteDifference q (getD w (i + 1) 0) y → set x (i + 1) d ≡ differencesAt (changedBy i (min m 97)) q sent x₀
+    pub next-corrected : i < end → i + 1 < end → {x : List ℕ} → OwnCorrected backward q w x₀ i y x
+        → {d : ℕ} → d ≡ differenceOf backward q y (getD w (i + 1) 0)
+        → set x (i + 1) d ≡ differencesAt (changedBy i (min m 97)) backward q sent x₀
     unfolding differencesAt
     next-corrected l h {x} e {d} g =
         let next : Touched (i + 1) = record { which = inr (omega arith); some = omega arith; inside = h } in
         ap₂ (λ (x : List ℕ) (k : ℕ). set x (i + 1) k) (e .is) (g ∙ same)
-        ∙ overlaid-more own changed (differenceAt q sent) x₀ (i + 1) (changed-of (i + 1) next)
+        ∙ overlaid-more own changed (differenceAt backward q sent) x₀ (i + 1) (changed-of (i + 1) next)
         (λ j n. same-test (own j) (changed j) (own-changed l j) (changed-own j (λ z. n (omega (arith, z)))))
       where
-        same : byteDifference q (getD w (i + 1) 0) y ≡ differenceAt q sent (i + 1)
+        same : differenceOf backward q y (getD w (i + 1) 0) ≡ differenceAt backward q sent (i + 1)
         same =
             let long : i < length w = le-trans l (rw f (min-le-right (min m 97) (length w))) in
             let back : i + 1 - 1 ≡ i = omega arith in
-            ap₂ (byteDifference q) (sym (getD-set-other w i (i + 1) y 0 (λ z. not-suc-le-zero {n = 0} (omega (arith, z)))))
-            (sym (ap (λ (k : ℕ). getD sent k 0) back ∙ getD-set-same w i y 0 long))
+            ap₂ (differenceOf backward q) (sym (ap (λ (k : ℕ). getD sent k 0) back ∙ getD-set-same w i y 0 long))
+            (sym (getD-set-other w i (i + 1) y 0 (λ z. not-suc-le-zero {n = 0} (omega (arith, z)))))

@@ -19,25 +19,25 @@ abbrev upTo : ℕ → ℕ → Bool
 upTo i j = ltb 0 j && ltb j i
 
 -- x is x₀ with the differences of w at those indices
-pub record DifferencedTo (q : ℕ) (w x₀ : List ℕ) (i : ℕ) (x : List ℕ) : Type 0 where
-  pub is : x ≡ overlaid (upTo i) (differenceAt q w) x₀
+pub record DifferencedTo (backward : Bool) (q : ℕ) (w x₀ : List ℕ) (i : ℕ) (x : List ℕ) : Type 0 where
+  pub is : x ≡ overlaid (upTo i) (differenceAt backward q w) x₀
 
-module _ {q : ℕ} {w x₀ : List ℕ} where
-  pub differenced-none : DifferencedTo q w x₀ 1 x₀
+module _ {backward : Bool} {q : ℕ} {w x₀ : List ℕ} where
+  pub differenced-none : DifferencedTo backward q w x₀ 1 x₀
   differenced-none =
       record {
         is =
-            overlaid-none (upTo 1) (differenceAt q w) x₀
+            overlaid-none (upTo 1) (differenceAt backward q w) x₀
             (λ j. fails (λ t. let (some, first) = after-first 1 j t in not-suc-le-zero {n = 0} (omega (arith, some, first))));
       }
 
-  pub differenced-more : {x : List ℕ} {i : ℕ} → DifferencedTo q w x₀ i x → 1 ≤ i
-      → {d : ℕ} → d ≡ differenceAt q w i → DifferencedTo q w x₀ (i + 1) (set x i d)
+  pub differenced-more : {x : List ℕ} {i : ℕ} → DifferencedTo backward q w x₀ i x → 1 ≤ i
+      → {d : ℕ} → d ≡ differenceAt backward q w i → DifferencedTo backward q w x₀ (i + 1) (set x i d)
   differenced-more {x} {i} e h {d} f =
       record {
         is =
             ap₂ (λ (y : List ℕ) (k : ℕ). set y i k) (e .is) f
-            ∙ overlaid-more (upTo i) (upTo (i + 1)) (differenceAt q w) x₀ i
+            ∙ overlaid-more (upTo i) (upTo (i + 1)) (differenceAt backward q w) x₀ i
             (after-first-of (i + 1) i h (omega arith)) (λ j n. same-test (upTo i j) (upTo (i + 1) j) (on j) (off j n));
       }
     where
@@ -48,11 +48,11 @@ module _ {q : ℕ} {w x₀ : List ℕ} where
       off j n t = let (some, l) = after-first (i + 1) j t in after-first-of i j some (omega (arith, l, n))
 
   -- all of the first m
-  pub differenced-all : (m : ℕ) {x : List ℕ} {i end : ℕ} → DifferencedTo q w x₀ i x → end ≡ min (min m 97) (length w)
-      → end ≤ i → i - 1 ≤ end - 1 → x ≡ differencesAt (λ j. ltb j (min m 97)) q w x₀
+  pub differenced-all : (m : ℕ) {x : List ℕ} {i end : ℕ} → DifferencedTo backward q w x₀ i x → end ≡ min (min m 97) (length w)
+      → end ≤ i → i - 1 ≤ end - 1 → x ≡ differencesAt (λ j. ltb j (min m 97)) backward q w x₀
   unfolding differencesAt
   differenced-all m {x} {i} {end} e f h last =
-      e .is ∙ overlaid-same (upTo i) (λ j. ltb j (min m 97) && hasDifference w j) (differenceAt q w) x₀
+      e .is ∙ overlaid-same (upTo i) (λ j. ltb j (min m 97) && hasDifference w j) (differenceAt backward q w) x₀
       (λ j. same-test (upTo i j) (ltb j (min m 97) && hasDifference w j) (on j) (off j))
     where
       on : (j : ℕ) → T (upTo i j) → T (ltb j (min m 97) && hasDifference w j)

@@ -11,7 +11,7 @@ use lib.Seq.{getD-take, take-take, ext-getD, length-take-le}
 use Rattle.modular_theory.specs.Sum.{weight}
 use Rattle.modular_theory.proofs.Residue.{of-eq, same, add, reduce, _then_}
 use Rattle.code_theory.specs.Balance.{integrate}
-use Rattle.code_theory.proofs.Choice.{length-integrate}
+use Rattle.code_theory.proofs.Shifted.{length-integrate}
 use Rattle.modular.specs.Remainder.{residuesOf}
 use Rattle.modular.proofs.Filling.{FilledTo, filled-none, filled-more}
 use Rattle.modular.proofs.Dividing.{residue-is, residue-at, residues-long}

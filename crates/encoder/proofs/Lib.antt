@@ -3,6 +3,8 @@ pub mod Integrating
 pub mod Raising
 pub mod Stepping
 pub mod Searching
+pub mod Complementing
+pub mod Editions
 -- The word
 pub mod Writing
 -- The writer

@@ -5,7 +5,7 @@ use mathlib.Core.Logic.{⊎-elim}
 use mathlib.Core.Bool.{Bool, true, false}
 use mathlib.Core.List.{List, [], _∷_}
 use Prim.Native.Nat.{ℕ, zero, suc, _+_, _%_, _≤_, _<_}
-use native.Mathlib.Nat.{not-suc-le-zero, le-of-suc-le-suc}
+use native.Mathlib.Nat.{not-suc-le-zero, le-of-suc-le-suc, mod-lt}
 use native.Mathlib.Numerals.{add-one}
 use native.Mathlib.Omega.{arith}
 use lib.ListN.{length, getD, take}
@@ -74,3 +74,14 @@ raised-is {q} {s} {from} {d} {w} m symbols room r lw =
     (λ (u : from ≤ k). rw (rise-high from s k u, ← getD-take m d k 0 g) (sym (shifted-after q s from (take m d) k j u)))
     (λ (u : k < from). rw (rise-low from s k u, ← getD-take m d k 0 g) (sym (shifted-before q s from (take m d) k j u)))
     (le-or-lt from k))
+
+-- a raised array holds symbols
+pub raised-symbols : {q s from : ℕ} {d w : List ℕ} → SymbolArray q 97 d → Raised q d s from w → length w ≡ 97 → SymbolArray q 97 w
+raised-symbols {q} {s} {from} {d} symbols r n =
+    record {
+      size = n;
+      some = symbols .some;
+      levels = symbols .levels;
+      room = symbols .room;
+      below = λ i h. rw (r .at i h) (mod-lt (getD d i 0 + riseAt from s i) (symbols .some));
+    }

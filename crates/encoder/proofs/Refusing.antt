@@ -7,7 +7,7 @@ use Prim.Native.Nat.{ℕ, zero, suc}
 use lib.ListN.{length}
 use Rattle.code_theory.specs.Codeword.{encoded}
 use Rattle.code_theory.proofs.Refusal.{kept, wrote}
-use Rattle.code_theory.specs.Profiles.{profile}
+use Rattle.code_theory.specs.Profiles.{profileIn}
 use Rattle.code_theory.specs.Operations.{refusedBy, outcome, encodeRefusal, encodeOutput}
 
 -- a call that a number refuses
@@ -18,10 +18,11 @@ some-outcome (suc n) d = refl
 pub refused-outcome : {k n : ℕ} → k ≡ n → k ≢ 0 → refusedBy k ≡ outcome n
 refused-outcome {k} {n} e d = ap refusedBy e ∙ some-outcome n (λ z. d (e ∙ z))
 
-pub output-kept : (i : ℕ) (a b out : List ℕ) {k : ℕ} → k ≡ encodeRefusal i a b (length out) → k ≢ 0 → out ≡ encodeOutput i a b out
+pub output-kept : (e i : ℕ) (a b out : List ℕ) {k : ℕ} → k ≡ encodeRefusal e i a b (length out) → k ≢ 0 → out ≡ encodeOutput e i a b out
 unfolding encodeOutput
-output-kept i a b out e d = kept (encodeRefusal i a b (length out)) (encoded (profile i) a b) out (λ z. d (e ∙ z))
+output-kept e i a b out f d = kept (encodeRefusal e i a b (length out)) (encoded (profileIn e i) a b) out (λ z. d (f ∙ z))
 
-pub output-done : (i : ℕ) (a b out : List ℕ) → 0 ≡ encodeRefusal i a b (length out) → encoded (profile i) a b ≡ encodeOutput i a b out
+pub output-done : (e i : ℕ) (a b out : List ℕ) → 0 ≡ encodeRefusal e i a b (length out)
+    → encoded (profileIn e i) a b ≡ encodeOutput e i a b out
 unfolding encodeOutput
-output-done i a b out e = wrote (encodeRefusal i a b (length out)) (encoded (profile i) a b) out (sym e)
+output-done e i a b out f = wrote (encodeRefusal e i a b (length out)) (encoded (profileIn e i) a b) out (sym f)

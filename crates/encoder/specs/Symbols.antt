@@ -2,13 +2,15 @@
 -- Assumes nothing.
 use mathlib.Core.Path.{_≡_}
 use mathlib.Core.Bool.{true, false}
-use mathlib.Core.List.{List}
+use mathlib.Core.List.{List, _∷_}
 use Prim.Native.Nat.{ℕ, suc, _+_, _-_, _%_, _≤_, _<_}
 use lib.Dec.{ltb}
-use lib.ListN.{length, getD, take}
+use lib.ListN.{length, getD, take, drop}
 use Rattle.modular_theory.specs.Sum.{weight}
+use Rattle.modular_theory.specs.Residue.{Congruent}
 use Rattle.code_theory.specs.Parameters.{Parameters}
-use Rattle.code_theory.specs.Balance.{shiftedFrom, integrated, balanced}
+use Rattle.code_theory.specs.Balance.{shiftedFrom, balanced}
+use Rattle.code_theory.specs.Walk.{walked, unwalked}
 
 -- the first m of x's 97 symbols are below q, and q is small enough that sums of two symbols fit a byte
 pub record SymbolArray (q m : ℕ) (x : List ℕ) : Type 0 where
@@ -22,17 +24,22 @@ pub record SymbolArray (q m : ℕ) (x : List ℕ) : Type 0 where
 pub record PrefixSums (m : ℕ) (x sums : List ℕ) : Type 0 where
   pub at : (i : ℕ) → i < m → getD sums i 0 ≡ weight (take (suc i) x)
 
--- d is the integral of a word
-pub record Integral (p : Parameters) (d : List ℕ) : Type 0 where
-  pub of : List ℕ
-  pub is : d ≡ integrated p of
+-- x begins with 0, and its other symbols sum to 0 mod q, as those of components in code do
+pub record ZeroFirst (q : ℕ) (x : List ℕ) : Type 0 where
+  pub zero : x ≡ 0 ∷ drop 1 x
+  pub sum : Congruent q (weight (drop 1 x)) 0
 
--- raised by s, and by 1 more from position v on, d is w of the choice used, for every word whose integral d is
+-- d is the word that the choices for some x shift
+pub record Walked (p : Parameters) (d : List ℕ) : Type 0 where
+  pub of : List ℕ
+  pub is : d ≡ walked p of
+
+-- raised by s, and by 1 more from position v on, d gives w of the choice used, for every x whose choices shift d
 pub record Chosen (p : Parameters) (d : List ℕ) (s v : ℕ) : Type 0 where
   pub below : s < p .q
   pub from : 1 ≤ v
   pub upto : v ≤ length d
-  pub word : (x : List ℕ) → d ≡ integrated p x → shiftedFrom (p .q) s (v - 1) d ≡ balanced p x
+  pub word : (x : List ℕ) → d ≡ walked p x → unwalked p (shiftedFrom (p .q) s (v - 1) d) ≡ balanced p x
 
 -- s, and 1 more from an index on
 abbrev pub riseAt : ℕ → ℕ → ℕ → ℕ

@@ -4,9 +4,11 @@ mod pair;
 mod word;
 
 use pair::word_of;
+use profiles::EditionLookup;
 use profiles::Lookup;
+use profiles::edition_of;
 use profiles::encode_refusal;
-use profiles::row_of;
+use profiles::row_in;
 use word::put;
 ghost use Rattle.encoder.specs.Answer.{EncodeAllows};
 
@@ -16,11 +18,21 @@ pub enum Encoded {
     Refused(u8),
 }
 
-// 01: Write. The word of two messages, in a profile from 1 to 4.
-pub fn encode(profile: usize, first: &[u8], second: &[u8], out: &mut [u8]) -> Encoded
-    ensures { λ r. ⌜ EncodeAllows profile (now (first .entry)) (now (second .entry)) r (now (out .entry)) (now (out .exit)) ⌝ }
+// 01: Write. The word of two messages, in edition 13 or 18 (02, T-03) and a profile from 1 to 4.
+pub fn encode(
+    edition: usize,
+    profile: usize,
+    first: &[u8],
+    second: &[u8],
+    out: &mut [u8],
+) -> Encoded
+    ensures { λ r. ⌜
+        EncodeAllows edition profile (now (first .entry)) (now (second .entry)) r (now (out .entry)) (now (out .exit)) ⌝ }
 {
-    let Lookup::Found(row) = row_of(profile) else {
+    let EditionLookup::Known(known) = edition_of(edition) else {
+        return Encoded::Refused(12);
+    };
+    let Lookup::Found(row) = row_in(known, profile) else {
         return Encoded::Refused(1);
     };
     let number = encode_refusal(row, first, second, out.len());

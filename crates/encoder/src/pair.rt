@@ -7,19 +7,21 @@ use profiles::Row;
 ghost use mathlib.Core.Path.{_≡_};
 ghost use lib.Dec.{T};
 ghost use lib.ListN.{take};
-ghost use Rattle.code_theory.specs.Parameters.{messageLength, codewordLength};
+ghost use Rattle.code_theory.specs.Parameters.{inEdition, messageLength, codewordLength};
 ghost use Rattle.code_theory.specs.Component.{isWord};
 ghost use Rattle.code_theory.specs.Profiles.{profile};
 ghost use Rattle.code_theory.specs.Codeword.{encoded};
+ghost use Rattle.profiles.specs.Edition.{editionIs};
 ghost use Rattle.profiles.specs.Row.{RowOf};
 
-// 01: the line word of a pair of user words, by their profile's row and number.
+// 01: the line word of a pair of user words, by their profile's row, in an edition, and number.
 pub(crate) fn word_of(row: Row, number: usize, first: &[u8], second: &[u8]) -> Word
     requires { ⌜
-        RowOf number row × T (isWord (profile number .q) (messageLength (profile number)) (now first))
+        RowOf (editionIs (row .edition)) number row × T (isWord (profile number .q) (messageLength (profile number)) (now first))
         × T (isWord (profile number .q) (messageLength (profile number)) (now second)) ⌝ }
     ensures { λ u. ⌜
-        (take (u .len) (u .symbols) ≡ encoded (profile number) (now (first .entry)) (now (second .entry)))
+        (take (u .len) (u .symbols)
+        ≡ encoded (inEdition (editionIs (row .edition)) (profile number)) (now (first .entry)) (now (second .entry)))
         × (u .len ≡ codewordLength (profile number)) ⌝ }
 {
     let x = components(number, first, second);

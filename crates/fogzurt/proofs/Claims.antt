@@ -19,6 +19,7 @@ header-bytes =
       unreadable-all-tried = refl;
       wrong-symbol = refl;
       many-erasures = refl;
+      no-edition = refl;
     }
 
 pub claims : Claims

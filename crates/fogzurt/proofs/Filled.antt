@@ -15,7 +15,7 @@ use Rattle.code_theory.specs.Erasures.{erasures, firstFilling}
 use Rattle.code_theory.specs.Reading.{clean, corrected, filled, changesAt, changedAt}
 use Rattle.code_theory.specs.Reading.{reading, nearReading, filledReading, receivedReading}
 use Rattle.code_theory.specs.TriedPositions.{triedPositions}
-use Rattle.code_theory.specs.Profiles.{profile}
+use Rattle.code_theory.specs.Profiles.{profileIn}
 use Rattle.code_theory.specs.Operations.{Report, refusal, failure, success, answered, report, readUnless, decodeTests, decodeAnswer}
 use Rattle.code_theory.proofs.Refusal.{passed-every}
 use Rattle.code_theory.proofs.Merge.{cases}
@@ -56,16 +56,16 @@ received-fills p k v g =
     cases (eqb (erasures v) 0) (λ t. rw (t, receivedReading) (reading-fills p (erasures v) k v))
     (λ t. rw (t, receivedReading) (filled-fills p k v (omega (arith, eqb-false (erasures v) 0 t)) g))
 
-pub decode-fills : (i : ℕ) (u : List ℕ) (k l : ℕ) → FillsAll (erasures u) (report (decodeAnswer i u k l))
+pub decode-fills : (o i : ℕ) (u : List ℕ) (k l : ℕ) → FillsAll (erasures u) (report (decodeAnswer o i u k l))
 unfolding decodeAnswer
-decode-fills i u k l = go (firstRefusal (decodeTests i u k l)) refl
+decode-fills o i u k l = go (firstRefusal (decodeTests o i u k l)) refl
   where
     tried : ℕ
-    tried = triedPositions (profile i) u
+    tried = triedPositions (profileIn o i) u
 
-    go : (n : ℕ) → firstRefusal (decodeTests i u k l) ≡ n
-        → FillsAll (erasures u) (report (readUnless n (receivedReading (profile i) u) tried))
+    go : (n : ℕ) → firstRefusal (decodeTests o i u k l) ≡ n
+        → FillsAll (erasures u) (report (readUnless n (receivedReading (profileIn o i) u) tried))
     go zero e =
-        let (known, (lengths, (received, (few, end)))) = passed-every (decodeTests i u k l) tt e in
-        received-fills (profile i) tried u (leb→le _ _ few)
+        let (edition, (known, (lengths, (received, (few, end))))) = passed-every (decodeTests o i u k l) tt e in
+        received-fills (profileIn o i) tried u (leb→le _ _ few)
     go (suc n) e = tt

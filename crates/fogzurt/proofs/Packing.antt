@@ -62,8 +62,8 @@ within (refused k) s = refused-within k 0 s (lit≤ tt)
 within (answered unreadable t) s = refused-within 4 t (lit≤ tt) s
 within (answered (read f a b) t) s = found-within f t (s .0) (s .1)
 
-pub within-answer : (i : ℕ) (u : List ℕ) (k l : ℕ) → Within (partsOf (report (decodeAnswer i u k l)))
-within-answer i u k l = within (decodeAnswer i u k l) (decode-small i u k l)
+pub within-answer : (o i : ℕ) (u : List ℕ) (k l : ℕ) → Within (partsOf (report (decodeAnswer o i u k l)))
+within-answer o i u k l = within (decodeAnswer o i u k l) (decode-small o i u k l)
 
 -- each number of the list is a byte
 abbrev AllBytes : List ℕ → Type 0
@@ -106,9 +106,9 @@ tells e (success (filled (x ∷ y ∷ z ∷ cs)) t) c f is = omega (arith, f .0,
 
 pub unpacks : Unpacks
 unfolding packed
-unpacks i u r first first′ second second′ a =
+unpacks o i u r first first′ second second′ a =
     let k = length first in
     let l = length second in
-    let told = report (decodeAnswer i u k l) in
-    let back : unpacked r ≡ partsOf told = ap unpacked (a .answer) ∙ parts-back (partsOf told) (within-answer i u k l) in
-    (tells (erasures u) told (unpacked r) (decode-fills i u k l) back, a .first-out, a .second-out)
+    let told = report (decodeAnswer o i u k l) in
+    let back : unpacked r ≡ partsOf told = ap unpacked (a .answer) ∙ parts-back (partsOf told) (within-answer o i u k l) in
+    (tells (erasures u) told (unpacked r) (decode-fills o i u k l) back, a .first-out, a .second-out)

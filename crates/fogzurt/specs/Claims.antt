@@ -39,8 +39,8 @@ Tells e (success (filled (x ∷ y ∷ z ∷ cs)) t) c = ⊥
 -- so C gets every part of decode's answer back, and its outputs
 abbrev pub Unpacks : Type 0
 Unpacks =
-    (i : ℕ) (u : List ℕ) (r : ℕ) (first first′ second second′ : List ℕ) → PackedAllows i u r first first′ second second′
-    → let a = decodeAnswer i u (length first) (length second) in
+    (o i : ℕ) (u : List ℕ) (r : ℕ) (first first′ second second′ : List ℕ) → PackedAllows o i u r first first′ second second′
+    → let a = decodeAnswer o i u (length first) (length second) in
     Tells (erasures u) (report a) (unpacked r) × (first′ ≡ decodeOutput true a first) × (second′ ≡ decodeOutput false a second)
 
 -- as include/fogzurt.h has the bytes: number, kind, position, symbol, second position, second symbol, error, tried
@@ -57,6 +57,7 @@ pub record HeaderBytes : Type 0 where
   pub unreadable-all-tried : packed (failure 49) ≡ 4 + 49 * 72057594037927936
   pub wrong-symbol : packed (refusal 3) ≡ 3
   pub many-erasures : packed (refusal 11) ≡ 11
+  pub no-edition : packed (refusal 12) ≡ 12
 
 pub record Claims : Type 0 where
   pub unpacks : Unpacks

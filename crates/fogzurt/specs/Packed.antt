@@ -79,12 +79,12 @@ bytes p = p .number ∷ p .kind ∷ p .position ∷ p .symbol ∷ p .secondPosit
 unfoldable pub packed : Report → ℕ
 packed a = joined (bytes (partsOf a))
 
--- what fogzurt_decode may answer to the word u in profile i: r, and the outputs, that held `first` and `second` and now hold `first′`
--- and `second′`
-pub record PackedAllows (i : ℕ) (u : List ℕ) (r : ℕ) (first first′ second second′ : List ℕ) : Type 0 where
-  pub answer : r ≡ packed (report (decodeAnswer i u (length first) (length second)))
-  pub first-out : first′ ≡ decodeOutput true (decodeAnswer i u (length first) (length second)) first
-  pub second-out : second′ ≡ decodeOutput false (decodeAnswer i u (length first) (length second)) second
+-- what fogzurt_decode may answer to the word u in edition o and profile i: r, and the outputs, that held `first` and `second` and now hold
+-- `first′` and `second′`
+pub record PackedAllows (o i : ℕ) (u : List ℕ) (r : ℕ) (first first′ second second′ : List ℕ) : Type 0 where
+  pub answer : r ≡ packed (report (decodeAnswer o i u (length first) (length second)))
+  pub first-out : first′ ≡ decodeOutput true (decodeAnswer o i u (length first) (length second)) first
+  pub second-out : second′ ≡ decodeOutput false (decodeAnswer o i u (length first) (length second)) second
 
 -- what the macros of include/fogzurt.h take out
 abbrev pub unpacked : ℕ → Parts

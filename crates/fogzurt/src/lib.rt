@@ -24,11 +24,17 @@ const FILLED: u8 = 3;
 
 // 01: Write.
 #[no_mangle]
-pub extern "C" fn fogzurt_encode(profile: usize, first: &[u8], second: &[u8], out: &mut [u8]) -> u64
-    ensures { λ r. ⌜ r ≡ encodeRefusal profile (now (first .entry)) (now (second .entry)) (length (now (out .entry))) ⌝ }
-    ensures { λ r. ⌜ now (out .exit) ≡ encodeOutput profile (now (first .entry)) (now (second .entry)) (now (out .entry)) ⌝ }
+pub extern "C" fn fogzurt_encode(
+    edition: usize,
+    profile: usize,
+    first: &[u8],
+    second: &[u8],
+    out: &mut [u8],
+) -> u64
+    ensures { λ r. ⌜ r ≡ encodeRefusal edition profile (now (first .entry)) (now (second .entry)) (length (now (out .entry))) ⌝ }
+    ensures { λ r. ⌜ now (out .exit) ≡ encodeOutput edition profile (now (first .entry)) (now (second .entry)) (now (out .entry)) ⌝ }
 {
-    encode_number(encoder::encode(profile, first, second, out))
+    encode_number(encoder::encode(edition, profile, first, second, out))
 }
 
 fn encode_number(answer: Encoded) -> u64
@@ -43,16 +49,17 @@ fn encode_number(answer: Encoded) -> u64
 // 01: Read.
 #[no_mangle]
 pub extern "C" fn fogzurt_decode(
+    edition: usize,
     profile: usize,
     word: &[u8],
     first: &mut [u8],
     second: &mut [u8],
 ) -> u64
     ensures { λ r. ⌜
-        PackedAllows profile (now (word .entry)) r
+        PackedAllows edition profile (now (word .entry)) r
         (now (first .entry)) (now (first .exit)) (now (second .entry)) (now (second .exit)) ⌝ }
 {
-    pack(decoder::decode(profile, word, first, second))
+    pack(decoder::decode(edition, profile, word, first, second))
 }
 
 // The eight bytes of an answer, the number lowest.

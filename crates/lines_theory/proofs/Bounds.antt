@@ -28,7 +28,7 @@ use Rattle.code_theory.specs.Reading.{Change, Finding, correctionAt, clean, cor
 use Rattle.code_theory.specs.Reading.{Reading, read, unreadable, readAs, reading, nearReading, filledReading, receivedReading}
 use Rattle.code_theory.specs.Reading.{mends, changedAt, sentAt}
 use Rattle.code_theory.specs.TriedPositions.{triedPositions}
-use Rattle.code_theory.specs.Profiles.{profiles, isProfile, profile}
+use Rattle.code_theory.specs.Profiles.{profiles, isProfile, profile, profileIn}
 use Rattle.code_theory.specs.Operations.{Answer, refused, answered, decodeTests, readUnless, decodeAnswer}
 use Rattle.code_theory.proofs.Refusal.{AllPass, passed-every, number-most}
 use Rattle.code_theory.proofs.Weights.{differences-below}
@@ -166,26 +166,29 @@ small-reading n q (read f a b) t m h g s = (
 )
 small-reading n q unreadable t m h g s = m
 
-pub decode-small : (i : ℕ) (u : List ℕ) (k l : ℕ) → SmallAnswer (decodeAnswer i u k l)
+pub decode-small : (e i : ℕ) (u : List ℕ) (k l : ℕ) → SmallAnswer (decodeAnswer e i u k l)
 unfolding decodeAnswer
-decode-small i u k l = go (firstRefusal tests) refl
+decode-small e i u k l = go (firstRefusal tests) refl
   where
     tests : List Test
-    tests = decodeTests i u k l
+    tests = decodeTests e i u k l
+
+    p : Parameters
+    p = profileIn e i
 
     tried : ℕ
-    tried = triedPositions (profile i) u
+    tried = triedPositions p u
 
-    full : AllPass (decodeTests i u k l) → SmallAnswer (answered (receivedReading (profile i) u) tried)
-    full (known, (lengths, (symbols, rest))) =
-        let n = codewordLength (profile i) in
+    full : AllPass (decodeTests e i u k l) → SmallAnswer (answered (receivedReading p u) tried)
+    full (edition, (known, (lengths, (symbols, rest)))) =
+        let n = codewordLength p in
         let (few, some, low) = small-row i known in
-        let two = eqb (length u) n && eqb k (messageLength (profile i)) in
+        let two = eqb (length u) n && eqb k (messageLength p) in
         let long : length u ≡ n = eqb→eq _ _ (and-left (eqb (length u) n) _ (and-left two _ lengths)) in
-        let small = received-small (profile i) some u symbols in
-        let count : tried ≤ 99 = omega (arith, counts-told (profile i) u .most) in
-        small-reading (length u) (profile i .q) (receivedReading (profile i) u) tried count (rw long few) low small
+        let small = received-small p some u symbols in
+        let count : tried ≤ 99 = omega (arith, counts-told p u .most) in
+        small-reading (length u) (p .q) (receivedReading p u) tried count (rw long few) low small
 
-    go : (n : ℕ) → firstRefusal tests ≡ n → SmallAnswer (readUnless n (receivedReading (profile i) u) tried)
-    go zero e = full (passed-every tests tt e)
-    go (suc n) e = subst (λ (m : ℕ). m ≤ 99) e (number-most 99 tests tt)
+    go : (n : ℕ) → firstRefusal tests ≡ n → SmallAnswer (readUnless n (receivedReading p u) tried)
+    go zero f = full (passed-every tests tt f)
+    go (suc n) f = subst (λ (m : ℕ). m ≤ 99) f (number-most 99 tests tt)

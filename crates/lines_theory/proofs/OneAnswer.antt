@@ -11,13 +11,13 @@ use borrow.Author.Tests.{ne-eqb}
 use Rattle.code_theory.specs.Parameters.{Parameters}
 use Rattle.code_theory.specs.Reading.{Change, Finding, clean, corrected, filled, changesOf, errorOf, read, unreadable, receivedReading}
 use Rattle.code_theory.specs.TriedPositions.{triedPositions}
-use Rattle.code_theory.specs.Profiles.{profile}
+use Rattle.code_theory.specs.Profiles.{profileIn}
 use Rattle.code_theory.specs.Refusal.{firstRefusal}
 use Rattle.code_theory.specs.Operations.{Answer, refused, answered, readUnless}
 use Rattle.code_theory.proofs.Merge.{cases}
 use Rattle.lines_theory.specs.Line.{digitByte, decimalBefore, decimal, signedDecimal, letter, refusalLine}
 use Rattle.lines_theory.specs.Line.{changesBefore, readingLine, answerLine, profileOf, symbolsOf}
-use Rattle.lines_theory.specs.Line.{lineTests, lineAnswer}
+use Rattle.lines_theory.specs.Line.{lineEdition, lineTests, lineAnswer}
 use Rattle.lines_theory.specs.Feed.{Partial, held, tooLong, answerTo, answerAtEnd, lineAfterAll, lineEnds, lastLines}
 use Rattle.lines_theory.specs.Claims.{OneAnswerEach}
 use Rattle.lines_theory.proofs.Whole.{outputFrom, output-whole, line-ends, line-grows}
@@ -83,7 +83,7 @@ ends-answer i (answered (read f a b) t) = ends-reading i f (changesOf f) (errorO
 ends-line : (l : List ℕ) → lineEnds (lineAnswer l) ≡ 1
 unfolding lineAnswer
 ends-line l =
-    let p : Parameters = profile (profileOf l) in
+    let p : Parameters = profileIn lineEdition (profileOf l) in
     ends-answer (profileOf l)
     (readUnless (firstRefusal (lineTests l)) (receivedReading p (symbolsOf l)) (triedPositions p (symbolsOf l)))
 

@@ -7,7 +7,7 @@ use lib.Dec.{leb, ltb, eqb}
 use lib.ListN.{length, getD, drop}
 use lib.IntN.{ℤ, pos, negsuc}
 use Rattle.code_theory.specs.Parameters.{Parameters, messageLength}
-use Rattle.code_theory.specs.Profiles.{profile}
+use Rattle.code_theory.specs.Profiles.{profile, profileIn}
 use Rattle.code_theory.specs.Component.{erasure}
 use Rattle.code_theory.specs.Refusal.{Test, asks, firstRefusal}
 use Rattle.code_theory.specs.Reading.{Change, Finding, clean, corrected, filled, changesOf, errorOf, read, unreadable, receivedReading}
@@ -102,12 +102,16 @@ answerLine i (refused n) = refusalLine n
 answerLine i (answered unreadable t) = refusalLine 4
 answerLine i (answered (read f a b) t) = readingLine i (letter f) (changesOf f) (errorOf f) a b
 
+-- 02, T-03: "boxlines and sheets stay with edition 13"
+abbrev pub lineEdition : ℕ
+lineEdition = 13
+
 -- Read, with outputs of the profile's length: what is tested, and what is answered
 abbrev pub readTests : ℕ → List ℕ → List Test
-readTests i u = decodeTests i u (messageLength (profile i)) (messageLength (profile i))
+readTests i u = decodeTests lineEdition i u (messageLength (profile i)) (messageLength (profile i))
 
 unfoldable pub readAnswer : ℕ → List ℕ → Answer
-readAnswer i u = decodeAnswer i u (messageLength (profile i)) (messageLength (profile i))
+readAnswer i u = decodeAnswer lineEdition i u (messageLength (profile i)) (messageLength (profile i))
 
 -- what is tested of a line: 9 for one not of the form or too long; then the order of Read
 abbrev pub lineTests : List ℕ → List Test
@@ -116,7 +120,7 @@ lineTests l = asks (isShort l && hasForm l) 9 ∷ readTests (profileOf l) (symbo
 -- the output for a line: the number n that refuses it, or what is read where n is 0
 abbrev pub lineUnless : ℕ → List ℕ → List ℕ
 lineUnless n l =
-    let p : Parameters = profile (profileOf l) in
+    let p : Parameters = profileIn lineEdition (profileOf l) in
     answerLine (profileOf l) (readUnless n (receivedReading p (symbolsOf l)) (triedPositions p (symbolsOf l)))
 
 -- 01: the answer to a line

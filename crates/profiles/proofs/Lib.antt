@@ -1,4 +1,5 @@
--- The table of profiles
+-- The editions, and the table of profiles
+pub mod Editions
 pub mod Table
 -- The symbols of a word
 pub mod Highest

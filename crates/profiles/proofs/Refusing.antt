@@ -1,7 +1,8 @@
--- By which of 01's numbers 1 to 3, and 02's 11, a call is refused: 1 where the number is no profile's, and by a profile's row 2 and 3, by a
--- test of the lengths and one of the symbols, and then 11. And what is known of a call that no number refuses.
+-- By which of 01's numbers 1 to 3, and 02's 11 and 12, a call is refused: 12 where the number is no edition's, 1 where it is no profile's,
+-- and by a profile's row 2 and 3, by a test of the lengths and one of the symbols, and then 11. And what is known of a call that none
+-- refuses.
 -- Assumes nothing.
-use mathlib.Core.Path.{_≡_, refl, sym, ap, _∙_}
+use mathlib.Core.Path.{_≡_, refl, sym, ap, ap₂, _∙_}
 use mathlib.Core.Logic.{_≢_}
 use mathlib.Core.Bool.{Bool, true, false, _&&_}
 use mathlib.Core.List.{List, [], _∷_}
@@ -11,10 +12,10 @@ use lib.Dec.{T, eqb, leb, eqb→eq}
 use lib.ListN.{length}
 use borrow.Author.Tests.{leb-true}
 use Rattle.modular_theory.proofs.Search.{eq-test, and-intro, and-left, and-right, passes}
-use Rattle.code_theory.specs.Parameters.{messageLength, codewordLength}
+use Rattle.code_theory.specs.Parameters.{isEdition, editionOf, Parameters, messageLength, codewordLength}
 use Rattle.code_theory.specs.Component.{symbolsBelow, levelsOrErasures, isWord}
 use Rattle.code_theory.specs.Erasures.{erasures, mostErasures}
-use Rattle.code_theory.specs.Profiles.{isProfile, profile}
+use Rattle.code_theory.specs.Profiles.{isProfile, profile, profileIn}
 use Rattle.code_theory.specs.Reading.{Reading, receivedReading}
 use Rattle.code_theory.specs.TriedPositions.{triedPositions}
 use Rattle.code_theory.specs.Refusal.{Test, asks, firstRefusal}
@@ -84,20 +85,24 @@ pub record Accepted (i : ℕ) (a b : List ℕ) (l : ℕ) : Type 0 where
   pub second : T (isWord (profile i .q) (messageLength (profile i)) b)
   pub room : l ≡ codewordLength (profile i)
 
-module _ (i : ℕ) (a b : List ℕ) (l : ℕ) where
+module _ (e i : ℕ) (a b : List ℕ) (l : ℕ) where
   abbrev messages : Bool
   messages = eqb (length a) (messageLength (profile i)) && eqb (length b) (messageLength (profile i)) && eqb l (codewordLength (profile i))
 
   abbrev levels : Bool
   levels = symbolsBelow (profile i .q) a && symbolsBelow (profile i .q) b
 
-  -- the number by the test of the profile
-  abbrev encodeBy : Bool → ℕ
-  encodeBy p = firstRefusal (asks p 1 ∷ asks messages 2 ∷ asks levels 3 ∷ [])
+  -- the number by the tests of the edition and of the profile
+  abbrev encodeBy : Bool → Bool → ℕ
+  encodeBy d p = firstRefusal (asks d 12 ∷ asks p 1 ∷ asks messages 2 ∷ asks levels 3 ∷ [])
 
-  pub encode-refused : isProfile i ≡ false → 1 ≡ encodeRefusal i a b l
+  pub encode-edition-refused : isEdition e ≡ false → 12 ≡ encodeRefusal e i a b l
   unfolding encodeRefusal
-  encode-refused e = ap encodeBy (sym e)
+  encode-edition-refused f = ap (λ (d : Bool). encodeBy d (isProfile i)) (sym f)
+
+  pub encode-profile-refused : isEdition e ≡ true → isProfile i ≡ false → 1 ≡ encodeRefusal e i a b l
+  unfolding encodeRefusal
+  encode-profile-refused f g = ap₂ encodeBy (sym f) (sym g)
 
   pub accepted-by : T messages → T levels → Accepted i a b l
   accepted-by fits below =
@@ -108,14 +113,14 @@ module _ (i : ℕ) (a b : List ℕ) (l : ℕ) where
         room = room;
       }
 
-  module _ {t : Row} (of : RowOf i t) where
+  module _ {t : Row} (known : isEdition e ≡ true) (of : RowOf (editionOf e) i t) where
     by-profile : encodeNumber t a b l ≡ numberBy messages levels []
     unfolding encodeNumber
     by-profile = rw (message-is of, codeword-is of, levels-are of)
 
-    pub encode-by-row : encodeNumber t a b l ≡ encodeRefusal i a b l
+    pub encode-by-row : encodeNumber t a b l ≡ encodeRefusal e i a b l
     unfolding encodeRefusal
-    encode-by-row = by-profile ∙ ap encodeBy (sym (passes {b = isProfile i} (of .known)))
+    encode-by-row = by-profile ∙ ap₂ encodeBy (sym known) (sym (passes {b = isProfile i} (of .known)))
 
     pub accepted : encodeNumber t a b l ≡ 0 → Accepted i a b l
     accepted z = let (fits, below, none) = all-pass messages levels [] (sym by-profile ∙ z) in accepted-by fits below
@@ -123,13 +128,13 @@ module _ (i : ℕ) (a b : List ℕ) (l : ℕ) where
 -- Decoding: the received word u, and outputs of k and l symbols.
 
 -- a call of decode that no number refuses: the word is read
-pub record Admitted (i : ℕ) (u : List ℕ) (k l : ℕ) : Type 0 where
+pub record Admitted (e i : ℕ) (u : List ℕ) (k l : ℕ) : Type 0 where
   pub word-long : length u ≡ codewordLength (profile i)
   pub first-long : k ≡ messageLength (profile i)
   pub second-long : l ≡ messageLength (profile i)
   pub received : T (levelsOrErasures (profile i .q) u)
   pub few : erasures u ≤ mostErasures (profile i)
-  pub read : decodeAnswer i u k l ≡ answered (receivedReading (profile i) u) (triedPositions (profile i) u)
+  pub read : decodeAnswer e i u k l ≡ answered (receivedReading (profileIn e i) u) (triedPositions (profileIn e i) u)
 
 unless-refused : (n : ℕ) (d : Reading) (t : ℕ) → n ≢ 0 → readUnless n d t ≡ refused n
 unless-refused zero d t h = absurd (h refl)
@@ -140,7 +145,7 @@ few-erased most u z =
     cases (leb (erasures u) most) (leb-true (erasures u) most)
     (λ (f : leb (erasures u) most ≡ false). absurd (omega (arith, rw f at z)))
 
-module _ (i : ℕ) (u : List ℕ) (k l : ℕ) where
+module _ (e i : ℕ) (u : List ℕ) (k l : ℕ) where
   abbrev lengths : Bool
   lengths = eqb (length u) (codewordLength (profile i)) && eqb k (messageLength (profile i)) && eqb l (messageLength (profile i))
 
@@ -152,30 +157,36 @@ module _ (i : ℕ) (u : List ℕ) (k l : ℕ) where
 
   -- the answer unless a number refuses
   abbrev answerUnless : ℕ → Answer
-  answerUnless n = readUnless n (receivedReading (profile i) u) (triedPositions (profile i) u)
+  answerUnless n = readUnless n (receivedReading (profileIn e i) u) (triedPositions (profileIn e i) u)
 
-  -- the answer by the test of the profile
-  abbrev decodeBy : Bool → Answer
-  decodeBy p = answerUnless (firstRefusal (asks p 1 ∷ asks lengths 2 ∷ asks symbols 3 ∷ erasing))
+  -- the answer by the tests of the edition and of the profile
+  abbrev decodeBy : Bool → Bool → Answer
+  decodeBy d p = answerUnless (firstRefusal (asks d 12 ∷ asks p 1 ∷ asks lengths 2 ∷ asks symbols 3 ∷ erasing))
 
-  pub decode-refused : isProfile i ≡ false → decodeAnswer i u k l ≡ refused 1
+  pub decode-edition-refused : isEdition e ≡ false → decodeAnswer e i u k l ≡ refused 12
   unfolding decodeAnswer
-  decode-refused e = ap decodeBy e
+  decode-edition-refused f = ap (λ (d : Bool). decodeBy d (isProfile i)) f
 
-  module _ {t : Row} (of : RowOf i t) where
+  pub decode-profile-refused : isEdition e ≡ true → isProfile i ≡ false → decodeAnswer e i u k l ≡ refused 1
+  unfolding decodeAnswer
+  decode-profile-refused f g = ap₂ decodeBy f g
+
+  module _ {t : Row} (known : isEdition e ≡ true) (of : RowOf (editionOf e) i t) where
     number-is : decodeNumber t u k l ≡ numberBy lengths symbols erasing
     unfolding decodeNumber
     number-is = rw (message-is of, codeword-is of, levels-are of)
 
-    answer-is : decodeAnswer i u k l ≡ answerUnless (decodeNumber t u k l)
+    answer-is : decodeAnswer e i u k l ≡ answerUnless (decodeNumber t u k l)
     unfolding decodeAnswer
-    answer-is = ap decodeBy (passes {b = isProfile i} (of .known)) ∙ ap answerUnless (sym number-is)
+    answer-is = ap₂ decodeBy known (passes {b = isProfile i} (of .known)) ∙ ap answerUnless (sym number-is)
 
     -- the number of a call that is refused
-    pub refused-number : {n : ℕ} → n ≡ decodeNumber t u k l → n ≢ 0 → decodeAnswer i u k l ≡ refused n
-    refused-number {n} e h = answer-is ∙ rw (sym e) (unless-refused n (receivedReading (profile i) u) (triedPositions (profile i) u) h)
+    pub refused-number : {n : ℕ} → n ≡ decodeNumber t u k l → n ≢ 0 → decodeAnswer e i u k l ≡ refused n
+    refused-number {n} f h =
+        let p : Parameters = profileIn e i in
+        answer-is ∙ rw (sym f) (unless-refused n (receivedReading p u) (triedPositions p u) h)
 
-    pub admitted : decodeNumber t u k l ≡ 0 → Admitted i u k l
+    pub admitted : decodeNumber t u k l ≡ 0 → Admitted e i u k l
     admitted z =
         let (long, good, few) = all-pass lengths symbols erasing (sym number-is ∙ z) in
         let (word, first, second) = three-lengths (length u) k l _ _ _ long in

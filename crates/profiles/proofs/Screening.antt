@@ -10,6 +10,7 @@ use lib.Dec.{T, eqb}
 use lib.ListN.{length}
 use borrow.Author.Tests.{le-leb, lt-leb}
 use Rattle.modular_theory.proofs.Search.{holds, passes}
+use Rattle.code_theory.specs.Parameters.{isEdition, editionOf}
 use Rattle.code_theory.specs.Component.{symbolsBelow, erasure, levelsOrErasures}
 use Rattle.code_theory.specs.Erasures.{erasures, erasedIndices}
 use Rattle.code_theory.specs.Profiles.{profile}
@@ -114,36 +115,36 @@ none-refused [] e = let z : _≡_ {A = ℕ} 0 1 = cc in omega arith
 none-refused (i ∷ []) e = let z : _≡_ {A = ℕ} 0 1 = cc in omega arith
 none-refused (i ∷ j ∷ l) e = let z : _≡_ {A = ℕ} 0 1 = cc in omega arith
 
--- A call of decode in profile i: the received word u, found to be r, and outputs of k and l symbols.
-module _ (i : ℕ) (u : List ℕ) (k l : ℕ) {t : Row} (of : RowOf i t) {r : Screened}
+-- A call of decode in edition e and profile i: the received word u, found to be r, and outputs of k and l symbols.
+module _ (e i : ℕ) (u : List ℕ) (k l : ℕ) {t : Row} (edition : isEdition e ≡ true) (of : RowOf (editionOf e) i t) {r : Screened}
     (is : r ≡ screening (decodeNumber t u k l) (erasedIndices 0 u)) where
   number-is : refusalOf r ≡ decodeNumber t u k l
   number-is = ap refusalOf is ∙ number-back (decodeNumber t u k l) (erasedIndices 0 u)
 
-  pub screened-refused : {n : ℕ} → r ≡ Refused n → decodeAnswer i u k l ≡ refused n
-  screened-refused {n} e =
-      let number : n ≡ decodeNumber t u k l = sym (ap refusalOf e) ∙ number-is in
-      refused-number i u k l of number
+  pub screened-refused : {n : ℕ} → r ≡ Refused n → decodeAnswer e i u k l ≡ refused n
+  screened-refused {n} f =
+      let number : n ≡ decodeNumber t u k l = sym (ap refusalOf f) ∙ number-is in
+      refused-number e i u k l edition of number
       (λ z. none-refused (erasedIndices 0 u)
-      (ap (λ (m : ℕ). screening m (erasedIndices 0 u)) (sym z ∙ number) ∙ sym is ∙ e))
+      (ap (λ (m : ℕ). screening m (erasedIndices 0 u)) (sym z ∙ number) ∙ sym is ∙ f))
 
   module _ (z : refusalOf r ≡ 0) where
-    known : Admitted i u k l
-    known = admitted i u k l of (sym number-is ∙ z)
+    known : Admitted e i u k l
+    known = admitted e i u k l edition of (sym number-is ∙ z)
 
     indices-are : erasedIndices 0 u ≡ indicesOf r
     indices-are =
         sym (ap indicesOf (is ∙ ap (λ (n : ℕ). screening n (erasedIndices 0 u)) (sym number-is ∙ z))
         ∙ indices-back (erasedIndices 0 u) (omega (arith, length-indices 0 u, known .few)))
 
-  pub screened-whole : r ≡ Whole → Admitted i u k l × (erasures u ≡ 0) × T (symbolsBelow (profile i .q) u)
-  screened-whole e =
-      let z : refusalOf r ≡ 0 = ap refusalOf e in
-      let none : erasures u ≡ 0 = sym (length-indices 0 u) ∙ ap length (indices-are z ∙ ap indicesOf e) in
+  pub screened-whole : r ≡ Whole → Admitted e i u k l × (erasures u ≡ 0) × T (symbolsBelow (profile i .q) u)
+  screened-whole f =
+      let z : refusalOf r ≡ 0 = ap refusalOf f in
+      let none : erasures u ≡ 0 = sym (length-indices 0 u) ∙ ap length (indices-are z ∙ ap indicesOf f) in
       (known z, none, received-levels (profile i .q) u (known z .received) none)
 
-  pub screened-one : {a : ℕ} → r ≡ One a → Admitted i u k l × (erasedIndices 0 u ≡ a ∷ [])
-  screened-one e = let z : refusalOf r ≡ 0 = ap refusalOf e in (known z, indices-are z ∙ ap indicesOf e)
+  pub screened-one : {a : ℕ} → r ≡ One a → Admitted e i u k l × (erasedIndices 0 u ≡ a ∷ [])
+  screened-one f = let z : refusalOf r ≡ 0 = ap refusalOf f in (known z, indices-are z ∙ ap indicesOf f)
 
-  pub screened-two : {a b : ℕ} → r ≡ Two a b → Admitted i u k l × (erasedIndices 0 u ≡ a ∷ b ∷ [])
-  screened-two e = let z : refusalOf r ≡ 0 = ap refusalOf e in (known z, indices-are z ∙ ap indicesOf e)
+  pub screened-two : {a b : ℕ} → r ≡ Two a b → Admitted e i u k l × (erasedIndices 0 u ≡ a ∷ b ∷ [])
+  screened-two f = let z : refusalOf r ≡ 0 = ap refusalOf f in (known z, indices-are z ∙ ap indicesOf f)

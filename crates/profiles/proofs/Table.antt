@@ -1,6 +1,6 @@
 -- The table of profiles, by tests that are computed over its rows.
 -- Assumes nothing.
-use mathlib.Core.Path.{_≡_, sym, ap, _∙_}
+use mathlib.Core.Path.{_≡_, sym, ap, ap₂, _∙_}
 use mathlib.Core.Logic.{_⊎_, inl, inr, ⊎-elim}
 use mathlib.Core.Bool.{Bool, true, false, _&&_}
 use mathlib.Core.List.{List, [], _∷_, map}
@@ -10,16 +10,18 @@ use lib.Dec.{T, eqb, leb, eqb→eq, leb→le}
 use lib.ListN.{length, getD}
 use Rattle.modular_theory.specs.Search.{allBelow}
 use Rattle.modular_theory.proofs.Search.{and-left, and-right, passes, fails}
-use Rattle.code_theory.specs.Parameters.{Parameters, messageLength, codewordLength, balancingValue, delta}
-use Rattle.code_theory.specs.Profiles.{profiles, isProfile, profile, table, derivedRow}
+use Rattle.code_theory.specs.Parameters.{Edition, Parameters, inEdition, messageLength, codewordLength, balancingValue, delta}
+use Rattle.code_theory.specs.Profiles.{profiles, isProfile, profile, profileIn, table, derivedRow}
 use Rattle.code_theory.specs.Reading.{distance}
 use Rattle.code_theory.proofs.Distance.{distance-zero}
-use Rattle.code_theory.proofs.Profiles.{every-profile, profiles-fit}
+use Rattle.code_theory.proofs.Profiles.{every-profile, sized-in, profiles-fit}
+use Rattle.profiles.specs.declared.edition.Edition as declared
 use Rattle.profiles.specs.declared.row.Row.{Row}
 use Rattle.profiles.specs.declared.row.Entry.{Entry}
 use Rattle.profiles.specs.declared.row.Lookup.{Lookup}
 use Rattle.profiles.specs.declared.row.Lookup.the-variants.{Found, NoProfile}
-use Rattle.profiles.specs.Row.{parameters, numbers, entries, lookedUp, tableAt, RowOf}
+use Rattle.profiles.specs.Edition.{editionIs}
+use Rattle.profiles.specs.Row.{parameters, numbers, entries, Widened, lookedUp, tableAt, RowOf}
 
 pub in-range : (i : ℕ) → T (isProfile i) → (1 ≤ i) × (i ≤ length profiles)
 in-range i h =
@@ -71,17 +73,19 @@ module _ (i : ℕ) (h : T (isProfile i)) where
       (eqb→eq _ 0 (and-right (eqb (distance code (getD table (i - 1) [])) 0) _ (every-profile right rows-right i h)))
 
 -- what a number is looked up as, by the test of the number
-abbrev found : ℕ → Bool → ℕ ⊎ List ℕ
-found i b = elim b [ true ↦ inr (getD table (i - 1) []) | false ↦ inl 1 ]
+abbrev found : Edition → ℕ → Bool → ℕ ⊎ (Edition × List ℕ)
+found o i b = elim b [ true ↦ inr (o, getD table (i - 1) []) | false ↦ inl 1 ]
 
-pub lookup-found : (i : ℕ) → T (isProfile i) → (t : Row) → numbers t ≡ entries (entryAt (i - 1)) → lookedUp i (Found t) ≡ tableAt i
+pub lookup-found : (o : declared.Edition) (i : ℕ) → T (isProfile i) → (t : Row) → Widened o (entryAt (i - 1)) t
+    → lookedUp i (Found t) ≡ tableAt (editionIs o) i
 unfolding tableAt
-lookup-found i h t e =
-    ap (λ (l : List ℕ). inr l) (ap (λ (l : List ℕ). i ∷ l) e ∙ entry-is i h) ∙ ap (found i) (sym (passes {b = isProfile i} h))
+lookup-found o i h t w =
+    ap₂ (λ (a : Edition) (l : List ℕ). inr (a, l)) (ap editionIs (w .edition)) (ap (λ (l : List ℕ). i ∷ l) (w .are) ∙ entry-is i h)
+    ∙ ap (found (editionIs o) i) (sym (passes {b = isProfile i} h))
 
-pub lookup-none : (i : ℕ) → isProfile i ≡ false → lookedUp i NoProfile ≡ tableAt i
+pub lookup-none : (o : Edition) (i : ℕ) → isProfile i ≡ false → lookedUp i NoProfile ≡ tableAt o i
 unfolding tableAt
-lookup-none i e = ap (found i) (sym e)
+lookup-none o i e = ap (found o i) (sym e)
 
 -- q, r and n fit the code's bytes and arrays
 room : ℕ → Bool
@@ -104,20 +108,20 @@ profile-fits i h =
       leb→le (profile i .n) 48 (and-right (qs && rs) ns fits),
     )
 
-row-of-profile : (i : ℕ) (t : Row) → T (isProfile i) → i ∷ numbers t ≡ derivedRow i → RowOf i t
+row-of-profile : (o : Edition) (i : ℕ) (t : Row) → T (isProfile i) → editionIs (t .edition) ≡ o → i ∷ numbers t ≡ derivedRow i → RowOf o i t
 unfolding derivedRow
-row-of-profile i t h e =
+row-of-profile o i t h d e =
     let q : t .q ≡ profile i .q = cc in
     let r : t .r ≡ profile i .r = cc in
     let n : t .n ≡ profile i .n = cc in
-    let same : parameters t ≡ profile i = rw (q, r, n) in
+    let same : parameters t ≡ inEdition o (profile i) = rw (q, r, n, d) in
     let (levels, checks, long) = profile-fits i h in
     record {
       known = h;
       same = same;
       valid =
           record {
-            sized = rw same (profiles-fit .0 i h .0);
+            sized = rw same (sized-in o (profileIn 13 i) (profiles-fit .0 13 i h .0));
             levels = rw q levels;
             checks = rw r checks;
             length = rw n long;
@@ -132,24 +136,29 @@ row-of-profile i t h e =
 -- What the answer of a lookup says.
 
 -- 01's number, or 0, and the row
-abbrev refusing : ℕ ⊎ List ℕ → ℕ
+abbrev refusing : ℕ ⊎ (Edition × List ℕ) → ℕ
 refusing = ⊎-elim (λ k. k) (λ l. 0)
 
-abbrev held : ℕ ⊎ List ℕ → List ℕ
-held = ⊎-elim (λ k. []) (λ l. l)
+abbrev held : ℕ ⊎ (Edition × List ℕ) → List ℕ
+held = ⊎-elim (λ k. []) (λ l. l .1)
 
-in-table : (i : ℕ) (b : Bool) {l : List ℕ} → inr l ≡ found i b → T b
-in-table i true e = tt
-in-table i false e = let z : _≡_ {A = ℕ} 0 1 = ap refusing e in absurd (omega arith)
+-- the edition, or another where none is held
+abbrev heldIn : Edition → ℕ ⊎ (Edition × List ℕ) → Edition
+heldIn o = ⊎-elim (λ k. o) (λ l. l .0)
 
-module _ (i : ℕ) {r : Lookup} (e : lookedUp i r ≡ tableAt i) where
+in-table : (o : Edition) (i : ℕ) (b : Bool) {l : Edition × List ℕ} → inr l ≡ found o i b → T b
+in-table o i true e = tt
+in-table o i false e = let z : _≡_ {A = ℕ} 0 1 = ap refusing e in absurd (omega arith)
+
+module _ (o : Edition) (i : ℕ) {r : Lookup} (e : lookedUp i r ≡ tableAt o i) where
   -- a row that is found is the profile's
-  pub row-found : {t : Row} → r ≡ Found t → RowOf i t
+  pub row-found : {t : Row} → r ≡ Found t → RowOf o i t
   unfolding tableAt
   row-found {t} f =
-      let same : inr (i ∷ numbers t) ≡ found i (isProfile i) = sym (ap (lookedUp i) f) ∙ e in
-      let h : T (isProfile i) = in-table i (isProfile i) same in
-      row-of-profile i t h (ap held (same ∙ ap (found i) (passes {b = isProfile i} h)) ∙ derived-is i h)
+      let same : inr (editionIs (t .edition), i ∷ numbers t) ≡ found o i (isProfile i) = sym (ap (lookedUp i) f) ∙ e in
+      let h : T (isProfile i) = in-table o i (isProfile i) same in
+      let is = same ∙ ap (found o i) (passes {b = isProfile i} h) in
+      row-of-profile o i t h (ap (heldIn o) is) (ap held is ∙ derived-is i h)
 
   -- where none is, the number is no profile's
   pub none-found : r ≡ NoProfile → isProfile i ≡ false
@@ -157,11 +166,11 @@ module _ (i : ℕ) {r : Lookup} (e : lookedUp i r ≡ tableAt i) where
   none-found f =
       fails
       (λ h.
-      let z : _≡_ {A = ℕ} 1 0 = ap refusing (sym (ap (lookedUp i) f) ∙ e ∙ ap (found i) (passes {b = isProfile i} h)) in
+      let z : _≡_ {A = ℕ} 1 0 = ap refusing (sym (ap (lookedUp i) f) ∙ e ∙ ap (found o i) (passes {b = isProfile i} h)) in
       omega arith)
 
 -- the numbers of a profile's row that are asked for alone
-module _ {i : ℕ} {t : Row} (of : RowOf i t) where
+module _ {o : Edition} {i : ℕ} {t : Row} (of : RowOf o i t) where
   pub levels-are : t .q ≡ profile i .q
   levels-are = ap (λ (p : Parameters). p .q) (of .same)
 

@@ -1,6 +1,9 @@
 // The four profiles (01: The four profiles): a constant table of rows, with the numbers that follow from q, r and n, looked up by number.
+use crate::edition::Edition;
 ghost use mathlib.Core.Path.{_≡_};
-ghost use Rattle.profiles.specs.Row.{numbers, entries, lookedUp, tableAt};
+ghost use Rattle.code_theory.specs.Parameters.{edition13};
+ghost use Rattle.profiles.specs.Edition.{editionIs};
+ghost use Rattle.profiles.specs.Row.{numbers, entries, Widened, lookedUp, tableAt};
 
 pub struct Row {
     pub q: u8,
@@ -16,6 +19,8 @@ pub struct Row {
     pub target: u16,
     // 01: δ
     pub delta: u8,
+    // 02, T-03
+    pub edition: Edition,
 }
 
 // What a number is looked up as.
@@ -81,9 +86,9 @@ const ROWS: [Entry; 4] = [
     },
 ];
 
-// The row in the numbers that lengths are compared with.
-fn widened(e: Entry) -> Row
-    ensures { λ t. ⌜ numbers t ≡ entries e ⌝ }
+// The row in an edition, in the numbers that lengths are compared with.
+fn widened(edition: Edition, e: Entry) -> Row
+    ensures { λ t. ⌜ Widened edition e t ⌝ }
 {
     Row {
         q: e.q,
@@ -94,17 +99,25 @@ fn widened(e: Entry) -> Row
         codeword: e.codeword as usize,
         target: e.target,
         delta: e.delta,
+        edition,
     }
 }
 
-// The row of a profile, by its number.
-pub fn row_of(profile: usize) -> Lookup
-    ensures { λ r. ⌜ lookedUp profile r ≡ tableAt profile ⌝ }
+// The row of a profile in an edition, by the profile's number.
+pub fn row_in(edition: Edition, profile: usize) -> Lookup
+    ensures { λ r. ⌜ lookedUp profile r ≡ tableAt (editionIs edition) profile ⌝ }
 {
     let rows = ROWS;
     if !((1 <= profile) & (profile <= rows.len())) {
         return Lookup::NoProfile;
     }
     let i = profile - 1;
-    Lookup::Found(widened(rows[i]))
+    Lookup::Found(widened(edition, rows[i]))
+}
+
+// The same in edition 13, for those who ask for numbers that both editions have.
+pub fn row_of(profile: usize) -> Lookup
+    ensures { λ r. ⌜ lookedUp profile r ≡ tableAt edition13 profile ⌝ }
+{
+    row_in(Edition::Of2013, profile)
 }

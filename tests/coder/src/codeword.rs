@@ -1,8 +1,9 @@
-//! Codewords (01: lawful words): how one is put together from two components, and the test that a
-//! word is one, straight from 01's four conditions.
+//! Codewords (01: lawful words) of either edition: how one is put together from two components, and the
+//! test that a word is one, straight from 01's four conditions.
 
 use crate::balance::{balanced_words, difference, weight, BalancingChoice};
 use crate::component::{encode_component, in_code, message_in, take_one};
+use crate::edition::Edition;
 use crate::profile::Profile;
 
 /// 01: a pair, the first and the second user word.
@@ -18,20 +19,30 @@ pub fn all_messages(profile: &Profile) -> impl Iterator<Item = Messages> + '_ {
     (0..count * count).map(move |number| [message(number / count), message(number % count)])
 }
 
-/// "x has m symbols: 0, b1, b′1, b2, b′2, up to bn, b′n."
-pub fn interleave(components: &[Vec<u8>; 2]) -> Vec<u8> {
+/// "x has m symbols: 0, b1, b′1, b2, b′2, up to bn, b′n." T-03: "The added zero stands last in x .. So
+/// b1 is at place 1 of x and b′1 at place 2".
+pub fn interleave(edition: Edition, components: &[Vec<u8>; 2]) -> Vec<u8> {
     let [first, second] = components;
-    let pairs = first.iter().zip(second).flat_map(|(&b, &c)| [b, c]);
-    [0].into_iter().chain(pairs).collect()
+    let pairs: Vec<u8> = first.iter().zip(second).flat_map(|(&b, &c)| [b, c]).collect();
+    match edition {
+        Edition::Of2013 => [&[0], &pairs[..]].concat(),
+        Edition::Of2018 => [&pairs[..], &[0]].concat(),
+    }
 }
 
-/// "halves obtained by differencing w mod q (dropping the first)".
+/// "halves obtained by differencing w mod q (dropping the first)". T-03: "differencing w drops the last
+/// symbol instead of the first".
 pub fn components_of(profile: &Profile, w: &[u8]) -> [Vec<u8>; 2] {
-    let x = difference(profile.q, w);
-    [1, 2].map(|start| x.iter().skip(start).step_by(2).copied().collect())
+    let x = difference(profile.edition, profile.q, w);
+    let kept = match profile.edition {
+        Edition::Of2013 => &x[1..],
+        Edition::Of2018 => &x[..x.len() - 1],
+    };
+    [0, 1].map(|start| kept.iter().skip(start).step_by(2).copied().collect())
 }
 
-/// "α is the sum of w at odd places plus δ, mod q. β is the sum at even places, mod q."
+/// "α is the sum of w at odd places plus δ, mod q. β is the sum at even places, mod q." T-03: "δ and
+/// check symbols do not change."
 pub fn check_symbols(profile: &Profile, w: &[u8]) -> [u8; 2] {
     let sum_from =
         |start: usize| -> u32 { w.iter().skip(start).step_by(2).map(|&s| u32::from(s)).sum() };
@@ -51,7 +62,8 @@ pub fn with_check_symbols(profile: &Profile, w: &[u8]) -> Vec<u8> {
 /// have several lawful words; the writer makes one of them."
 pub fn codewords(profile: &Profile, messages: &Messages) -> Vec<(BalancingChoice, Vec<u8>)> {
     let components = messages.each_ref().map(|message| encode_component(profile, message));
-    balanced_words(profile.q, &interleave(&components))
+    let x = interleave(profile.edition, &components);
+    balanced_words(profile.edition, profile.q, &x)
         .map(|(choice, w)| (choice, with_check_symbols(profile, &w)))
         .collect()
 }

@@ -2,6 +2,7 @@
 //! erasures (02, T-01: marks), at all its fillings.
 
 use crate::codeword::{messages_of, Messages};
+use crate::edition::Edition;
 use crate::erasure::{erased_positions, MOST_ERASURES};
 use crate::fillings::fillings;
 use crate::profile::Profile;
@@ -148,14 +149,16 @@ pub fn decode_word(profile: &Profile, word: &[u8]) -> Result<(Answer, Messages),
     Ok((Answer { decoded, tried }, messages))
 }
 
-/// "Read. 1 as above; 2 if the word is not N long or either output not k", then 3, 11 and 4.
+/// "Read. 1 as above; 2 if the word is not N long or either output not k", then 3, 11 and 4. T-03: "12,
+/// edition neither 13 nor 18, before 1."
 pub fn decode(
+    edition: u8,
     profile: u8,
     word: &[u8],
     first: &mut [u8],
     second: &mut [u8],
 ) -> Result<Answer, Refusal> {
-    let profile = Profile::lookup(profile)?;
+    let profile = Profile::of(Edition::lookup(edition)?, profile)?;
     require(word.len() == profile.word_length(), Refusal::Length)?;
     require(first.len() == profile.k(), Refusal::Length)?;
     require(second.len() == profile.k(), Refusal::Length)?;

@@ -1,6 +1,7 @@
 //! Encoding (01: write).
 
 use crate::codeword::{codewords, Messages};
+use crate::edition::Edition;
 use crate::profile::Profile;
 use crate::refusal::{require, Refusal};
 
@@ -13,9 +14,15 @@ pub fn encoded_word(profile: &Profile, messages: &Messages) -> Vec<u8> {
 }
 
 /// "Write. 1 if the profile is not 1 to 4; 2 if either user word is not k long or the output not
-/// N; 3 if a user symbol is not below q."
-pub fn encode(profile: u8, first: &[u8], second: &[u8], output: &mut [u8]) -> Result<(), Refusal> {
-    let profile = Profile::lookup(profile)?;
+/// N; 3 if a user symbol is not below q." T-03: "12, edition neither 13 nor 18, before 1."
+pub fn encode(
+    edition: u8,
+    profile: u8,
+    first: &[u8],
+    second: &[u8],
+    output: &mut [u8],
+) -> Result<(), Refusal> {
+    let profile = Profile::of(Edition::lookup(edition)?, profile)?;
     require(first.len() == profile.k(), Refusal::Length)?;
     require(second.len() == profile.k(), Refusal::Length)?;
     require(output.len() == profile.word_length(), Refusal::Length)?;

@@ -1,5 +1,5 @@
-//! The cases of document 01, copied from it by hand. Nothing here is computed by the coder: its
-//! tests compare it with these, and the vectors begin with them.
+//! The cases of document 01, copied from it by hand, and others that were worked out by hand. Nothing here
+//! is computed by the coder: its tests compare it with these, and the vectors begin with them.
 
 /// The example input of "The line program"; "the last line is empty but ended".
 pub const BOXLINES_INPUT: &str = "\
@@ -35,6 +35,50 @@ pub fn encoded() -> Vec<(u8, [String; 2], String)> {
         zero_pair(3, 21, "2", 49, "13"),
         zero_pair(4, 45, "3", 97, "24"),
         (1, another, "1200011111111112220".to_string()),
+    ]
+}
+
+/// A pair of the 2018 edition (02, T-03), as `encoded` has those of 01, and its choice.
+pub struct Encoded2018 {
+    pub profile: u8,
+    pub messages: [String; 2],
+    pub s: u8,
+    pub v: usize,
+    pub word: String,
+}
+
+/// 02 has no cases: these were worked out by hand. The zero pairs have v = 0, and their words are 01's.
+/// - The pair 0 0 0 0 1 and zeros: x is 1 0 0 0 1, nine zeros, 1 0 0. With s = 0 the w is 0 2 2 2 2, ten
+///   ones, 0 0, of weight 18; v = 1 makes it 19, and v = 2 makes it 17, the middle.
+/// - Twenty zeros and a 1, and a 1 and twenty zeros: the halves are 0 3 0 0 1, 18 zeros, 1 and 1 3 1,
+///   21 zeros; x is 0 1 3 3 0 1 0 0 1, 37 zeros, 1 0 0. With s = 0 the w is 0 0 4 1 3 3 2 2 2, 38 ones,
+///   0 0, of weight 55. Each v raises it by 1, but v = 3 makes a 4 a 0: v = 48 makes it 98, the middle.
+pub fn encoded_2018() -> Vec<Encoded2018> {
+    let zero_pair = |profile: u8, k: usize, s: u8, m: usize, checks: &str| Encoded2018 {
+        profile,
+        messages: [(); 2].map(|()| "0".repeat(k)),
+        s,
+        v: 0,
+        word: s.to_string().repeat(m) + checks,
+    };
+    vec![
+        zero_pair(1, 5, 1, 17, "02"),
+        zero_pair(3, 21, 2, 49, "13"),
+        zero_pair(4, 45, 3, 97, "24"),
+        Encoded2018 {
+            profile: 1,
+            messages: ["00001", "00000"].map(str::to_string),
+            s: 0,
+            v: 2,
+            word: "1022211111111110011".to_string(),
+        },
+        Encoded2018 {
+            profile: 3,
+            messages: ["0".repeat(20) + "1", "1".to_string() + &"0".repeat(20)],
+            s: 0,
+            v: 48,
+            word: "110244333".to_string() + &"2".repeat(38) + "1004",
+        },
     ]
 }
 
@@ -105,6 +149,24 @@ pub const TRIED: [Case; 11] = [
     ("2121212111111111102", "R 4", Some(9)),
     ("1212121211111111102", "R 4", Some(8)),
     ("2011111111111111102", "R 4", Some(0)),
+];
+
+/// Received words of profile 1 and the 2018 edition, by hand: the zero word, the word of 0 0 0 0 1 and
+/// zeros, that word with a symbol too high or too low and with symbols erased; last 01's word of that
+/// pair, which in 2013 has v = 3, and here is no codeword.
+pub const DECODED_2018: [Case; 12] = [
+    ("1111111111111111102", "C 0 0 0 00000 00000", Some(0)),
+    ("1022211111111110011", "C 0 0 0 00001 00000", Some(0)),
+    ("2022211111111110011", "M 1 1 +1 00001 00000", Some(1)),
+    ("1022221111111110011", "M 6 1 +1 00001 00000", Some(3)),
+    ("1022211111111111011", "M 16 0 +1 00001 00000", Some(8)),
+    ("1022211111111110211", "M 17 0 +2 00001 00000", Some(9)),
+    ("1022211111111110001", "M 18 1 -1 00001 00000", Some(0)),
+    ("1022211111111110012", "M 19 1 +1 00001 00000", Some(0)),
+    ("10222?1111111110011", "F 6 1 0 00001 00000", Some(0)),
+    ("?022211111111110?11", "F 1 1 17 0 0 00001 00000", Some(0)),
+    ("?0222111111111???11", "R 11", None),
+    ("1200011111111112220", "R 4", Some(0)),
 ];
 
 /// "Checked by hand": user words of profile 1 and their halves.

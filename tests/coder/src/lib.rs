@@ -2,13 +2,14 @@
 //! used to test: what 01 says exists is looked for by trying everything, and what 01 calls right
 //! is tested condition by condition. Clarity comes before speed throughout.
 //!
-//! Quoted sentences are document 01's or, of requests (T-01, T-02, T-05, T-08), document 02's.
+//! Quoted sentences are document 01's or, of requests (T-01, T-02, T-03, T-05, T-08), document 02's.
 //! Positions count from 1, as there.
 
 pub mod balance;
 pub mod codeword;
 pub mod component;
 pub mod decode;
+pub mod edition;
 pub mod encode;
 pub mod erased_words;
 pub mod erasure;
@@ -17,6 +18,7 @@ pub mod fillings;
 pub mod lines;
 pub mod list;
 pub mod near_miss;
+pub mod near_miss_editions;
 mod near_miss_erasures;
 mod near_miss_errors;
 pub mod near_miss_sums;

@@ -1,6 +1,7 @@
 //! The line program boxlines (01, "The line program").
 
 use crate::decode::{decode, Answer};
+use crate::edition::Edition;
 use crate::profile::Profile;
 use crate::refusal::{require, Refusal};
 use crate::text::symbol;
@@ -25,12 +26,14 @@ fn parse(line: &[u8]) -> Result<(u8, Vec<u8>), Refusal> {
 }
 
 /// "Output for a good line: profile", and what its word is answered; T-08: "boxlines prints no
-/// count". A bad line "gives 9 .. then the order of Read".
+/// count". A bad line "gives 9 .. then the order of Read". T-03: "boxlines and sheets stay with edition
+/// 13."
 fn good_answer(line: &[u8]) -> Result<String, Refusal> {
     let (profile, word) = parse(line)?;
     let k = Profile::lookup(profile)?.k();
     let (mut first, mut second) = (vec![0; k], vec![0; k]);
-    let Answer { decoded, .. } = decode(profile, &word, &mut first, &mut second)?;
+    let edition = Edition::Of2013.number();
+    let Answer { decoded, .. } = decode(edition, profile, &word, &mut first, &mut second)?;
     Ok(format!("{profile} {}", decoded.answer(&first, &second)))
 }
 

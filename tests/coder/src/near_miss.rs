@@ -1,12 +1,12 @@
 //! A second decoder, by 002's steps (section IV-B) as 01 corrects them, in which one step can be
 //! got wrong on purpose. Without a slip it must answer as the search in `decode` does; with one it
 //! shows that a test word tells the right decoder from that near miss. What it does with erasures
-//! stands in `near_miss_erasures`, what it says of errors in `near_miss_errors`, and of the positions
-//! tried in `near_miss_tried`.
+//! stands in `near_miss_erasures`, what it says of errors in `near_miss_errors`, of the positions
+//! tried in `near_miss_tried`, and what it makes of the editions in `near_miss_editions`.
 
-use crate::balance::{subtract, weight};
-use crate::codeword::{components_of, Messages};
-use crate::component::{message_in, syndrome};
+use crate::balance::weight;
+use crate::codeword::Messages;
+use crate::component::message_in;
 use crate::decode::{replaced, Answer, Decoded, Sent};
 use crate::encode::encoded_word;
 use crate::profile::Profile;
@@ -125,7 +125,9 @@ impl Decoder<'_> {
         }
         (start..=w.len()).step_by(2).find_map(|position| {
             let symbol = self.remove(w[position - 1], excess)?;
-            let messages = self.undo(&replaced(w, position, symbol))?;
+            let corrected = replaced(w, position, symbol);
+            let syndromes = self.moved_syndromes(w, &corrected, Slip::CorrectedAsIn2013);
+            let messages = self.undo_by(&corrected, syndromes)?;
             Some((self.corrected(word, Sent { position, symbol }, excess), messages))
         })
     }
@@ -138,9 +140,13 @@ impl Decoder<'_> {
     }
 
     /// Step 4: the messages of the components, if their syndromes are as equation (4) asks.
-    pub fn undo(&self, w: &[u8]) -> Option<Messages> {
-        let components = components_of(self.profile, w);
-        let [first, second] = components.each_ref().map(|component| self.added_at(component));
+    fn undo(&self, w: &[u8]) -> Option<Messages> {
+        self.undo_by(w, self.syndromes(w))
+    }
+
+    /// The same with the syndromes given.
+    pub fn undo_by(&self, w: &[u8], syndromes: [Vec<u8>; 2]) -> Option<Messages> {
+        let [first, second] = syndromes.map(|syndrome| self.added_at(&syndrome));
         let positions = match self.slip {
             Some(Slip::FirstInRange) => [0, 0],
             Some(Slip::FirstComponentOnly) => [first?, 0],
@@ -150,18 +156,17 @@ impl Decoder<'_> {
         if !positions.contains(&0) && !self.slips(Slip::BothTaken) {
             return None;
         }
-        let mut restored = components;
+        let mut restored = self.components(w);
         for (component, position) in restored.iter_mut().zip(positions) {
             if position > 0 {
-                component[position - 1] = subtract(self.profile.q, component[position - 1], 1);
+                component[position - 1] = self.less_one(component[position - 1]);
             }
         }
-        Some(restored.map(|component| message_in(self.profile, &component)))
+        Some(self.answered(restored.map(|component| message_in(self.profile, &component))))
     }
 
     /// Where a component's syndrome says that 1 was added; 0 if the component is in code.
-    fn added_at(&self, component: &[u8]) -> Option<usize> {
-        let syndrome = syndrome(self.profile, component);
+    fn added_at(&self, syndrome: &[u8]) -> Option<usize> {
         let (&last, digits) = syndrome.split_last()?;
         let q = usize::from(self.profile.q);
         let position = digits.iter().fold(0, |number, &digit| number * q + usize::from(digit));

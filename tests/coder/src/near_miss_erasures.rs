@@ -3,7 +3,7 @@
 //! filling is left, or with two erasures one for each level of the first. Each is tested as a
 //! word of levels is.
 
-use crate::codeword::{check_symbols, components_of, messages_of, Messages};
+use crate::codeword::{check_symbols, messages_of, Messages};
 use crate::component::message_in;
 use crate::decode::{replaced, Decoded, Kind};
 use crate::erasure::{erased_positions, MOST_ERASURES};
@@ -53,8 +53,10 @@ impl Decoder<'_> {
         let most = if self.slips(Slip::OneFillingTried) { 1 } else { usize::MAX };
         let mut tried = self.wanted_fillings(word, erased);
         tried.retain(|filled| self.has_sums(filled, erased));
+        let cleared = with_zeros(word, erased);
         tried.iter().take(most).find_map(|filled| {
-            let messages = self.messages(&filled[..self.profile.m()])?;
+            let [cleared, w] = [&cleared, filled].map(|word| &word[..self.profile.m()]);
+            let messages = self.messages(cleared, w)?;
             Some((self.report(filled, erased), messages))
         })
     }
@@ -106,13 +108,15 @@ impl Decoder<'_> {
         is_balanced && (is_untested || received == check_symbols(self.profile, w))
     }
 
-    /// The messages of w's components.
-    fn messages(&self, w: &[u8]) -> Option<Messages> {
+    /// The messages of w's components; their syndromes are those with 0 at the erasures, moved.
+    fn messages(&self, cleared: &[u8], w: &[u8]) -> Option<Messages> {
         let untested = || {
-            let components = components_of(self.profile, w);
+            let components = self.components(w);
             components.map(|component| message_in(self.profile, &component))
         };
-        self.undo(w).or_else(|| self.slips(Slip::ComponentsUntested).then(untested))
+        let syndromes = self.moved_syndromes(cleared, w, Slip::FilledAsIn2013);
+        let messages = self.undo_by(w, syndromes);
+        messages.or_else(|| self.slips(Slip::ComponentsUntested).then(untested))
     }
 
     /// The positions and symbols that are answered, and the error.

@@ -23,6 +23,9 @@ impl Decoder<'_> {
             }
             Some(Slip::CheckErrorZero) if is_check => 0,
             Some(Slip::CheckErrorIsSumOff) if is_check => (-error).rem_euclid(self.q()),
+            Some(Slip::ErrorOfComplement) if self.is_2018() => {
+                self.error_of_complement(sent, error)
+            }
             _ => error,
         };
         Decoded { kind: Kind::Corrected(sent), error: answered as i16 }

@@ -31,8 +31,9 @@ pub const SUM_SLIPS: [(Slip, &[u8]); 13] = [
 
 /// The word that the encoder makes of two messages with this slip, or with none.
 pub fn encode(profile: &Profile, messages: &Messages, slip: Option<Slip>) -> Vec<u8> {
-    let x = interleave(&components(profile, messages, slip));
-    let (_, w) = balanced_words(profile.q, &x).next().expect("01: a choice always exists");
+    let x = interleave(profile.edition, &components(profile, messages, slip));
+    let mut words = balanced_words(profile.edition, profile.q, &x);
+    let (_, w) = words.next().expect("01: a choice always exists");
     with_check_symbols(profile, &w)
 }
 

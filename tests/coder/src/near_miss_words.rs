@@ -17,7 +17,7 @@ use crate::rng::Rng;
 /// A word with right check symbols whose weight is off by q, with one more symbol changed: away
 /// from the balancing value or back toward it.
 pub fn off_balance(profile: &Profile, rng: &mut Rng, away: bool) -> Option<Vec<u8>> {
-    let x = interleave(&components(profile, rng));
+    let x = interleave(profile.edition, &components(profile, rng));
     let w = &off_by_q(profile, &x, rng)?;
     let position = rng.from_one_to(w.len());
     let symbol = rng.other_level(profile.q, w[position - 1]);
@@ -29,7 +29,7 @@ pub fn off_balance(profile: &Profile, rng: &mut Rng, away: bool) -> Option<Vec<u
 
 /// A word with right check symbols whose weight is off by q, erased at positions that are drawn.
 pub fn off_balance_erased(profile: &Profile, rng: &mut Rng, draw: Draw) -> Option<Vec<u8>> {
-    let x = interleave(&components(profile, rng));
+    let x = interleave(profile.edition, &components(profile, rng));
     let word = with_check_symbols(profile, &off_by_q(profile, &x, rng)?);
     Some(erased_at(&word, &draw(profile, rng)))
 }
@@ -56,10 +56,11 @@ pub fn alpha_by_printed_delta(profile: &Profile, rng: &mut Rng) -> Option<Vec<u8
 }
 
 /// A balanced word with right check symbols whose components are these two as they stand: 1 is
-/// added only at position 1 of x, which differencing drops.
+/// added to neither.
 fn with_components(profile: &Profile, components: &[Vec<u8>; 2]) -> Option<Vec<u8>> {
-    let x = interleave(components);
-    let (_, w) = balanced_words(profile.q, &x).find(|(choice, _)| choice.v == 1)?;
+    let x = interleave(profile.edition, components);
+    let mut words = balanced_words(profile.edition, profile.q, &x);
+    let (_, w) = words.find(|(choice, _)| choice.adds_nothing(profile.edition))?;
     Some(with_check_symbols(profile, &w))
 }
 

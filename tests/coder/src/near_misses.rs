@@ -3,13 +3,14 @@
 
 use crate::codeword::with_check_symbols;
 use crate::decode::decode_word;
+use crate::edition::Edition;
 use crate::erased_words::{
     both_checks, erased, like_parity, one_check_changed, one_check_erased, one_of_w,
     spoiled_and_erased, with_erasures, with_erasures_at,
 };
 use crate::examples::POSITION_ZERO_W;
 use crate::near_miss::{self, Slip};
-use crate::profile::{Profile, PROFILES};
+use crate::profile::Profile;
 use crate::random_words::{
     both_check_symbols, by_another_choice, codeword, one_check_symbol, Build,
 };
@@ -45,7 +46,7 @@ pub const NEAR_MISSES: [NearMiss; 13] = [
     refuses(Slip::CheckSumOffByAny, symbol_and_its_check,
         "check sum off by something other than the weight's excess mod q"),
     refuses(Slip::PositionZero, position_zero,
-        "syndrome of zeros with a last 1; the first word has w = 00200111222111021"),
+        "syndrome of zeros with a last 1"),
     refuses(Slip::BalanceIsClean, both_check_symbols,
         "both check symbols wrong on a balanced word"),
     decodes(Slip::FirstInRange, one_changed,
@@ -171,13 +172,42 @@ pub const TRIED_NEAR_MISSES: [NearMiss; 15] = [
         "codeword with two erasures: none is counted, these neither"),
 ];
 
-/// Those of 01 and of every request.
-pub fn every_near_miss() -> impl Iterator<Item = &'static NearMiss> {
-    NEAR_MISSES
+/// Those of T-03, the request for the 2018 edition, in whose words alone they do harm.
+#[rustfmt::skip]
+pub const EDITION_NEAR_MISSES: [NearMiss; 10] = [
+    decodes(Slip::EditionIgnored, |profile, rng| Some(codeword(profile, rng)),
+        "codeword, which is none of edition 13 or has another pair there"),
+    decodes(Slip::ZeroFirst, |profile, rng| Some(codeword(profile, rng)),
+        "codeword whose added zero is last"),
+    decodes(Slip::IntegratedFromFront, |profile, rng| Some(codeword(profile, rng)),
+        "codeword that was integrated from the end"),
+    decodes(Slip::ComponentsExchanged, |profile, rng| Some(codeword(profile, rng)),
+        "codeword whose first component begins x"),
+    decodes(Slip::WordReversed, |profile, rng| Some(codeword(profile, rng)),
+        "codeword whose components are not read from the end"),
+    decodes(Slip::CorrectedAsIn2013, one_of_w_changed,
+        "one symbol of w wrong, which moves the syndromes the other way than in edition 13"),
+    decodes(Slip::FilledAsIn2013, |profile, rng| {
+        let erasures = rng.from_one_to(2);
+        Some(with_erasures(profile, [erasures, 0], rng))
+    }, "one or two erasures, which move the syndromes the other way than in edition 13"),
+    decodes(Slip::OneAdded, |profile, rng| Some(codeword(profile, rng)),
+        "codeword of which 1 is to be taken, and not of the negatives"),
+    decodes(Slip::MessagesNegated, |profile, rng| Some(codeword(profile, rng)),
+        "codeword whose messages are not the negatives"),
+    decodes(Slip::ErrorOfComplement, one_changed,
+        "one symbol wrong: the error is not the complement's"),
+];
+
+/// Those of 01 and of every request that do harm in words of this edition.
+pub fn every_near_miss(edition: Edition) -> impl Iterator<Item = &'static NearMiss> {
+    let of_both = NEAR_MISSES
         .iter()
         .chain(&ERASURE_NEAR_MISSES)
         .chain(&ERROR_NEAR_MISSES)
-        .chain(&TRIED_NEAR_MISSES)
+        .chain(&TRIED_NEAR_MISSES);
+    let of_2018 = EDITION_NEAR_MISSES.iter().filter(move |_| edition == Edition::Of2018);
+    of_both.chain(of_2018)
 }
 
 /// How many words are built before a slip is taken to do no harm in a profile.
@@ -187,11 +217,23 @@ impl NearMiss {
     /// Words of the profile that the slip gets wrong. There are none where it does no harm: the
     /// printed δ is right for q = 3.
     pub fn words(&self, profile: &Profile, count: usize, rng: &mut Rng) -> Vec<Vec<u8>> {
-        let known = self.slip == Slip::PositionZero && profile == &PROFILES[0];
-        let known = known.then(|| with_check_symbols(profile, &symbols(POSITION_ZERO_W)));
+        let is_known = self.has_known_word(profile.edition) && profile.number == 1;
+        let known = is_known.then(|| with_check_symbols(profile, &symbols(POSITION_ZERO_W)));
         let built = (0..ATTEMPTS).filter_map(|_| (self.build)(profile, rng));
         let words = known.into_iter().chain(built);
         words.filter(|word| self.gets_wrong(profile, word)).take(count).collect()
+    }
+
+    /// What its words of an edition are called.
+    pub fn title(&self, edition: Edition) -> String {
+        let note = format!("; the first word has w = {POSITION_ZERO_W}");
+        let note = if self.has_known_word(edition) { &note } else { "" };
+        format!("near miss {:?}: {}{note}", self.slip, self.name)
+    }
+
+    /// Whether its words of profile 1 begin with one that was found by hand.
+    fn has_known_word(&self, edition: Edition) -> bool {
+        self.slip == Slip::PositionZero && edition == Edition::Of2013
     }
 
     /// Whether the slip answers the word otherwise than the right decoder, which does as named.

@@ -1,10 +1,12 @@
-//! The four profiles (01, "The four profiles").
+//! The four profiles (01, "The four profiles"), of boxes of either edition (02, T-03).
 
 use crate::balance::balancing_value;
+use crate::edition::Edition;
 use crate::erasure::ERASURE;
 use crate::refusal::{require, Refusal};
 
-/// One row of the table. The columns q, r and n are given, the others follow from them.
+/// One row of the table, and the edition: with it, how a word is made. The columns q, r and n are given,
+/// the others follow from them and are the same in both editions.
 #[derive(Debug, Clone, Copy, PartialEq, Eq)]
 pub struct Profile {
     /// The number that names the profile.
@@ -15,21 +17,42 @@ pub struct Profile {
     pub r: usize,
     /// "n the length of one half".
     pub n: usize,
+    /// T-03: 13 or 18.
+    pub edition: Edition,
 }
 
 /// "The four profiles are fixed."
 #[rustfmt::skip]
-pub const PROFILES: [Profile; 4] = [
-    Profile { number: 1, q: 3, r: 3, n: 8 },
-    Profile { number: 2, q: 3, r: 4, n: 26 },
-    Profile { number: 3, q: 5, r: 3, n: 24 },
-    Profile { number: 4, q: 7, r: 3, n: 48 },
-];
+const fn table(edition: Edition) -> [Profile; 4] {
+    [
+        Profile { number: 1, q: 3, r: 3, n: 8, edition },
+        Profile { number: 2, q: 3, r: 4, n: 26, edition },
+        Profile { number: 3, q: 5, r: 3, n: 24, edition },
+        Profile { number: 4, q: 7, r: 3, n: 48, edition },
+    ]
+}
+
+/// Those of 01. T-03: "boxlines and sheets stay with edition 13."
+pub static PROFILES: [Profile; 4] = table(Edition::Of2013);
+
+/// Those of the new boxes.
+pub static PROFILES_2018: [Profile; 4] = table(Edition::Of2018);
 
 impl Profile {
-    /// "1 if the profile is not 1 to 4".
+    /// "1 if the profile is not 1 to 4", of edition 13.
     pub fn lookup(number: u8) -> Result<&'static Profile, Refusal> {
-        PROFILES.iter().find(|profile| profile.number == number).ok_or(Refusal::Profile)
+        Profile::of(Edition::Of2013, number)
+    }
+
+    /// The same of any edition.
+    pub fn of(edition: Edition, number: u8) -> Result<&'static Profile, Refusal> {
+        let mut profiles = edition.profiles().iter();
+        profiles.find(|profile| profile.number == number).ok_or(Refusal::Profile)
+    }
+
+    /// The same profile in the other edition.
+    pub fn in_other_edition(&self) -> Profile {
+        Profile { edition: self.edition.other(), ..*self }
     }
 
     /// "k the length of a user word": the positions of a component that hold no check symbol.

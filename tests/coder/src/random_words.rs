@@ -85,7 +85,7 @@ pub fn both_check_symbols(profile: &Profile, rng: &mut Rng) -> Option<Vec<u8>> {
 /// A word that only its components give away as no codeword, as a rule.
 pub fn balanced_noise(profile: &Profile, rng: &mut Rng) -> Option<Vec<u8>> {
     let x = rng.word(profile.q, profile.m());
-    let (_, w) = balanced_words(profile.q, &x).next()?;
+    let (_, w) = balanced_words(profile.edition, profile.q, &x).next()?;
     Some(with_check_symbols(profile, &w))
 }
 
@@ -103,8 +103,9 @@ pub fn excess(profile: &Profile, w: &[u8]) -> i64 {
 
 /// A w with this x and any choice whose weight is off by q, if there is one.
 pub fn off_by_q(profile: &Profile, x: &[u8], rng: &mut Rng) -> Option<Vec<u8>> {
-    let unbalanced: Vec<Vec<u8>> = choices(profile.q, x.len())
-        .map(|choice| choice.apply(profile.q, x))
+    let edition = profile.edition;
+    let unbalanced: Vec<Vec<u8>> = choices(edition, profile.q, x.len())
+        .map(|choice| choice.apply(edition, profile.q, x))
         .filter(|w| excess(profile, w).abs() == i64::from(profile.q))
         .collect();
     (!unbalanced.is_empty()).then(|| rng.pick(&unbalanced).clone())

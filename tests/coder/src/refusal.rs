@@ -3,7 +3,8 @@
 use std::fmt;
 
 /// "1 profile; 2 length; 3 symbol; 4 unreadable; 5 sheet length; 6 unsound sheet; 7 box number;
-/// 8 no free cell; 9 line form; 10 no such record." T-01: "11, more than two marks".
+/// 8 no free cell; 9 line form; 10 no such record." T-01: "11, more than two marks". T-03: "12, edition
+/// neither 13 nor 18".
 #[derive(Debug, Clone, Copy, PartialEq, Eq)]
 pub enum Refusal {
     Profile,
@@ -21,6 +22,7 @@ pub enum Refusal {
     LineForm,
     NoSuchRecord,
     Erasures,
+    Edition,
 }
 
 impl Refusal {
@@ -38,6 +40,7 @@ impl Refusal {
             Refusal::LineForm => 9,
             Refusal::NoSuchRecord => 10,
             Refusal::Erasures => 11,
+            Refusal::Edition => 12,
         }
     }
 }

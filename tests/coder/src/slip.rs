@@ -1,7 +1,9 @@
-//! The steps of a decoder that can be got wrong, and those of an encoder's check row sums.
+//! The steps of a decoder that can be got wrong, those of an encoder's check row sums, and what differs
+//! between the editions.
 
 /// One step got wrong: 01's "Wrong turns seen in drafts", and others of their kind; then those that
-/// the erasures of T-01, the error of T-02, the count of T-08 and the eight-bit sums of T-05 invite.
+/// the erasures of T-01, the error of T-02, the count of T-08, the eight-bit sums of T-05 and the 2018
+/// edition of T-03 invite.
 #[derive(Debug, Clone, Copy, PartialEq, Eq)]
 pub enum Slip {
     /// δ is 002's printed 2(q−1)(2−m).
@@ -141,4 +143,49 @@ pub enum Slip {
     SumLastProductLeft,
     /// What is carried for the first component is not cleared before the second.
     SumCarriedOver,
+    /// T-03, here and below, in words of the 2018 edition; first those of an encoder and a decoder alike.
+    /// The edition is not looked at: every word is one of 2013.
+    EditionIgnored,
+    /// The added zero stands first in x, and differencing drops the first symbol.
+    ZeroFirst,
+    /// Integration runs from the front, as does differencing: from the symbol before.
+    IntegratedFromFront,
+    /// b′1 is at place 1 of x, and b1 at place 2.
+    ComponentsExchanged,
+    /// The whole w is one of 2013 from its end to its start, and so are its components.
+    WordReversed,
+    /// Of an encoder, here and below. v runs from 1 to m−1.
+    VFromOne,
+    /// v runs from 0 to m. This does no harm: with v = m the word is that of the next s with v = 0, which
+    /// would be tried next.
+    VUpToM,
+    /// v runs from 1 to m, as it does in 2013, or is taken for an index from 0 on. Of the words tried only
+    /// that of s = 0 and v = 0 is then missing, which no profile balances: this does no harm either.
+    VAsIn2013,
+    /// v counts from the end of x, as integration does.
+    VFromEnd,
+    /// v is tried before s.
+    VBeforeS,
+    /// s is added at x1.
+    SAddedFirst,
+    /// s is tried in the order in which 2013 tries its own for the complement: q−2 downward, then q−1.
+    SFalling,
+    /// Of a decoder, here and below. What a corrected symbol moves the syndromes by has 2013's sign.
+    CorrectedAsIn2013,
+    /// What a filled symbol moves the syndromes by has 2013's sign.
+    FilledAsIn2013,
+    /// The negatives of the components are restored, as if they were the components: 1 is added where it
+    /// should be taken.
+    OneAdded,
+    /// The messages are those of the negatives of the components.
+    MessagesNegated,
+    /// The word is complemented, and the error is the complement's: of the other sign in w, and of another
+    /// size where a check symbol wraps.
+    ErrorOfComplement,
+    /// Of a call, here and below. Number 1 comes before number 12.
+    EditionAfterProfile,
+    /// Every other number comes before number 12.
+    EditionLast,
+    /// An edition that is neither 13 nor 18 is taken for 13.
+    OtherEditionIs2013,
 }

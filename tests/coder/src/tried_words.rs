@@ -89,7 +89,7 @@ pub fn both_off(profile: &Profile, rng: &mut Rng) -> Option<Vec<u8>> {
 
 /// Weight off by q, and neither check sum.
 pub fn neither_off_by_q(profile: &Profile, rng: &mut Rng) -> Option<Vec<u8>> {
-    let x = interleave(&components(profile, rng));
+    let x = interleave(profile.edition, &components(profile, rng));
     let word = with_check_symbols(profile, &off_by_q(profile, &x, rng)?);
     if_unreadable(profile, word, |sums| sums.is_off_from_q() && sums.off == [0, 0])
 }

@@ -1,36 +1,40 @@
 //! Every case of document 01, starred or not, against the coder, words with erasures (T-01), words
-//! with errors of both signs (T-02) and words by how many positions are tried (T-08).
+//! with errors of both signs (T-02), words by how many positions are tried (T-08) and words of the
+//! 2018 edition (T-03).
 
 use coder::balance::{balanced_words, weight, BalancingChoice};
 use coder::codeword::codewords;
 use coder::component::encode_component;
 use coder::decode::decode_word;
+use coder::edition::Edition;
 use coder::encode::encode;
 use coder::examples::{
-    encoded, BOXLINES_INPUT, BOXLINES_OUTPUT, COMPONENTS, DECODED, ERASED, ERRORS, PROFILE_TABLE,
-    TRIED,
+    encoded, encoded_2018, Encoded2018, BOXLINES_INPUT, BOXLINES_OUTPUT, COMPONENTS, DECODED,
+    DECODED_2018, ERASED, ERRORS, PROFILE_TABLE, TRIED,
 };
 use coder::lines::{answer, boxlines};
-use coder::profile::PROFILES;
+use coder::profile::{Profile, PROFILES, PROFILES_2018};
 use coder::queue::{dequeue, enqueue, format, is_sound};
 use coder::refusal::Refusal;
 use coder::text::{digits, symbols};
 
 #[test]
 fn the_profile_table() {
-    let rows = PROFILES.map(|p| {
-        let derived = [p.k(), p.m(), p.word_length()].map(|length| length as u32);
-        let [k, m, word_length] = derived;
-        let (number, q, delta) = (p.number.into(), p.q.into(), p.delta().into());
-        [number, q, p.r as u32, p.n as u32, k, m, word_length, p.balancing_value(), delta]
-    });
-    assert_eq!(rows, PROFILE_TABLE);
+    for profiles in [PROFILES, PROFILES_2018] {
+        let rows = profiles.map(|p| {
+            let derived = [p.k(), p.m(), p.word_length()].map(|length| length as u32);
+            let [k, m, word_length] = derived;
+            let (number, q, delta) = (p.number.into(), p.q.into(), p.delta().into());
+            [number, q, p.r as u32, p.n as u32, k, m, word_length, p.balancing_value(), delta]
+        });
+        assert_eq!(rows, PROFILE_TABLE);
+    }
 }
 
 #[test]
 fn the_balancing_rule_alone() {
     let x = [4, 2, 1, 0, 0, 0];
-    let (choice, w) = balanced_words(5, &x).next().unwrap();
+    let (choice, w) = balanced_words(Edition::Of2013, 5, &x).next().unwrap();
     assert_eq!(choice, BalancingChoice { s: 2, v: 5 });
     assert_eq!(w, [1, 3, 4, 4, 0, 0]);
     assert_eq!(weight(&w), 12);
@@ -47,7 +51,7 @@ fn components_of_profile_1() {
 fn encoded_words() {
     for (profile, [first, second], word) in encoded() {
         let mut output = vec![0; word.len()];
-        encode(profile, &symbols(&first), &symbols(&second), &mut output).unwrap();
+        encode(13, profile, &symbols(&first), &symbols(&second), &mut output).unwrap();
         assert_eq!(digits(&output), word);
     }
 }
@@ -57,6 +61,34 @@ fn the_choice_for_a_pair_of_profile_1() {
     let messages = ["00001", "00000"].map(symbols);
     let (choice, _) = codewords(&PROFILES[0], &messages)[0];
     assert_eq!(choice, BalancingChoice { s: 1, v: 3 });
+}
+
+/// T-03's rule, worked out by hand.
+#[test]
+fn encoded_words_of_2018() {
+    for Encoded2018 { profile, messages, s, v, word } in encoded_2018() {
+        let messages = messages.map(|message| symbols(&message));
+        let profile = Profile::of(Edition::Of2018, profile).unwrap();
+        let (choice, made) = &codewords(profile, &messages)[0];
+        assert_eq!((*choice, digits(made)), (BalancingChoice { s, v }, word.clone()));
+        let mut output = vec![0; word.len()];
+        encode(18, profile.number, &messages[0], &messages[1], &mut output).unwrap();
+        assert_eq!(digits(&output), word);
+    }
+}
+
+#[test]
+fn received_words_of_2018() {
+    for (word, expected, tried) in DECODED_2018 {
+        let (answer, counted) = match decode_word(&PROFILES_2018[0], &symbols(word)) {
+            Ok((answer, [first, second])) => {
+                (answer.decoded.answer(&first, &second), Some(answer.tried))
+            }
+            Err(refusal @ Refusal::Unreadable { tried }) => (refusal.to_string(), Some(tried)),
+            Err(refusal) => (refusal.to_string(), None),
+        };
+        assert_eq!((answer.as_str(), counted), (expected, tried), "{word}");
+    }
 }
 
 #[test]

@@ -2,10 +2,11 @@
 
 use coder::codeword::{all_messages, codewords, Messages};
 use coder::decode::{decode, decode_word, Answer, Decoded, Kind, Sent};
+use coder::edition::{profiles_of_both, EDITIONS};
 use coder::erased_words::{erased, erased_and_changed};
 use coder::erasure::erased_at;
 use coder::near_miss;
-use coder::profile::{Profile, PROFILES};
+use coder::profile::Profile;
 use coder::random_words::codeword;
 use coder::refusal::Refusal;
 use coder::rng::Rng;
@@ -16,7 +17,8 @@ use coder::rng::Rng;
 fn assert_filled(profile: &Profile, messages: &Messages, codeword: &[u8], positions: &[usize]) {
     let received = erased_at(codeword, positions);
     let [mut first, mut second] = [0, 255].map(|filler| vec![filler; profile.k()]);
-    let decoded = decode(profile.number, &received, &mut first, &mut second);
+    let edition = profile.edition.number();
+    let decoded = decode(edition, profile.number, &received, &mut first, &mut second);
     let mut sent =
         positions.iter().map(|&position| Sent { position, symbol: codeword[position - 1] });
     let kind = Kind::Filled(sent.next().unwrap(), sent.next());
@@ -24,20 +26,22 @@ fn assert_filled(profile: &Profile, messages: &Messages, codeword: &[u8], positi
     assert_eq!((decoded, &[first, second]), (Ok(expected), messages));
 }
 
-/// Every pair of profile 1 with each position erased, and by turns with two.
+/// Every seventh pair of profile 1 with each position erased, and by turns with two.
 #[test]
 fn every_pair_of_profile_1_is_filled() {
-    let profile = &PROFILES[0];
-    let length = profile.word_length();
-    for (count, messages) in all_messages(profile).enumerate().step_by(7) {
-        let words = codewords(profile, &messages);
-        let (_, word) = &words[count % words.len()];
-        for position in 1..=length {
-            assert_filled(profile, &messages, word, &[position]);
-        }
-        let (one, other) = (1 + count % length, 1 + count / length % length);
-        if one != other {
-            assert_filled(profile, &messages, word, &[one.min(other), one.max(other)]);
+    for edition in EDITIONS {
+        let profile = &edition.profiles()[0];
+        let length = profile.word_length();
+        for (count, messages) in all_messages(profile).enumerate().step_by(7) {
+            let words = codewords(profile, &messages);
+            let (_, word) = &words[count % words.len()];
+            for position in 1..=length {
+                assert_filled(profile, &messages, word, &[position]);
+            }
+            let (one, other) = (1 + count % length, 1 + count / length % length);
+            if one != other {
+                assert_filled(profile, &messages, word, &[one.min(other), one.max(other)]);
+            }
         }
     }
 }
@@ -46,7 +50,7 @@ fn every_pair_of_profile_1_is_filled() {
 #[test]
 fn every_pair_of_positions_is_filled() {
     let rng = &mut Rng::new(4);
-    for profile in &PROFILES {
+    for profile in profiles_of_both() {
         let messages = rng.messages(profile);
         let words = codewords(profile, &messages);
         let (_, word) = rng.pick(&words);
@@ -64,7 +68,7 @@ fn every_pair_of_positions_is_filled() {
 #[test]
 fn one_erasure_and_a_wrong_symbol_are_refused() {
     let rng = &mut Rng::new(5);
-    for profile in PROFILES.iter().flat_map(|profile| [profile; 20]) {
+    for profile in profiles_of_both().flat_map(|profile| [profile; 20]) {
         let word = codeword(profile, rng);
         for _ in 0..50 {
             let received = erased_and_changed(profile, &word, [1, 1], rng);
@@ -77,7 +81,7 @@ fn one_erasure_and_a_wrong_symbol_are_refused() {
 #[test]
 fn the_search_agrees_with_what_the_sums_want() {
     let rng = &mut Rng::new(6);
-    for profile in &PROFILES {
+    for profile in profiles_of_both() {
         for count in 0..200 {
             let codeword = codeword(profile, rng);
             let noise = rng.word(profile.q, profile.word_length());

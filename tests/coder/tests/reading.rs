@@ -8,6 +8,7 @@ use coder::component::{
     check_positions, component_with_syndrome, encode_component, in_code, message_in, syndrome,
 };
 use coder::decode::{decode, decode_word, search, within_one, Answer, Decoded, Kind, Sent};
+use coder::edition::profiles_of_both;
 use coder::encode::encoded_word;
 use coder::near_miss::{self, printed_delta, Slip};
 use coder::profile::PROFILES;
@@ -36,7 +37,7 @@ fn a_message_fixes_its_component() {
 #[test]
 fn every_codeword_is_read_as_its_pair() {
     let rng = &mut Rng::new(3);
-    for profile in PROFILES.iter().flat_map(|profile| [profile; 10]) {
+    for profile in profiles_of_both().flat_map(|profile| [profile; 10]) {
         let messages = rng.messages(profile);
         let words = codewords(profile, &messages);
         assert_eq!(words[0].1, encoded_word(profile, &messages));
@@ -46,7 +47,8 @@ fn every_codeword_is_read_as_its_pair() {
         let (_, sent) = rng.pick(&words);
         for (change, received) in within_one(profile, sent) {
             let [mut first, mut second] = [0, 255].map(|filler| vec![filler; profile.k()]);
-            let decoded = decode(profile.number, &received, &mut first, &mut second);
+            let edition = profile.edition.number();
+            let decoded = decode(edition, profile.number, &received, &mut first, &mut second);
             let (expected, tried) = match change.kind {
                 Kind::Clean => (Decoded { kind: Kind::Clean, error: 0 }, 0),
                 Kind::Corrected(Sent { position, .. }) => {
@@ -68,7 +70,7 @@ fn every_codeword_is_read_as_its_pair() {
 #[test]
 fn the_search_agrees_with_the_steps_of_002() {
     let rng = &mut Rng::new(6);
-    for profile in &PROFILES {
+    for profile in profiles_of_both() {
         for count in 0..400 {
             let codeword = encoded(profile, rng);
             let noise = rng.word(profile.q, profile.word_length());
@@ -86,7 +88,7 @@ fn the_search_agrees_with_the_steps_of_002() {
 fn check_symbols_are_balanced_with_the_right_delta_only() {
     assert_eq!(printed_delta(&PROFILES[2]), 4);
     let rng = &mut Rng::new(1);
-    for profile in &PROFILES {
+    for profile in profiles_of_both() {
         let q = profile.q;
         assert_eq!(printed_delta(profile) == profile.delta(), q == 3);
         for _ in 0..50 {

@@ -24,6 +24,15 @@ fn number<T: std::fmt::Debug>(answer: Result<T, Refusal>) -> u8 {
     answer.expect_err("the call is to be refused").number()
 }
 
+/// Numbers that name no edition.
+const OTHER_EDITIONS: [u8; 8] = [0, 1, 12, 14, 17, 19, 31, 255];
+
+/// Every edition, and what a call is refused with that both editions refuse with this number. T-03: "12,
+/// edition neither 13 nor 18, before 1."
+fn by_edition(number: u8) -> impl Iterator<Item = (u8, u8)> {
+    [(13, number), (18, number)].into_iter().chain(OTHER_EDITIONS.map(|edition| (edition, 12)))
+}
+
 #[test]
 fn encode_refuses_in_order() {
     let bad_symbol: &[u8] = &[0, 0, 0, 0, 3];
@@ -40,8 +49,16 @@ fn encode_refuses_in_order() {
         (1, bad_symbol, RIGHT_MESSAGE, 19, 3),
         (1, RIGHT_MESSAGE, &[255, 0, 0, 0, 0], 19, 3),
     ] {
-        let mut output = vec![FILLER; length];
-        assert_eq!(number(encode(profile, first, second, &mut output)), expected);
+        for (edition, expected) in by_edition(expected) {
+            let mut output = vec![FILLER; length];
+            assert_eq!(number(encode(edition, profile, first, second, &mut output)), expected);
+            assert!(is_untouched(&output));
+        }
+    }
+    for edition in OTHER_EDITIONS {
+        let mut output = vec![FILLER; 19];
+        let answer = encode(edition, 1, RIGHT_MESSAGE, RIGHT_MESSAGE, &mut output);
+        assert_eq!(number(answer), 12);
         assert!(is_untouched(&output));
     }
 }
@@ -73,8 +90,15 @@ fn decode_refuses_in_order() {
         (1, &erased(UNREADABLE, &[1, 2]), [5, 5], 4),
         (1, UNREADABLE, [5, 5], 4),
     ] {
-        let [mut first, mut second] = lengths.map(|length| vec![FILLER; length]);
-        assert_eq!(number(decode(profile, word, &mut first, &mut second)), expected);
+        for (edition, expected) in by_edition(expected) {
+            let [mut first, mut second] = lengths.map(|length| vec![FILLER; length]);
+            assert_eq!(number(decode(edition, profile, word, &mut first, &mut second)), expected);
+            assert!(is_untouched(&first) && is_untouched(&second));
+        }
+    }
+    for edition in OTHER_EDITIONS {
+        let (mut first, mut second) = ([FILLER; 5], [FILLER; 5]);
+        assert_eq!(number(decode(edition, 1, RIGHT_WORD, &mut first, &mut second)), 12);
         assert!(is_untouched(&first) && is_untouched(&second));
     }
 }

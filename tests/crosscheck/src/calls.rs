@@ -1,12 +1,13 @@
 //! Encoding and decoding by a coder's entry points and by the separate coder.
 
 use coder::decode::{Answer, Decoded, Kind, Sent};
+use coder::profile::Profile;
 use coder::refusal::Refusal;
 use fogzurt::{EntryPoints, PackedAnswer, PositionAndSymbol};
 
 use crate::compare::{compare, Buffer, Checked, FILLER};
 
-/// The separate coder's profiles and boxes are bytes. No number that is wider names one, and
+/// The separate coder's editions, profiles and boxes are bytes. No number that is wider names one, and
 /// neither does 0.
 pub fn narrow(number: u64) -> u8 {
     u8::try_from(number).unwrap_or(0)
@@ -43,42 +44,56 @@ fn sent(Sent { position, symbol }: Sent) -> PositionAndSymbol {
     (position, symbol)
 }
 
+/// The edition and the profile that a call is told, right or not.
+pub type Told = [u64; 2];
+
+/// Those of a profile.
+pub fn told(profile: &Profile) -> Told {
+    [profile.edition.number(), profile.number].map(u64::from)
+}
+
 /// Encodes into an output of this length.
-pub fn encode(tried: &EntryPoints, profile: u64, messages: [&[u8]; 2], length: usize) -> Checked {
+pub fn encode(tried: &EntryPoints, told: Told, messages: [&[u8]; 2], length: usize) -> Checked {
+    let [edition, profile] = told;
     let [first, second] = messages.map(Buffer::new);
     let mut out = Buffer::output(length);
     let mut expected_out = vec![FILLER; length];
-    let answer = (tried.encode)(profile, first.lent(), second.lent(), out.lent_mut());
+    let answer = (tried.encode)(edition, profile, first.lent(), second.lent(), out.lent_mut());
+    let [narrow_edition, narrow_profile] = told.map(narrow);
     let [a, b] = messages;
-    let expected = number_of(coder::encode::encode(narrow(profile), a, b, &mut expected_out));
+    let expected = coder::encode::encode(narrow_edition, narrow_profile, a, b, &mut expected_out);
+    let expected = number_of(expected);
     compare(
-        || format!("encode {profile}, {a:?}, {b:?}, into {length} bytes"),
+        || format!("encode {edition}, {profile}, {a:?}, {b:?}, into {length} bytes"),
         [answer, expected],
         &[("first", &first, a), ("second", &second, b), ("out", &out, &expected_out)],
     )
 }
 
 /// Decodes into outputs of these lengths; what is right is found by the separate coder's search.
-pub fn decode(tried: &EntryPoints, profile: u64, word: &[u8], lengths: [usize; 2]) -> Checked {
+pub fn decode(tried: &EntryPoints, told: Told, word: &[u8], lengths: [usize; 2]) -> Checked {
     let [mut first, mut second] = lengths.map(|length| vec![FILLER; length]);
-    let expected = coder::decode::decode(narrow(profile), word, &mut first, &mut second);
-    decode_to(tried, profile, word, packed(expected), [&first, &second])
+    let [edition, profile] = told.map(narrow);
+    let expected = coder::decode::decode(edition, profile, word, &mut first, &mut second);
+    decode_to(tried, told, word, packed(expected), [&first, &second])
 }
 
 /// Decodes, where it is known what is right: the answer, and what both outputs then hold.
 pub fn decode_to(
     tried: &EntryPoints,
-    profile: u64,
+    [edition, profile]: Told,
     word: &[u8],
     expected: PackedAnswer,
     outputs: [&[u8]; 2],
 ) -> Checked {
     let received = Buffer::new(word);
     let [mut first, mut second] = outputs.map(|output| Buffer::output(output.len()));
-    let answer = (tried.decode)(profile, received.lent(), first.lent_mut(), second.lent_mut());
+    let (lent_first, lent_second) = (first.lent_mut(), second.lent_mut());
+    let answer = (tried.decode)(edition, profile, received.lent(), lent_first, lent_second);
     let [a, b] = outputs;
+    let lengths = outputs.map(<[u8]>::len);
     compare(
-        || format!("decode {profile}, {word:?}, into {} and {} bytes", a.len(), b.len()),
+        || format!("decode {edition}, {profile}, {word:?}, into {lengths:?} bytes"),
         [answer, expected],
         &[("word", &received, word), ("first", &first, a), ("second", &second, b)],
     )

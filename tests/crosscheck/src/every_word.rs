@@ -1,21 +1,21 @@
-//! All 3^19 received words of profile 1. The codewords and their neighbours are marked in a table,
-//! a part of it at a time; everything else has to be refused with 4. The table also says which
+//! All 3^19 received words of profile 1, of one edition. The codewords and their neighbours are marked in
+//! a table, a part of it at a time; everything else has to be refused with 4. The table also says which
 //! position is found, if any, and so how many are tried (02, T-08).
 
 use std::ops::Range;
 
 use coder::codeword::{all_messages, codewords, messages_of, with_check_symbols, Messages};
-use coder::profile::{Profile, PROFILES};
+use coder::edition::Edition;
+use coder::profile::Profile;
 use coder::refusal::Refusal;
 use coder::tried::tried_up_to;
 use fogzurt::{EntryPoints, PackedAnswer};
 
-use crate::calls::{decode_to, packed};
+use crate::calls::{decode_to, packed, told};
 use crate::compare::{Checked, Mismatch, FILLER};
 use crate::parallel::run_jobs;
 
-/// Profile 1, and its N, m and k.
-const PROFILE: &Profile = &PROFILES[0];
+/// Profile 1's N, m and k.
 const LENGTH: usize = 19;
 const M: usize = 17;
 const MESSAGE: usize = 5;
@@ -46,33 +46,35 @@ fn word<const COUNT: usize>(value: u32) -> [u8; COUNT] {
     word
 }
 
-pub fn check(tried: &EntryPoints) -> Checked<String> {
-    let codewords = list()?;
+pub fn check(tried: &EntryPoints, edition: Edition) -> Checked<String> {
+    let profile = &edition.profiles()[0];
+    let codewords = list(profile)?;
     let parts = run_jobs("every word of profile 1", PARTS, |part| {
-        check_part(tried, &codewords, part as u32 * WORDS_OF_A_PART)
+        check_part(tried, profile, &codewords, part as u32 * WORDS_OF_A_PART)
     })?;
     let [clean, corrected, refused] =
         [0, 1, 2].map(|kind| parts.iter().map(|counts| counts[kind]).sum::<u64>());
     let (sent, received) = (codewords.len(), clean + corrected + refused);
     Ok(format!(
-        "every word of profile 1: {sent} codewords; {received} received words, \
-         {clean} clean, {corrected} corrected, {refused} refused"
+        "every word of profile 1, edition {}: {sent} codewords; {received} received words, \
+         {clean} clean, {corrected} corrected, {refused} refused",
+        edition.number()
     ))
 }
 
 /// The codewords of all pairs by all balancing choices. To be sure that there are no others,
 /// every w is also put to 01's four conditions, with its own check symbols.
-fn list() -> Checked<Vec<(u32, Messages)>> {
-    let pairs: Vec<Messages> = all_messages(PROFILE).collect();
+fn list(profile: &Profile) -> Checked<Vec<(u32, Messages)>> {
+    let pairs: Vec<Messages> = all_messages(profile).collect();
     let by_choices = run_jobs("listing codewords", pairs.len(), |job| {
-        let words = codewords(PROFILE, &pairs[job]).into_iter();
+        let words = codewords(profile, &pairs[job]).into_iter();
         Ok(words.map(|(_, word)| (value(&word), pairs[job].clone())).collect::<Vec<_>>())
     })?;
     let by_conditions = run_jobs("trying every w", 3usize.pow(5), |job| {
         let first = job as u32 * WORDS_OF_A_JOB;
         let words = (first..first + WORDS_OF_A_JOB).filter_map(|w| {
-            let word = with_check_symbols(PROFILE, &word::<M>(w));
-            Some((value(&word), messages_of(PROFILE, &word)?))
+            let word = with_check_symbols(profile, &word::<M>(w));
+            Some((value(&word), messages_of(profile, &word)?))
         });
         Ok(words.collect::<Vec<_>>())
     })?;
@@ -126,14 +128,19 @@ fn marks(codewords: &Codewords, first: u32) -> Vec<Mark> {
 }
 
 /// Decodes the words from `first` on; how many are clean, corrected and refused.
-fn check_part(tried: &EntryPoints, codewords: &Codewords, first: u32) -> Checked<[u64; 3]> {
+fn check_part(
+    tried: &EntryPoints,
+    profile: &Profile,
+    codewords: &Codewords,
+    first: u32,
+) -> Checked<[u64; 3]> {
     let mut counts = [0; 3];
     for (mark, number) in marks(codewords, first).into_iter().zip(first..) {
         let received: [u8; LENGTH] = word(number);
         let mut sent = received;
         let (kind, expected) = match mark {
             Mark::Far => {
-                check_refused(tried, &received)?;
+                check_refused(tried, profile, &received)?;
                 counts[2] += 1;
                 continue;
             }
@@ -142,14 +149,14 @@ fn check_part(tried: &EntryPoints, codewords: &Codewords, first: u32) -> Checked
                 let index = usize::from(index);
                 sent[index] = symbol;
                 let error = received[index] as i8 - symbol as i8;
-                let count = tried_up_to(PROFILE, &received, Some(index + 1)) as u8;
+                let count = tried_up_to(profile, &received, Some(index + 1)) as u8;
                 let corrected = PackedAnswer::corrected(index + 1, symbol);
                 (1, corrected.with_error(error).with_tried(count))
             }
         };
         let row = codewords.binary_search_by_key(&value(&sent), |(listed, _)| *listed);
         let (_, [first, second]) = &codewords[row.expect("the word is listed")];
-        decode_to(tried, u64::from(PROFILE.number), &received, expected, [first, second])?;
+        decode_to(tried, told(profile), &received, expected, [first, second])?;
         counts[kind] += 1;
     }
     Ok(counts)
@@ -158,17 +165,20 @@ fn check_part(tried: &EntryPoints, codewords: &Codewords, first: u32) -> Checked
 /// The answer to a word that no codeword is near. Nearly every word is one, so the buffers stand on
 /// the stack, each output the middle of three parts, and the call is made again by `decode_to`, to
 /// say what differs, only where something does.
-fn check_refused(tried: &EntryPoints, received: &[u8; LENGTH]) -> Checked {
+fn check_refused(tried: &EntryPoints, profile: &Profile, received: &[u8; LENGTH]) -> Checked {
     const UNTOUCHED: [u8; 3 * MESSAGE] = [FILLER; 3 * MESSAGE];
     const LENT: Range<usize> = MESSAGE..2 * MESSAGE;
     let word = *received;
     let (mut first, mut second) = (UNTOUCHED, UNTOUCHED);
-    let number = u64::from(PROFILE.number);
-    let expected = packed(Err(Refusal::Unreadable { tried: tried_up_to(PROFILE, received, None) }));
-    let answer = (tried.decode)(number, &word, &mut first[LENT], &mut second[LENT]);
+    let told = told(profile);
+    let expected = packed(Err(Refusal::Unreadable { tried: tried_up_to(profile, received, None) }));
+    let [edition, number] = told;
+    let answer = (tried.decode)(edition, number, &word, &mut first[LENT], &mut second[LENT]);
     if answer == expected && word == *received && [first, second] == [UNTOUCHED; 2] {
         return Ok(());
     }
-    decode_to(tried, number, received, expected, [&UNTOUCHED[LENT]; 2])?;
-    Err(Mismatch(format!("decode 1, {received:?} is right only the second time; first {answer}")))
+    decode_to(tried, told, received, expected, [&UNTOUCHED[LENT]; 2])?;
+    Err(Mismatch(format!(
+        "decode {edition}, 1, {received:?} is right only the second time; first {answer}"
+    )))
 }

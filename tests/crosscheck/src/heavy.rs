@@ -1,12 +1,14 @@
 //! Pairs of heavy messages, all of the highest level but for a few symbols: their check row sums
 //! are the largest, with which sums in eight bits must not pass 255 (02, T-05: No wide multiply).
+//! They are of both editions by turns.
 
 use coder::codeword::Messages;
+use coder::edition::EDITIONS;
 use coder::profile::{Profile, PROFILES};
 use coder::rng::Rng;
 use fogzurt::EntryPoints;
 
-use crate::calls::encode;
+use crate::calls::{encode, told};
 use crate::compare::Checked;
 use crate::parallel::sum_of_jobs;
 
@@ -15,13 +17,13 @@ const PAIRS: usize = 5000;
 
 pub fn check(tried: &EntryPoints) -> Checked<String> {
     let encoded = sum_of_jobs("heavy pairs", PAIRS * PROFILES.len(), |job| {
-        let profile = &PROFILES[job % PROFILES.len()];
+        let edition = EDITIONS[job / PROFILES.len() % EDITIONS.len()];
+        let profile = &edition.profiles()[job % PROFILES.len()];
         let messages = heavy_messages(profile, &mut Rng::new(job as u64));
-        let number = u64::from(profile.number);
-        encode(tried, number, [&messages[0], &messages[1]], profile.word_length())?;
+        encode(tried, told(profile), [&messages[0], &messages[1]], profile.word_length())?;
         Ok(1)
     })?;
-    Ok(format!("heavy pairs: {encoded} of four profiles encoded"))
+    Ok(format!("heavy pairs: {encoded} of four profiles and both editions encoded"))
 }
 
 /// Each symbol is the highest level, but for up to three of each message.

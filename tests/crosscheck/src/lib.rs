@@ -12,6 +12,7 @@ mod received;
 mod refusals;
 mod sheets;
 
+use coder::edition::Edition;
 use fogzurt::EntryPoints;
 
 pub use calls::{number_of, packed};
@@ -30,8 +31,11 @@ pub const QUICK: [Section; 6] = [
     received::check,
 ];
 
-/// All received words of profile 1.
-pub const LONG: [Section; 1] = [every_word::check];
+/// All received words of profile 1, in each edition.
+pub const LONG: [Section; 2] = [
+    |tried| every_word::check(tried, Edition::Of2013),
+    |tried| every_word::check(tried, Edition::Of2018),
+];
 
 /// What holds another coder to the separate one: the quick run's calls, with fewer received words.
 pub const YARDSTICK: [Section; 5] =

@@ -1,16 +1,17 @@
-//! Every pair of messages of profile 1: its encoded word, as it is, with each symbol changed to
-//! each other level, with each symbol erased, and with two erased. What was sent is known, so
-//! nothing is searched for, and nothing is tried.
+//! Every pair of messages of profile 1, in both editions: its encoded word, as it is, with each symbol
+//! changed to each other level, with each symbol erased, and with two erased. What was sent is known,
+//! so nothing is searched for, and nothing is tried.
 
 use coder::codeword::{all_messages, Messages};
 use coder::decode::{within_one, Answer, Decoded, Kind, Sent};
+use coder::edition::EDITIONS;
 use coder::encode::encoded_word;
 use coder::erasure::erased_at;
-use coder::profile::PROFILES;
+use coder::profile::{Profile, PROFILES};
 use coder::tried::tried_up_to;
 use fogzurt::EntryPoints;
 
-use crate::calls::{decode_to, encode, packed};
+use crate::calls::{decode_to, encode, packed, told};
 use crate::compare::Checked;
 use crate::parallel::sum_of_jobs;
 
@@ -21,11 +22,16 @@ const ERASED_PAIRS: usize = 19;
 pub fn check(tried: &EntryPoints) -> Checked<String> {
     let pairs: Vec<Messages> = all_messages(&PROFILES[0]).collect();
     let positions = pairs_of_positions();
-    let decoded = sum_of_jobs("pairs of profile 1", pairs.len(), |job| {
-        let erased = positions.iter().cycle().skip(job * ERASED_PAIRS % positions.len());
-        check_pair(tried, &pairs[job], erased.take(ERASED_PAIRS))
+    let calls = EDITIONS.len() * pairs.len();
+    let decoded = sum_of_jobs("pairs of profile 1", calls, |job| {
+        let [edition, pair] = [job / pairs.len(), job % pairs.len()];
+        let profile = &EDITIONS[edition].profiles()[0];
+        let erased = positions.iter().cycle().skip(pair * ERASED_PAIRS % positions.len());
+        check_pair(tried, profile, &pairs[pair], erased.take(ERASED_PAIRS))
     })?;
-    Ok(format!("pairs of profile 1: {} encoded, {decoded} received words decoded", pairs.len()))
+    Ok(format!(
+        "pairs of profile 1, both editions: {calls} encoded, {decoded} received words decoded"
+    ))
 }
 
 /// Every two positions of a word, in rising order.
@@ -37,13 +43,13 @@ fn pairs_of_positions() -> Vec<[usize; 2]> {
 /// How many received words of this pair were decoded.
 fn check_pair<'a>(
     tried: &EntryPoints,
+    profile: &Profile,
     messages: &Messages,
     erased: impl Iterator<Item = &'a [usize; 2]>,
 ) -> Checked<usize> {
-    let profile = &PROFILES[0];
     let [first, second] = messages.each_ref().map(Vec::as_slice);
-    let number = u64::from(profile.number);
-    encode(tried, number, [first, second], profile.word_length())?;
+    let told = told(profile);
+    encode(tried, told, [first, second], profile.word_length())?;
     let sent = encoded_word(profile, messages);
     let changed = within_one(profile, &sent).map(|(change, received)| match change.kind {
         Kind::Corrected(Sent { position, .. }) => {
@@ -62,7 +68,29 @@ fn check_pair<'a>(
     changed
         .chain(filled)
         .map(|(expected, received)| {
-            decode_to(tried, number, &received, packed(Ok(expected)), [first, second]).map(|()| 1)
+            decode_to(tried, told, &received, packed(Ok(expected)), [first, second]).map(|()| 1)
         })
         .sum()
+}
+
+#[cfg(test)]
+mod tests {
+    use coder::near_miss_editions::{self, ENCODER_SLIPS};
+    use coder::profile::PROFILES_2018;
+
+    use super::*;
+
+    /// A fiftieth of the pairs tells each encoder with a slip of edition 18 (02, T-03) from the right one.
+    #[test]
+    fn every_slip_of_an_encoder_is_told() {
+        let profile = &PROFILES_2018[0];
+        let mut untold = ENCODER_SLIPS.to_vec();
+        for messages in all_messages(profile).step_by(50) {
+            let right = near_miss_editions::encode(profile, &messages, None);
+            untold.retain(|&slip| {
+                near_miss_editions::encode(profile, &messages, Some(slip)) == right
+            });
+        }
+        assert!(untold.is_empty(), "{untold:?}");
+    }
 }

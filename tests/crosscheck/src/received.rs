@@ -1,29 +1,30 @@
-//! Received words of every profile, against the separate coder's search of all neighbours and, where
-//! symbols are erased, of all fillings.
+//! Received words of every profile and of both editions, against the separate coder's search of all
+//! neighbours and, where symbols are erased, of all fillings.
 
 use coder::balance::{balanced_words, difference, subtract, BalancingChoice};
 use coder::codeword::{codewords, components_of, interleave, with_check_symbols, Messages};
+use coder::edition::{profiles_of_both, Edition, EDITIONS};
 use coder::erased_words::{
     both_checks, erased, erased_and_changed, like_parity, one_check_changed, one_check_erased,
     one_of_w, spoiled_and_erased, Draw,
 };
 use coder::erasure::erased_at;
-use coder::profile::{Profile, PROFILES};
+use coder::profile::Profile;
 use coder::random_words::{changed, changed_at, off_by_q, Receive};
 use coder::rng::Rng;
 use fogzurt::EntryPoints;
 
-use crate::calls::{decode, encode};
+use crate::calls::{decode, encode, told};
 use crate::compare::Checked;
-use crate::parallel::sum_of_jobs;
+use crate::parallel::run_jobs;
 
-/// Pairs of messages for each profile, for the library and for a coder that is only a yardstick.
-/// Each has its encoded word, and the words of KINDS.
-const PAIRS: usize = 5000;
-const FEWER_PAIRS: usize = 500;
+/// Pairs of messages for each profile and edition, for the library and for a coder that is only a
+/// yardstick. Each has its encoded word, and the words of KINDS.
+const PAIRS: usize = 4000;
+const FEWER_PAIRS: usize = 400;
 
 /// What is received, and how many words of it for each pair. The codewords are by any choice.
-const KINDS: [(usize, Receive); 16] = [
+const KINDS: [(usize, Receive); 17] = [
     (7, |_, codeword, _| codeword.to_vec()),
     (16, |profile, codeword, rng| changed(profile, codeword, 1, rng)),
     (10, |profile, codeword, rng| changed(profile, codeword, 2, rng)),
@@ -40,32 +41,43 @@ const KINDS: [(usize, Receive); 16] = [
     (2, more_than_two_erased),
     (2, |profile, codeword, rng| erased(&one_component_of_noise(profile, codeword, rng), 2, rng)),
     (1, |profile, _, rng| erased(&rng.word(profile.q, profile.word_length()), 1, rng)),
+    (2, of_other_edition),
 ];
 
 pub fn check(tried: &EntryPoints) -> Checked<String> {
-    check_pairs(tried, PAIRS * PROFILES.len())
+    check_pairs(tried, PAIRS)
 }
 
 pub fn check_fewer(tried: &EntryPoints) -> Checked<String> {
-    check_pairs(tried, FEWER_PAIRS * PROFILES.len())
+    check_pairs(tried, FEWER_PAIRS)
 }
 
-/// Decodes the words of so many pairs, the profiles by turns.
+/// Decodes the words of so many pairs of each profile and edition, these by turns.
 fn check_pairs(tried: &EntryPoints, pairs: usize) -> Checked<String> {
-    let words = sum_of_jobs("received words", pairs, |job| {
-        check_pair(tried, &PROFILES[job % PROFILES.len()], &mut Rng::new(job as u64))
+    let profiles: Vec<&Profile> = profiles_of_both().collect();
+    let words = run_jobs("received words", pairs * profiles.len(), |job| {
+        let profile = profiles[job % profiles.len()];
+        let words = check_pair(tried, profile, &mut Rng::new(job as u64))?;
+        Ok((profile.edition, words))
     })?;
-    Ok(format!("received words: {words} of four profiles decoded, {pairs} pairs encoded"))
+    let [of_2013, of_2018] = EDITIONS.map(|edition| {
+        words.iter().filter(|(of, _)| *of == edition).map(|(_, words)| words).sum::<usize>()
+    });
+    let pairs = words.len();
+    Ok(format!(
+        "received words: {of_2013} of edition 13 and {of_2018} of edition 18, of four profiles, \
+         decoded, {pairs} pairs encoded"
+    ))
 }
 
 /// How many words were received, all of one random pair.
 fn check_pair(tried: &EntryPoints, profile: &Profile, rng: &mut Rng) -> Checked<usize> {
     let messages = rng.messages(profile);
-    let number = u64::from(profile.number);
-    encode(tried, number, [&messages[0], &messages[1]], profile.word_length())?;
+    let told = told(profile);
+    encode(tried, told, [&messages[0], &messages[1]], profile.word_length())?;
     let words = received_words(profile, &messages, rng);
     for word in &words {
-        decode(tried, number, word, [profile.k(); 2])?;
+        decode(tried, told, word, [profile.k(); 2])?;
     }
     Ok(words.len())
 }
@@ -93,8 +105,9 @@ fn both_check_symbols(profile: &Profile, codeword: &[u8], rng: &mut Rng) -> Vec<
 fn one_component_of_noise(profile: &Profile, codeword: &[u8], rng: &mut Rng) -> Vec<u8> {
     let mut components = components_of(profile, &codeword[..profile.m()]);
     components[rng.below(2)] = rng.word(profile.q, profile.n);
-    let x = interleave(&components);
-    let (_, w) = balanced_words(profile.q, &x).next().expect("01: a choice always exists");
+    let x = interleave(profile.edition, &components);
+    let mut words = balanced_words(profile.edition, profile.q, &x);
+    let (_, w) = words.next().expect("01: a choice always exists");
     with_check_symbols(profile, &w)
 }
 
@@ -121,6 +134,14 @@ fn more_than_two_erased(profile: &Profile, codeword: &[u8], rng: &mut Rng) -> Ve
     }
 }
 
+/// A codeword of the other edition, as it is or with a symbol changed: the complement of one of this.
+fn of_other_edition(profile: &Profile, codeword: &[u8], rng: &mut Rng) -> Vec<u8> {
+    let w = codeword[..profile.m()].iter().map(|&symbol| profile.q - 1 - symbol);
+    let word = with_check_symbols(profile, &w.collect::<Vec<u8>>());
+    let count = rng.below(2);
+    changed(profile, &word, count, rng)
+}
+
 /// Words with right components and check symbols whose weight is off by q, with one symbol of w and
 /// with both check symbols erased.
 fn off_balance(
@@ -128,9 +149,15 @@ fn off_balance(
     (choice, codeword): &(BalancingChoice, Vec<u8>),
     rng: &mut Rng,
 ) -> Vec<Vec<u8>> {
-    let mut x = difference(profile.q, &codeword[..profile.m()]);
-    x[choice.v - 1] = subtract(profile.q, x[choice.v - 1], 1);
-    x[0] = 0;
+    let mut x = difference(profile.edition, profile.q, &codeword[..profile.m()]);
+    if choice.v != 0 {
+        x[choice.v - 1] = subtract(profile.q, x[choice.v - 1], 1);
+    }
+    let added_zero = match profile.edition {
+        Edition::Of2013 => 1,
+        Edition::Of2018 => profile.m(),
+    };
+    x[added_zero - 1] = 0;
     let Some(w) = off_by_q(profile, &x, rng) else {
         return Vec::new();
     };
@@ -149,9 +176,10 @@ mod tests {
     /// 002's printed δ, which is right for q = 3.
     #[test]
     fn every_slip_of_a_decoder_is_told() {
-        for profile in &PROFILES {
+        for profile in profiles_of_both() {
             let rng = &mut Rng::new(1);
-            let mut untold: Vec<Slip> = every_near_miss().map(|near_miss| near_miss.slip).collect();
+            let near_misses = every_near_miss(profile.edition);
+            let mut untold: Vec<Slip> = near_misses.map(|near_miss| near_miss.slip).collect();
             for _ in 0..PAIRS / 50 {
                 let messages = rng.messages(profile);
                 for word in received_words(profile, &messages, rng) {
@@ -160,7 +188,7 @@ mod tests {
                 }
             }
             let harmless: &[Slip] = if profile.q == 3 { &[Slip::PrintedDelta] } else { &[] };
-            assert_eq!(untold, harmless, "profile {}", profile.number);
+            assert_eq!(untold, harmless, "{profile:?}");
         }
     }
 }

@@ -2,12 +2,13 @@
 
 use coder::codeword::codewords;
 use coder::decode::replaced;
+use coder::edition::Edition;
 use coder::erasure::{erased_at, ERASURE};
 use coder::profile::{Profile, PROFILES};
 use coder::rng::Rng;
 use fogzurt::EntryPoints;
 
-use crate::calls::{decode, encode};
+use crate::calls::{decode, encode, narrow, Told};
 use crate::compare::Checked;
 use crate::parallel::sum_of_jobs;
 
@@ -19,17 +20,30 @@ pub const NUMBERS: [u64; 22] = [
     1 << 63, (1 << 63) + 1, (1 << 63) + 4, u64::MAX,
 ];
 
+/// The editions, and numbers that name none: near them, years, and others that would if they were cut to
+/// 8, 16 or 32 bits.
+#[rustfmt::skip]
+const EDITION_NUMBERS: [u64; 25] = [
+    13, 18, 0, 1, 12, 14, 15, 16, 17, 19, 20, 31, 255, 256 + 13, 256 + 18, 2013, 2018,
+    (1 << 16) + 13, (1 << 16) + 18,
+    (1 << 32) + 13, (1 << 32) + 18, 1 << 63, (1 << 63) + 13, (1 << 63) + 18, u64::MAX,
+];
+
 /// An oversize buffer.
 const OVERSIZE: usize = 1000;
 
 pub fn check(tried: &EntryPoints) -> Checked<String> {
-    let calls = sum_of_jobs("refusals", NUMBERS.len() * PROFILES.len(), |job| {
-        let number = NUMBERS[job / PROFILES.len()];
-        let profile = &PROFILES[job % PROFILES.len()];
+    let by_profile = NUMBERS.len() * PROFILES.len();
+    let calls = sum_of_jobs("refusals", EDITION_NUMBERS.len() * by_profile, |job| {
+        let told = [EDITION_NUMBERS[job / by_profile], NUMBERS[job % by_profile / PROFILES.len()]];
+        let edition = Edition::lookup(narrow(told[0])).unwrap_or(Edition::Of2013);
+        let profile = &edition.profiles()[job % PROFILES.len()];
         let rng = &mut Rng::new(job as u64);
-        Ok(check_encode(tried, number, profile, rng)? + check_decode(tried, number, profile, rng)?)
+        Ok(check_encode(tried, told, profile, rng)? + check_decode(tried, told, profile, rng)?)
     })?;
-    Ok(format!("refusals: {calls} calls with profiles, lengths and symbols of every kind"))
+    Ok(format!(
+        "refusals: {calls} calls with editions, profiles, lengths and symbols of every kind"
+    ))
 }
 
 /// The right length, wrong ones, none and far too much.
@@ -56,7 +70,7 @@ fn faulty(q: u8, word: &[u8]) -> Vec<Vec<u8>> {
 
 fn check_encode(
     tried: &EntryPoints,
-    number: u64,
+    told: Told,
     profile: &Profile,
     rng: &mut Rng,
 ) -> Checked<usize> {
@@ -65,7 +79,7 @@ fn check_encode(
     for first in &first {
         for second in &second {
             for length in lengths(profile.word_length()) {
-                encode(tried, number, [first, second], length)?;
+                encode(tried, told, [first, second], length)?;
                 calls += 1;
             }
         }
@@ -75,7 +89,7 @@ fn check_encode(
 
 fn check_decode(
     tried: &EntryPoints,
-    number: u64,
+    told: Told,
     profile: &Profile,
     rng: &mut Rng,
 ) -> Checked<usize> {
@@ -84,7 +98,7 @@ fn check_decode(
     for word in faulty(profile.q, codeword) {
         for first in lengths(profile.k()) {
             for second in lengths(profile.k()) {
-                decode(tried, number, &word, [first, second])?;
+                decode(tried, told, &word, [first, second])?;
                 calls += 1;
             }
         }

@@ -10,10 +10,11 @@ use std::path::PathBuf;
 
 pub use answer::{PackedAnswer, PositionAndSymbol};
 
-/// The six functions of a coder: the library's, or those of another that answers in the same way.
+/// The six functions of a coder: the library's, or those of another that answers in the same way. Encode
+/// and decode are told the edition first, and then the profile.
 pub struct EntryPoints {
-    pub encode: fn(u64, &[u8], &[u8], &mut [u8]) -> u64,
-    pub decode: fn(u64, &[u8], &mut [u8], &mut [u8]) -> PackedAnswer,
+    pub encode: fn(u64, u64, &[u8], &[u8], &mut [u8]) -> u64,
+    pub decode: fn(u64, u64, &[u8], &mut [u8], &mut [u8]) -> PackedAnswer,
     pub format: fn(&mut [u8]) -> u64,
     pub enqueue: fn(&mut [u8], u64, u64, &[u8]) -> u64,
     pub peek: fn(&[u8], u64, &mut [u8]) -> u64,
@@ -35,12 +36,12 @@ pub fn boxlines() -> Option<PathBuf> {
 #[rustfmt::skip]
 extern "C" {
     fn fogzurt_encode(
-        profile: u64, first: *const u8, first_len: usize, second: *const u8, second_len: usize,
-        out: *mut u8, out_len: usize,
+        edition: u64, profile: u64, first: *const u8, first_len: usize,
+        second: *const u8, second_len: usize, out: *mut u8, out_len: usize,
     ) -> u64;
     fn fogzurt_decode(
-        profile: u64, word: *const u8, word_len: usize, first: *mut u8, first_len: usize,
-        second: *mut u8, second_len: usize,
+        edition: u64, profile: u64, word: *const u8, word_len: usize,
+        first: *mut u8, first_len: usize, second: *mut u8, second_len: usize,
     ) -> u64;
     fn fogzurt_sheet_format(sheet: *mut u8, sheet_len: usize) -> u64;
     fn fogzurt_sheet_enqueue(
@@ -56,18 +57,25 @@ extern "C" {
 }
 
 /// 01: write. 0, or the number of the refusal.
-fn encode(profile: u64, first: &[u8], second: &[u8], out: &mut [u8]) -> u64 {
+fn encode(edition: u64, profile: u64, first: &[u8], second: &[u8], out: &mut [u8]) -> u64 {
     let ((a, a_len), (b, b_len)) = (lent(first), lent(second));
+    let (out, length) = (out.as_mut_ptr(), out.len());
     // SAFETY: here and below every pointer comes with the length of its own slice.
-    unsafe { fogzurt_encode(profile, a, a_len, b, b_len, out.as_mut_ptr(), out.len()) }
+    unsafe { fogzurt_encode(edition, profile, a, a_len, b, b_len, out, length) }
 }
 
 /// 01: read.
-fn decode(profile: u64, word: &[u8], first: &mut [u8], second: &mut [u8]) -> PackedAnswer {
+fn decode(
+    edition: u64,
+    profile: u64,
+    word: &[u8],
+    first: &mut [u8],
+    second: &mut [u8],
+) -> PackedAnswer {
     let (word, length) = lent(word);
     let (a, a_len) = (first.as_mut_ptr(), first.len());
     let (b, b_len) = (second.as_mut_ptr(), second.len());
-    PackedAnswer(unsafe { fogzurt_decode(profile, word, length, a, a_len, b, b_len) })
+    PackedAnswer(unsafe { fogzurt_decode(edition, profile, word, length, a, a_len, b, b_len) })
 }
 
 /// 01: lay out. 0, or the number of the refusal.

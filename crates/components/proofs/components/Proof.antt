@@ -3,6 +3,7 @@
 use denote.Ref.{now}
 use borrow.Author.Needs.{needs}
 use borrow.Author.Tests.{not-true, not-false}
+use Rattle.code_theory.specs.Parameters.{edition13}
 use Rattle.profiles.specs.Row.{RowOf}
 use Rattle.profiles.proofs.Table.{row-found, none-found}
 use Rattle.components.proofs.Lengths.{no-profile, no-fit, right-length, right-components}
@@ -13,8 +14,8 @@ abbrev start : tie.After-known-told → tie.Start
 start c = c .before .before .before .before .before .before
 
 -- the row that is found
-of : (c : tie.After-known-told) → RowOf (start c .args .profile) (c .before .row .given .0 .0)
-of c = row-found _ (c .before .before .before .row-of .ensures) (c .before .row .given .1)
+of : (c : tie.After-known-told) → RowOf edition13 (start c .args .profile) (c .before .row .given .0 .0)
+of c = row-found _ _ (c .before .before .before .row-of .ensures) (c .before .row .given .1)
 
 row-of-requires : tie.Need-row-of-requires
 row-of-requires c κs = search needs
@@ -26,7 +27,7 @@ enum-told : tie.Need-enum-told
 enum-told c = search needs
 
 returns : tie.Need-returns
-returns c = no-profile _ _ _ (none-found _ (c .before .before .row-of .ensures) (c .enum-told .given .1))
+returns c = no-profile _ _ _ (none-found _ _ (c .before .before .row-of .ensures) (c .enum-told .given .1))
 
 returns-2 : tie.Need-returns-2
 returns-2 c = no-fit _ _ _ (of (c .before .before .before)) (not-true _ (c .if1 .taken))

@@ -24,14 +24,14 @@ module _ (c : tie.Joined2) where
   abbrev begun : tie.After-available
   begun = c .before .before
 
-  own : OwnCorrected (start begun .args .q) (now (start begun .args .word)) (now (start begun .args .x)) (start begun .args .i)
-      (start begun .args .y) (c .if2 .x)
+  own : let args = start begun .args in
+      OwnCorrected (args .backward) (args .q) (now (args .word)) (now (args .x)) (args .i) (args .y) (c .if2 .x)
   own =
       ⊎-elim
       (λ w.
       let inside : start begun .args .i < length (now (start begun .args .word)) = omega (arith, c .before .if1 .left, room begun .1) in
-      subst (OwnCorrected _ _ _ _ _) (sym (w .3)) (own-corrected _ _ _ _ _ (w .0 .taken) inside (w .2 .ensures)))
-      (λ w. subst (OwnCorrected _ _ _ _ _) (sym (w .1)) (own-none _ _ _ _ _ (w .0 .left))) (c .if2 .came)
+      subst (OwnCorrected _ _ _ _ _ _) (sym (w .3)) (own-corrected _ _ _ _ _ _ (w .0 .taken) inside (w .2 .ensures)))
+      (λ w. subst (OwnCorrected _ _ _ _ _ _) (sym (w .1)) (own-none _ _ _ _ _ _ (w .0 .left))) (c .if2 .came)
 
 available-requires : tie.Need-available-requires
 available-requires c κs = search needs
@@ -39,7 +39,7 @@ available-requires c κs = search needs
 returns : tie.Need-returns
 returns c =
     let args = start (c .before) .args in
-    none-corrected _ (now (args .word)) _ _ (args .y) _ (c .before .available .ensures) (c .if1 .taken)
+    none-corrected _ _ (now (args .word)) _ _ (args .y) _ (c .before .available .ensures) (c .if1 .taken)
 
 sub-neighbour-difference : tie.Need-sub-neighbour-difference
 sub-neighbour-difference c = search needs
@@ -77,13 +77,13 @@ returns-2 : tie.Need-returns-2
 returns-2 c =
     let next = c .before .before in
     let first = next .before in
-    next-corrected _ _ _ _ _ _ (begun first .available .ensures) (first .before .if1 .left) (next .if3 .taken) (own first)
+    next-corrected _ _ _ _ _ _ _ (begun first .available .ensures) (first .before .if1 .left) (next .if3 .taken) (own first)
     (c .neighbour-difference2 .ensures)
 
 returns-3 : tie.Need-returns-3
 returns-3 c =
     let first = c .before in
-    next-none _ _ _ _ _ _ (begun first .available .ensures) (first .before .if1 .left) (c .if3 .left) (own first)
+    next-none _ _ _ _ _ _ _ (begun first .available .ensures) (first .before .if1 .left) (c .if3 .left) (own first)
 
 pub correct-differences-spec : {M : Type 1} → statement M
 correct-differences-spec =

@@ -12,12 +12,12 @@ use Rattle.differences.proofs.difference_body.Statement.{statement}
 use Rattle.differences.proofs.difference_body.Tie as tie
 
 abbrev Inv-loop : tie.InvT-loop
-Inv-loop q m word x₀ end i₀ x i =
-    DifferencedTo q word x₀ i x × (1 ≤ i) × (i - 1 ≤ end - 1)
+Inv-loop backward q m word x₀ end i₀ x i =
+    DifferencedTo backward q word x₀ i x × (1 ≤ i) × (i - 1 ≤ end - 1)
     × (end ≡ min (min m 97) (length word)) × (end ≤ 97) × (end ≤ length word)
 
 abbrev μ-loop : tie.MeasureT-loop
-μ-loop q m word x₀ end i₀ x i = end - i
+μ-loop backward q m word x₀ end i₀ x i = end - i
 
 available-requires : tie.Need-available-requires Inv-loop μ-loop
 available-requires c κs = search needs

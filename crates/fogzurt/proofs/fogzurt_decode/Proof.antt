@@ -17,7 +17,7 @@ pack-requires c κs =
     let decoded = c .before .before .before .before in
     let a = (decoded .before .before .before .before .before .before) .args in
     rw (decoded .decode .ensures .answer)
-    (within-answer (a .profile) (now (a .word)) (length (now (a .first))) (length (now (a .second))))
+    (within-answer (a .edition) (a .profile) (now (a .word)) (length (now (a .first))) (length (now (a .second))))
 
 same-length : tie.Need-same-length
 same-length c = search needs

@@ -1,15 +1,17 @@
 //! The figures of docs/SERVICE-BOOK.md: what all symbols, the odd and the even positions of a
 //! codeword add up to, what is answered when two or three symbols of an encoded word are bad, and
-//! what when one is bad and one or two others are erased (02, T-01: marked).
+//! what when one is bad and one or two others are erased (02, T-01: marked); and what is answered when a
+//! word of one edition (02, T-03) is read as one of the other.
 //! Bad and erased symbols are at positions, and bad ones arrive as levels, that are drawn evenly. For
 //! profile 1 every change of the stated words is tried; elsewhere words and changes are drawn, from
-//! a fixed seed. `odds --erasures` prints the last table alone.
+//! a fixed seed. `odds --erasures` and `odds --editions` print the last two tables alone.
 
 use std::process::ExitCode;
 
 use coder::balance::weight;
 use coder::codeword::{all_messages, codewords, Messages};
 use coder::decode::{replaced, search, Kind};
+use coder::edition::profiles_of_both;
 use coder::encode::encoded_word;
 use coder::erased_words::erased_and_changed;
 use coder::erasure::ERASURE;
@@ -73,8 +75,11 @@ fn every_erasure(sent: &[u8], word: &[u8], count: usize, after: usize, see: &mut
 /// One word's counts of outcomes.
 type Counts = [u64; OUTCOMES.len()];
 
+/// The profile that a word is of, and the one that it is read as: the same, but for the edition.
+type Profiles<'a> = [&'a Profile; 2];
+
 fn counts(
-    profile: &Profile,
+    [profile, reader]: Profiles,
     sent: &Messages,
     Damage { erased, bad }: Damage,
     plan: &Plan,
@@ -82,7 +87,7 @@ fn counts(
 ) -> Counts {
     let word = encoded_word(profile, sent);
     let mut counts = Counts::default();
-    let mut see = |received: &[u8]| counts[outcome(profile, sent, received)] += 1;
+    let mut see = |received: &[u8]| counts[outcome(reader, sent, received)] += 1;
     match plan {
         Plan::Every { .. } => every_change(profile.q, &word, bad, 0, &mut |changed| {
             every_erasure(&word, changed, erased, 0, &mut see)
@@ -110,6 +115,13 @@ fn share(words: &[Counts], outcome: usize) -> (f64, f64) {
 /// A row of a table: the profile, how many symbols are erased, where some are, and how many are bad,
 /// what was tried, and the outcomes in 100, with the standard error where changes were drawn.
 fn print_odds(profile: &Profile, damage: Damage, plan: &Plan) {
+    print!("| {} |", profile.number);
+    print_row([profile; 2], damage, plan);
+}
+
+/// The rest of a row.
+fn print_row(profiles: Profiles, damage: Damage, plan: &Plan) {
+    let [profile, _] = profiles;
     let rng = &mut Rng::new(20);
     let (sent, how): (Vec<Messages>, &str) = match plan {
         Plan::Every { step } => (all_messages(profile).step_by(*step).collect(), "every change of"),
@@ -118,13 +130,13 @@ fn print_odds(profile: &Profile, damage: Damage, plan: &Plan) {
         }
     };
     let words: Vec<Counts> =
-        sent.iter().map(|sent| counts(profile, sent, damage, plan, rng)).collect();
+        sent.iter().map(|sent| counts(profiles, sent, damage, plan, rng)).collect();
     let received: u64 = words.iter().flatten().sum();
     let (symbols, outcomes) = match damage {
         Damage { erased: 0, bad } => (bad.to_string(), OUTCOMES.len()),
         Damage { erased, bad } => (format!("{erased} | {bad}"), ERASED_OUTCOMES.len()),
     };
-    print!("| {} | {symbols} | {how} {} words: {received} |", profile.number, words.len());
+    print!(" {symbols} | {how} {} words: {received} |", words.len());
     for outcome in 0..outcomes {
         match (share(&words, outcome), plan) {
             ((0.0, _), _) => print!(" none |"),
@@ -183,6 +195,24 @@ fn print_erased() {
     }
 }
 
+/// What is answered when a word of one edition is read as one of the other, as sent and with one bad
+/// symbol.
+fn print_editions() {
+    println!("| profile | sent | read as | bad symbols | tried | {} |", OUTCOMES.join(" | "));
+    for profile in profiles_of_both() {
+        let reader = profile.in_other_edition();
+        let [sent, read] = [profile, &reader].map(|profile| profile.edition.number());
+        for (bad, words, changes) in [(0, 4000, 1), (1, 1000, 50)] {
+            let plan = match profile.number {
+                1 => Plan::Every { step: 1 },
+                _ => Plan::Drawn { words, changes },
+            };
+            print!("| {} | {sent} | {read} |", profile.number);
+            print_row([profile, &reader], Damage { erased: 0, bad }, &plan);
+        }
+    }
+}
+
 fn main() -> ExitCode {
     let arguments: Vec<String> = std::env::args().skip(1).collect();
     match arguments.iter().map(String::as_str).collect::<Vec<_>>()[..] {
@@ -191,10 +221,12 @@ fn main() -> ExitCode {
             PROFILES.iter().for_each(|profile| print_sums(profile, 10_000));
             print_bad();
             print_erased();
+            print_editions();
         }
         ["--erasures"] => print_erased(),
+        ["--editions"] => print_editions(),
         _ => {
-            eprintln!("usage: odds [--erasures]");
+            eprintln!("usage: odds [--erasures | --editions]");
             return ExitCode::FAILURE;
         }
     }

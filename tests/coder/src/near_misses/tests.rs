@@ -3,6 +3,8 @@
 use crate::codeword::{components_of, Messages};
 use crate::component::syndrome;
 use crate::decode::{Answer, Decoded, Kind};
+use crate::edition::profiles_of_both;
+use crate::profile::PROFILES;
 use crate::random_words::{checks_off, excess};
 use crate::refusal::Refusal;
 
@@ -13,8 +15,8 @@ use super::*;
 #[test]
 fn every_slip_is_told() {
     let rng = &mut Rng::new(1);
-    for near_miss in every_near_miss() {
-        for profile in &PROFILES {
+    for profile in profiles_of_both() {
+        for near_miss in every_near_miss(profile.edition) {
             let words = near_miss.words(profile, 3, rng);
             let harmless = near_miss.slip == Slip::PrintedDelta && profile.q == 3;
             assert_eq!(words.len(), if harmless { 0 } else { 3 }, "{}", near_miss.name);

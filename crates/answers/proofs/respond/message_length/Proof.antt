@@ -16,12 +16,12 @@ enum-told : tie.Need-enum-told
 enum-told c = search needs
 
 returns : tie.Need-returns
-returns c = message-none _ (none-found _ (c .before .before .row-of .ensures) (c .enum-told .given .1))
+returns c = message-none _ (none-found _ _ (c .before .before .row-of .ensures) (c .enum-told .given .1))
 
 returns-2 : tie.Need-returns-2
 returns-2 c =
     let looked = c .before .before .before in
-    message-row (row-found _ (looked .row-of .ensures) (c .before .row .given .1))
+    message-row (row-found _ _ (looked .row-of .ensures) (c .before .row .given .1))
 
 pub message-length-spec : {M : Type 1} → statement M
 message-length-spec =

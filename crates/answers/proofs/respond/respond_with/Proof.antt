@@ -23,7 +23,7 @@ write-decoded-requires c κs =
     let (small, (first-long, second-long)) = start d .pre in
     let a = start d .args in
     let e = d .decode .ensures in
-    let kept = d .decode .kept .1 .1 in (
+    let kept = d .decode .kept .1 .1 .1 in (
       (small .0, small .1, omega (arith, kept .0, small .2, first-long), omega (arith, kept .1 .0, small .2, second-long)),
       small-shown (a .profile) (now (a .word)) (now (a .first)) (now (a .second)) _ _ _ (e .answer) (e .first-out) (e .second-out),
     )

@@ -6,7 +6,7 @@ use mathlib.Core.Bool.{true, false}
 use mathlib.Core.List.{[], _∷_}
 use native.Mathlib.Omega.{arith}
 use denote.Ref.{now}
-use Rattle.decoder.proofs.Differencing.{zero-array, components-corrected}
+use Rattle.decoder.proofs.Differencing.{zero-array}
 use Rattle.decoder.proofs.Answering.{answers-read, answers-unreadable, messages-of}
 use Rattle.decoder.proofs.Completing.{Completed, one-completed, one-none, one-read}
 use Rattle.decoder.proofs.erased.complete_one.Statement.{statement}
@@ -20,7 +20,7 @@ start c = c .before .before .before .before .before
 abbrev found : tie.After-known-told → tie.After-find-one
 found c = c .before .before .before
 
-abbrev corrected : tie.After-correct-differences → tie.After-known-told
+abbrev corrected : tie.After-correct-components → tie.After-known-told
 corrected c = c .before .before
 
 -- what is known of the symbol
@@ -40,17 +40,18 @@ enum-known-y c = search needs
 returns : tie.Need-returns
 returns c = answers-unreadable _ _ (one-none _ _ _ _ (c .before .find-one .ensures) (c .match .keys2)) refl
 
-correct-differences-requires : tie.Need-correct-differences-requires
-correct-differences-requires c κs = search needs
+correct-components-requires : tie.Need-correct-components-requires
+correct-components-requires c κs =
+    let told = c .before in
+    (start (found told) .pre .0, found told .find-one .ensures .held, known told .levels 0 (omega arith))
 
 write-pair-requires : tie.Need-write-pair-requires
 write-pair-requires c κs =
     let body = c .before .before .before in
     let told = corrected body in
     let (word, _, outputs) = start (found told) .pre in
-    let level = known told .levels 0 (omega arith) in
     let near = known told .near in (
-      components-corrected _ _ word level (found told .find-one .ensures .held) (body .correct-differences .ensures) .levels,
+      body .correct-components .ensures .levels,
       record { first-rows = near .first-rows; second-rows = near .second-rows; near = near .near },
       record { first-long = outputs .first-long; second-long = outputs .second-long },
     )
@@ -68,14 +69,10 @@ returns-2 : tie.Need-returns-2
 returns-2 c =
     let written = c .before .before .before .before in
     let body = written .before .before .before .before in
-    let told = corrected body in
-    let level = known told .levels 0 (omega arith) in
-    let parts =
-    components-corrected _ _ (start (found told) .pre .0) level (found told .find-one .ensures .held) (body .correct-differences .ensures)
-    .parts in
-    answers-read _ _ (one-read (known told)) (messages-of (parts true) (parts false) (written .write-pair .ensures)) refl
+    let parts = body .correct-components .ensures .parts in
+    answers-read _ _ (one-read (known (corrected body))) (messages-of (parts true) (parts false) (written .write-pair .ensures)) refl
 
 pub complete-one-spec : {M : Type 1} → statement M
 complete-one-spec =
-    tie.close (tie.spec find-one-requires enum-known-y returns correct-differences-requires write-pair-requires add-position same-length
+    tie.close (tie.spec find-one-requires enum-known-y returns correct-components-requires write-pair-requires add-position same-length
     same-length-2 returns-2)

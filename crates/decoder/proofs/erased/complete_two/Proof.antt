@@ -6,7 +6,7 @@ use mathlib.Core.Bool.{true, false}
 use mathlib.Core.List.{[], _∷_}
 use native.Mathlib.Omega.{arith}
 use denote.Ref.{now}
-use Rattle.decoder.proofs.Differencing.{zero-array, word-set, components-corrected}
+use Rattle.decoder.proofs.Differencing.{zero-array, word-set}
 use Rattle.decoder.proofs.Answering.{answers-read, answers-unreadable, messages-of}
 use Rattle.decoder.proofs.Completing.{Completed, two-completed, two-none, two-read}
 use Rattle.decoder.proofs.erased.complete_two.Statement.{statement}
@@ -20,14 +20,14 @@ start c = c .before .before .before .before .before .before
 abbrev found : tie.After-known-told → tie.After-find-two
 found c = c .before .before .before
 
-abbrev by-first : tie.After-correct-differences2 → tie.After-correct-differences
+abbrev by-first : tie.After-correct-components2 → tie.After-correct-components
 by-first c = c .before .before .before
 
-abbrev told : tie.After-correct-differences2 → tie.After-known-told
+abbrev told : tie.After-correct-components2 → tie.After-known-told
 told c = by-first c .before .before .before
 
 -- both, from the end
-abbrev last : tie.After-slice-known5 → tie.After-correct-differences2
+abbrev last : tie.After-slice-known5 → tie.After-correct-components2
 last c = c .before .before .before .before .before .before .before .before
 
 -- what is known of the symbols
@@ -50,26 +50,28 @@ same-length c = search needs
 returns : tie.Need-returns
 returns c = answers-unreadable _ _ (two-none _ _ _ _ _ (c .before .find-two .ensures) (c .match .keys2)) refl
 
-correct-differences-requires : tie.Need-correct-differences-requires
-correct-differences-requires c κs = search needs
+correct-components-requires : tie.Need-correct-components-requires
+correct-components-requires c κs =
+    let at = c .before .before in
+    (start (found at) .pre .0, found at .find-two .ensures .held, known at .levels 0 (omega arith))
 
 slice-write-word : tie.Need-slice-write-word
 slice-write-word c = search needs
 
-correct-differences-requires-2 : tie.Need-correct-differences-requires-2
-correct-differences-requires-2 c κs = search needs
+correct-components-requires-2 : tie.Need-correct-components-requires-2
+correct-components-requires-2 c κs =
+    let once = c .before .before in
+    let at = once .before .before .before in
+    let level = known at .levels 0 (omega arith) in
+    let other = known at .levels 1 (omega arith) in
+    (word-set (start (found at) .pre .0) _ level, once .correct-components .ensures, other)
 
 write-pair-requires : tie.Need-write-pair-requires
 write-pair-requires c κs =
     let both = c .before .before .before in
-    let facts = known (told both) in
-    let at = found (told both) in
-    let (word, _, _, outputs) = start at .pre in
-    let level = facts .levels 0 (omega arith) in
-    let other = facts .levels 1 (omega arith) in
-    let first = components-corrected _ _ word level (at .find-two .ensures .held) (by-first both .correct-differences .ensures) in
-    let near = facts .near in (
-      components-corrected _ _ (word-set word _ level) other first (both .correct-differences2 .ensures) .levels,
+    let (_, _, _, outputs) = start (found (told both)) .pre in
+    let near = known (told both) .near in (
+      both .correct-components2 .ensures .levels,
       record { first-rows = near .first-rows; second-rows = near .second-rows; near = near .near },
       record { first-long = outputs .first-long; second-long = outputs .second-long },
     )
@@ -97,16 +99,10 @@ returns-2 : tie.Need-returns-2
 returns-2 c =
     let written = c .before .before .before .before in
     let both = written .before .before .before .before in
-    let facts = known (told both) in
-    let at = found (told both) in
-    let (word, _, _, _) = start at .pre in
-    let level = facts .levels 0 (omega arith) in
-    let other = facts .levels 1 (omega arith) in
-    let first = components-corrected _ _ word level (at .find-two .ensures .held) (by-first both .correct-differences .ensures) in
-    let parts = components-corrected _ _ (word-set word _ level) other first (both .correct-differences2 .ensures) .parts in
-    answers-read _ _ (two-read facts) (messages-of (parts true) (parts false) (written .write-pair .ensures)) refl
+    let parts = both .correct-components2 .ensures .parts in
+    answers-read _ _ (two-read (known (told both))) (messages-of (parts true) (parts false) (written .write-pair .ensures)) refl
 
 pub complete-two-spec : {M : Type 1} → statement M
 complete-two-spec =
-    tie.close (tie.spec find-two-requires enum-known-y same-length returns correct-differences-requires slice-write-word
-    correct-differences-requires-2 write-pair-requires add-position add-other same-length-2 same-length-3 same-length-4 returns-2)
+    tie.close (tie.spec find-two-requires enum-known-y same-length returns correct-components-requires slice-write-word
+    correct-components-requires-2 write-pair-requires add-position add-other same-length-2 same-length-3 same-length-4 returns-2)

@@ -8,7 +8,6 @@ use native.Mathlib.Omega.{arith}
 use Rattle.code_theory.specs.Reading as model
 use Rattle.code_theory.specs.Reading.{Correction}
 use Rattle.code_theory.specs.Operations.{success}
-use Rattle.decoder.proofs.Differencing.{components-corrected}
 use Rattle.decoder.proofs.Answering.{answers-read, messages-of}
 use Rattle.decoder.proofs.Finding.{fit-index, fit-small, fit-level, fit-near, fit-read}
 use Rattle.decoder.proofs.word.correct.Statement.{statement}
@@ -23,10 +22,10 @@ report-of e f = ap₂ (λ (c : Correction) (t : ℕ). success (model.corrected c
 abbrev start : tie.After-balancing-symbol → tie.Start
 start c = c .before .before .before .before .before .before
 
-abbrev sent : tie.After-correct-differences → tie.After-balancing-symbol
+abbrev sent : tie.After-correct-components → tie.After-balancing-symbol
 sent c = c .before .before
 
-abbrev corrected : tie.After-write-pair → tie.After-correct-differences
+abbrev corrected : tie.After-write-pair → tie.After-correct-components
 corrected c = c .before .before .before .before
 
 mul-i : tie.Need-mul-i
@@ -43,15 +42,16 @@ shared-slice-read-balancing-symbol c =
 balancing-symbol-requires : tie.Need-balancing-symbol-requires
 balancing-symbol-requires c κs = c .before .before .before .before .before .pre .0 .given
 
-correct-differences-requires : tie.Need-correct-differences-requires
-correct-differences-requires c κs = search needs
+correct-components-requires : tie.Need-correct-components-requires
+correct-components-requires c κs =
+    let (found, _, held, _) = start (c .before) .pre in
+    (found .is, held, fit-level found (c .before .balancing-symbol .ensures))
 
 write-pair-requires : tie.Need-write-pair-requires
 write-pair-requires c κs =
     let body = c .before .before .before in
-    let (found, after, held, outputs) = start (sent body) .pre in
-    let level = fit-level found (sent body .balancing-symbol .ensures) in (
-      components-corrected _ _ (found .is) level held (body .correct-differences .ensures) .levels,
+    let (found, after, _, outputs) = start (sent body) .pre in (
+      body .correct-components .ensures .levels,
       record { first-rows = after .first-rows; second-rows = after .second-rows; near = fit-near found after },
       record { first-long = outputs .first-long; second-long = outputs .second-long },
     )
@@ -80,14 +80,13 @@ returns : tie.Need-returns
 returns c =
     let written = c .before .before .before .before .before .before in
     let body = corrected written in
-    let (found, after, held, outputs) = start (sent body) .pre in
-    let level = fit-level found (sent body .balancing-symbol .ensures) in
-    let parts = components-corrected _ _ (found .is) level held (body .correct-differences .ensures) .parts in
+    let (found, after, _, _) = start (sent body) .pre in
+    let parts = body .correct-components .ensures .parts in
     answers-read _ _ (fit-read found after (sent body .balancing-symbol .ensures))
     (messages-of (parts true) (parts false) (written .write-pair .ensures))
     (report-of (c .corrected .ensures .0) (c .corrected .ensures .1 ∙ found .fit .2))
 
 pub correct-spec : {M : Type 1} → statement M
 correct-spec =
-    tie.close (tie.spec mul-i add-i shared-slice-read-balancing-symbol balancing-symbol-requires correct-differences-requires
+    tie.close (tie.spec mul-i add-i shared-slice-read-balancing-symbol balancing-symbol-requires correct-components-requires
     write-pair-requires add-corrected shared-slice-read-corrected corrected-requires same-length same-length-2 returns)

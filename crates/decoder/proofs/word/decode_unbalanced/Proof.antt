@@ -56,7 +56,7 @@ returns : tie.Need-returns
 returns c = answers-as (unbalanced-none _ _ _ (c .before .wrong-parity .ensures) (c .if1 .taken)) (answers-unreadable _ _ refl refl)
 
 effect-of-requires : tie.Need-effect-of-requires
-effect-of-requires c κs = given c
+effect-of-requires c κs = (given c .valid, given c .totalled .lack-below)
 
 locate-requires : tie.Need-locate-requires
 locate-requires c κs = let effect = c .before .before .before in (tries effect, start (effect .before) .pre .0)

@@ -2,11 +2,12 @@
 -- Assumes nothing.
 use mathlib.Core.List.{List}
 use Prim.Native.Nat.{ℕ}
+use lib.ListN.{take}
 use borrow.Author.Needs.{needs}
 use Rattle.code_theory.specs.Profiles.{profile}
 use denote.Ref.{now}
-use Rattle.encoder.specs.Symbols.{SymbolArray}
-use Rattle.encoder.proofs.Pairing.{IsMessage, pair-symbols, pair-encoded, pair-length}
+use Rattle.encoder.specs.Symbols.{SymbolArray, ZeroFirst}
+use Rattle.encoder.proofs.Pairing.{IsMessage, pair-symbols, pair-zero-first, pair-encoded, pair-length}
 use Rattle.encoder.proofs.pair.word_of.Statement.{statement}
 use Rattle.encoder.proofs.pair.word_of.Tie as tie
 
@@ -24,11 +25,14 @@ module _ (c : tie.After-components) where
   symbols : SymbolArray (start .args .row .q) (start .args .row .balanced) (c .components .result)
   symbols = pair-symbols (start .pre .0) (now (start .args .first)) (now (start .args .second)) pair (c .components .ensures) (search needs)
 
+  zero-first : ZeroFirst (start .args .row .q) (take (start .args .row .balanced) (c .components .result))
+  zero-first = pair-zero-first (start .pre .0) (now (start .args .first)) (now (start .args .second)) pair (c .components .ensures)
+
 components-requires : tie.Need-components-requires
 components-requires c κs = search needs
 
 balanced-requires : tie.Need-balanced-requires
-balanced-requires c κs = (start (c .before) .pre .0 .valid, symbols (c .before))
+balanced-requires c κs = (start (c .before) .pre .0 .valid, symbols (c .before), zero-first (c .before))
 
 with-checks-requires : tie.Need-with-checks-requires
 with-checks-requires c κs = (start (c .before .before .before) .pre .0 .valid, search needs)

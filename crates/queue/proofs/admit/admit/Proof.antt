@@ -10,7 +10,7 @@ use borrow.Author.Tests.{not-true, not-false, ne-eqb}
 use Rattle.modular_theory.proofs.Search.{eq-test, holds}
 use Rattle.code_theory.specs.Refusal.{Test, asks}
 use Rattle.code_theory.proofs.Refusal.{AllPass, past, stops}
-use Rattle.code_theory.specs.Parameters.{codewordLength}
+use Rattle.code_theory.specs.Parameters.{edition13, codewordLength}
 use Rattle.code_theory.specs.Component.{isReceived}
 use Rattle.code_theory.specs.Profiles.{isProfile, profile}
 use Rattle.profiles.specs.Row.{RowOf}
@@ -39,8 +39,8 @@ abbrev W : tie.Start → List ℕ
 W c = now (c .args .word)
 
 -- the row is the profile's
-of : (c : tie.After-known-told) → RowOf (begin c .args .profile) (c .before .row .given .0 .0)
-of c = row-found _ (looked-up c .row-of .ensures) (c .before .row .given .1)
+of : (c : tie.After-known-told) → RowOf edition13 (begin c .args .profile) (c .before .row .given .0 .0)
+of c = row-found _ _ (looked-up c .row-of .ensures) (c .before .row .given .1)
 
 abbrev found : tie.After-struct-known → tie.After-known-told
 found c = c .before
@@ -96,7 +96,7 @@ returns-2 c =
     let a = start (looked .before) in
     sym
     (stops (box-test a ∷ []) (profile-test a) (length-test a ∷ symbols-test a ∷ []) (box-passes (looked .before))
-    (none-found _ (looked .row-of .ensures) (c .enum-told .given .1)))
+    (none-found _ _ (looked .row-of .ensures) (c .enum-told .given .1)))
 
 returns-3 : tie.Need-returns-3
 returns-3 c =

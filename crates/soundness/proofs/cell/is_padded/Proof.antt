@@ -12,6 +12,7 @@ use Rattle.modular_theory.proofs.Search.{passes}
 use Rattle.code_theory.specs.Component.{isReceived}
 use Rattle.code_theory.specs.Profiles.{isProfile, profile}
 use Rattle.profiles.specs.declared.row.Row.{Row}
+use Rattle.code_theory.specs.Parameters.{edition13}
 use Rattle.profiles.specs.Row.{RowOf}
 use Rattle.profiles.proofs.Table.{row-found, none-found, codeword-is}
 use Rattle.queue_theory.specs.Lists.{allZero}
@@ -44,8 +45,8 @@ abbrev W : tie.After-known-told → List ℕ
 W c = now (start c .args .bytes)
 
 -- the row is the profile's
-of : (c : tie.After-known-told) → RowOf (P c) (row c)
-of c = row-found _ (looked c .row-of .ensures) (c .before .row .given .1)
+of : (c : tie.After-known-told) → RowOf edition13 (P c) (row c)
+of c = row-found _ _ (looked c .row-of .ensures) (c .before .row .given .1)
 
 fits : (c : tie.After-known-told) → N c ≤ length (W c)
 fits c = omega (arith, codeword-is (of c), word-fits (P c) (of c .known), start c .pre)
@@ -63,7 +64,7 @@ returns : tie.Need-returns
 unfolding isPadded
 returns c =
     let looked = c .before .before in
-    off (isProfile (looked .before .before .args .profile)) _ (none-found _ (looked .row-of .ensures) (c .enum-told .given .1))
+    off (isProfile (looked .before .before .args .profile)) _ (none-found _ _ (looked .row-of .ensures) (c .enum-told .given .1))
 
 slice-aggregate-is-received : tie.Need-slice-aggregate-is-received
 slice-aggregate-is-received c = sym (length-take-le (N (c .before)) (W (c .before)) (fits (c .before)))

@@ -21,15 +21,17 @@ struct Walk {
 
 impl Walk {
     fn new(profile: &Profile, messages: &Messages) -> Self {
-        let x = interleave(&messages.each_ref().map(|message| encode_component(profile, message)));
-        let choices = (0..profile.q)
+        let (edition, q) = (profile.edition, profile.q);
+        let components = messages.each_ref().map(|message| encode_component(profile, message));
+        let x = interleave(edition, &components);
+        let choices = (0..q)
             .flat_map(|s| (1..=x.len()).rev().map(move |v| BalancingChoice { s, v }))
-            .map(|choice| weight(&choice.apply(profile.q, &x)));
-        let start = weight(&integrate(profile.q, &x));
+            .map(|choice| weight(&choice.apply(edition, q, &x)));
+        let start = weight(&integrate(edition, q, &x));
         Walk {
             m: x.len(),
             weights: [start].into_iter().chain(choices).collect(),
-            target: balancing_value(profile.q, x.len()),
+            target: balancing_value(q, x.len()),
             earliest: codewords(profile, messages)[0].0,
         }
     }

@@ -1,12 +1,15 @@
 //! pairs: messages of all profiles, and the word that encoding makes.
 
+mod editions;
+
 use std::iter::repeat_with;
 
 use coder::codeword::{codewords, Messages};
+use coder::edition::Edition;
 use coder::encode::encode;
 use coder::erasure::{erased_at, ERASURE};
 use coder::examples;
-use coder::profile::{Profile, PROFILES};
+use coder::profile::Profile;
 use coder::rng::Rng;
 use coder::text::digits;
 
@@ -23,44 +26,51 @@ const RANDOM: usize = 400;
 pub fn make() -> CaseFile {
     let mut file = CaseFile::default();
     let rng = &mut Rng::new(SEED);
+    let edition = Edition::Of2013;
     cases_of_01(&mut file);
-    constant_messages(&mut file);
-    unit_messages(&mut file);
-    order_of_choices(&mut file, rng);
-    random(&mut file, rng);
-    file.group("refusals, alone and together, in 01's order");
-    order_of_refusals(&mut file, faulty, rng);
+    constant_messages(&mut file, edition);
+    unit_messages(&mut file, edition);
+    order_of_choices(&mut file, edition, rng);
+    random(&mut file, edition, RANDOM, rng);
+    order_of_refusals(&mut file, edition, rng);
     erasures(&mut file, rng);
+    editions::add_groups(&mut file);
     file
 }
 
+/// The edition and the profile that a call is told, right or not.
+type Told = [u8; 2];
+
 /// Adds the case of two messages, with an output buffer of this length.
-fn add(file: &mut CaseFile, profile: u8, [first, second]: &Messages, length: usize) {
+fn add(file: &mut CaseFile, told: Told, [first, second]: &Messages, length: usize) {
+    let [edition, profile] = told;
     let mut output = vec![FILLER; length];
-    let expected = match encode(profile, first, second, &mut output) {
+    let expected = match encode(edition, profile, first, second, &mut output) {
         Ok(()) => digits(&output),
         Err(refusal) => refusal.to_string(),
     };
-    file.case(format!("{profile} {} {} {length}", digits(first), digits(second)), &expected);
+    let messages = format!("{} {}", digits(first), digits(second));
+    file.case(format!("{edition} {profile} {messages} {length}"), &expected);
 }
 
 /// Adds the case of two messages with an output of the right length.
 fn add_pair(file: &mut CaseFile, profile: &Profile, messages: &Messages) {
-    add(file, profile.number, messages, profile.word_length());
+    let told = [profile.edition.number(), profile.number];
+    add(file, told, messages, profile.word_length());
 }
 
 /// 01's own cases, with 01's words.
 fn cases_of_01(file: &mut CaseFile) {
     file.group("cases of 01");
     for (profile, [first, second], word) in examples::encoded() {
-        file.case(format!("{profile} {first} {second} {}", word.len()), &word);
+        file.case(format!("13 {profile} {first} {second} {}", word.len()), &word);
     }
 }
 
 /// Every pair of messages of one level each: the zero pair first, then up to all q−1.
-fn constant_messages(file: &mut CaseFile) {
+fn constant_messages(file: &mut CaseFile, edition: Edition) {
     file.group("the zero pair of each profile, then every other pair of constant messages");
-    for profile in &PROFILES {
+    for profile in edition.profiles() {
         for first in 0..profile.q {
             for second in 0..profile.q {
                 let pair = [first, second].map(|symbol| vec![symbol; profile.k()]);
@@ -71,8 +81,12 @@ fn constant_messages(file: &mut CaseFile) {
 }
 
 /// Adds pairs of zeros with one other symbol, each of these at every position of both messages.
-fn single_symbols<const COUNT: usize>(file: &mut CaseFile, symbols: fn(&Profile) -> [u8; COUNT]) {
-    for profile in &PROFILES {
+fn single_symbols<const COUNT: usize>(
+    file: &mut CaseFile,
+    edition: Edition,
+    symbols: fn(&Profile) -> [u8; COUNT],
+) {
+    for profile in edition.profiles() {
         let k = profile.k();
         for symbol in symbols(profile) {
             for index in 0..2 * k {
@@ -85,11 +99,11 @@ fn single_symbols<const COUNT: usize>(file: &mut CaseFile, symbols: fn(&Profile)
 }
 
 /// Pairs with a single 1 or q−1, and with a single symbol out of range.
-fn unit_messages(file: &mut CaseFile) {
+fn unit_messages(file: &mut CaseFile, edition: Edition) {
     file.group("unit messages, of 1 and of q-1: wrong if position 2 of a component holds data");
-    single_symbols(file, |profile| [1, profile.q - 1]);
+    single_symbols(file, edition, |profile| [1, profile.q - 1]);
     file.group("a symbol of q and of 9 at every position");
-    single_symbols(file, |profile| [profile.q, 9]);
+    single_symbols(file, edition, |profile| [profile.q, 9]);
 }
 
 /// Whether the word depends on the order of trying: another is found first if v is before s.
@@ -100,9 +114,9 @@ fn depends_on_order(profile: &Profile, messages: &Messages) -> bool {
 }
 
 /// Pairs that an encoder which tries v before s gets wrong.
-fn order_of_choices(file: &mut CaseFile, rng: &mut Rng) {
+fn order_of_choices(file: &mut CaseFile, edition: Edition, rng: &mut Rng) {
     file.group("another word if v is tried before s");
-    for profile in &PROFILES {
+    for profile in edition.profiles() {
         let pairs = repeat_with(|| rng.messages(profile));
         let told = pairs.filter(|pair| depends_on_order(profile, pair));
         for pair in told.take(OF_EACH_ORDER) {
@@ -111,11 +125,11 @@ fn order_of_choices(file: &mut CaseFile, rng: &mut Rng) {
     }
 }
 
-/// Random pairs of every profile.
-fn random(file: &mut CaseFile, rng: &mut Rng) {
+/// So many random pairs of every profile.
+fn random(file: &mut CaseFile, edition: Edition, count: usize, rng: &mut Rng) {
     file.group("random pairs");
-    for profile in &PROFILES {
-        for _ in 0..RANDOM {
+    for profile in edition.profiles() {
+        for _ in 0..count {
             add_pair(file, profile, &rng.messages(profile));
         }
     }
@@ -125,7 +139,13 @@ fn random(file: &mut CaseFile, rng: &mut Rng) {
 type Variants = fn(&Profile, &[u8]) -> Vec<Vec<u8>>;
 
 /// Every profile number with every fault of both messages and of the output.
-fn order_of_refusals(file: &mut CaseFile, variants: Variants, rng: &mut Rng) {
+fn order_of_refusals(file: &mut CaseFile, edition: Edition, rng: &mut Rng) {
+    file.group("refusals, alone and together, in 01's order");
+    every_fault(file, edition, faulty, rng);
+}
+
+/// The same with these variants of the messages.
+fn every_fault(file: &mut CaseFile, edition: Edition, variants: Variants, rng: &mut Rng) {
     for number in PROFILE_NUMBERS {
         let profile = row_for(number);
         let [firsts, seconds] = rng.messages(profile).map(|message| variants(profile, &message));
@@ -133,7 +153,8 @@ fn order_of_refusals(file: &mut CaseFile, variants: Variants, rng: &mut Rng) {
             for second in &seconds {
                 let length = profile.word_length();
                 for length in [length, length - 1, length + 1, 0] {
-                    add(file, number, &[first.clone(), second.clone()], length);
+                    let told = [edition.number(), number];
+                    add(file, told, &[first.clone(), second.clone()], length);
                 }
             }
         }
@@ -157,9 +178,9 @@ fn faulty(profile: &Profile, message: &[u8]) -> Vec<Vec<u8>> {
 /// T-01: "Number 3 is left .. for 255 in a user word."
 fn erasures(file: &mut CaseFile, rng: &mut Rng) {
     file.group("T-01, here and below: ? at every position");
-    single_symbols(file, |_| [ERASURE]);
+    single_symbols(file, Edition::Of2013, |_| [ERASURE]);
     file.group("refusals of messages with ?, alone and together, in 01's order");
-    order_of_refusals(file, |_, message| erased_variants(message), rng);
+    every_fault(file, Edition::Of2013, |_, message| erased_variants(message), rng);
 }
 
 /// A message as it is, with ? at its end, all of ?, and short with ?.
@@ -174,51 +195,4 @@ fn erased_variants(message: &[u8]) -> Vec<Vec<u8>> {
 }
 
 #[cfg(test)]
-mod tests {
-    use coder::near_miss_sums::{self, SUM_SLIPS};
-    use coder::text::symbols;
-
-    use super::*;
-
-    /// The zero pair is balanced by s = 0 and v = 1, which both orders try first.
-    #[test]
-    fn the_order_of_trying_matters_to_some_pairs() {
-        let depends = |pair: [&str; 2]| depends_on_order(&PROFILES[0], &pair.map(symbols));
-        assert!(!depends(["00000", "00000"]));
-        assert!(depends(["20000", "12002"]));
-    }
-
-    /// The pairs of a profile that are encoded, each with its word.
-    fn encoded(profile: &Profile, input: &str, expected: &str) -> Vec<(Messages, Vec<u8>)> {
-        let of_profile = format!("{} ", profile.number);
-        let cases = input.lines().zip(expected.lines());
-        cases
-            .filter(|(case, word)| case.starts_with(&of_profile) && !word.starts_with('R'))
-            .map(|(case, word)| {
-                let fields: Vec<&str> = case.split(' ').collect();
-                ([fields[1], fields[2]].map(symbols), symbols(word))
-            })
-            .collect()
-    }
-
-    /// The pairs tell an encoder with a slip of T-05 from the right one, in every profile in which the
-    /// slip does harm. Without a slip its sums make every word that the search makes.
-    #[test]
-    fn every_slip_of_the_sums_is_told() {
-        let file = make();
-        let [input, expected] =
-            [&file.input, &file.expected].map(|bytes| std::str::from_utf8(bytes).unwrap());
-        for profile in &PROFILES {
-            let pairs = encoded(profile, input, expected);
-            let is_told = |slip| {
-                let mut pairs = pairs.iter();
-                pairs.any(|(pair, word)| near_miss_sums::encode(profile, pair, slip) != *word)
-            };
-            assert!(!is_told(None), "profile {}", profile.number);
-            for (slip, harmed) in SUM_SLIPS {
-                let does_harm = harmed.contains(&profile.number);
-                assert_eq!(is_told(Some(slip)), does_harm, "{slip:?}, profile {}", profile.number);
-            }
-        }
-    }
-}
+mod tests;

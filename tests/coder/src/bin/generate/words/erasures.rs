@@ -2,6 +2,7 @@
 //! that the words without erasures are those that were stored before.
 
 use coder::decode::{replaced, search};
+use coder::edition::Edition;
 use coder::erased_words::{
     both_checks, erased, erased_and_changed, like_parity, one_of_w_and_one_check, unlike_parity,
     with_erasures, with_erasures_at,
@@ -75,11 +76,12 @@ const RECEIVED: [Received; 19] = [
 
 pub fn add_groups(file: &mut CaseFile) {
     let rng = &mut Rng::new(SEED);
+    let edition = Edition::Of2013;
     file.group("T-01, here and below: 01's words with erasures, by hand");
-    cases_by_hand(file, &ERASED);
-    near_misses(file, &ERASURE_NEAR_MISSES, OF_EACH_NEAR_MISS, rng);
+    cases_by_hand(file, edition, &ERASED);
+    near_misses(file, edition, &ERASURE_NEAR_MISSES, OF_EACH_NEAR_MISS, rng);
     every_position_and_pair(file, rng);
-    received(file, &RECEIVED, rng);
+    received(file, edition, &RECEIVED, rng);
     symbols_out_of_range(file, rng);
     order_of_refusals(file, rng);
 }
@@ -90,7 +92,7 @@ fn noise(profile: &Profile, count: usize, rng: &mut Rng) -> Vec<u8> {
 }
 
 /// A codeword with one symbol changed, and two others erased so that another codeword agrees.
-fn another_agrees(profile: &Profile, rng: &mut Rng) -> Option<Vec<u8>> {
+pub fn another_agrees(profile: &Profile, rng: &mut Rng) -> Option<Vec<u8>> {
     let word = codeword(profile, rng);
     (0..TRIES)
         .map(|_| erased_and_changed(profile, &word, [2, 1], rng))
@@ -157,7 +159,7 @@ fn order_of_refusals(file: &mut CaseFile, rng: &mut Rng) {
         let k = profile.k();
         for word in &words {
             for lengths in [[k, k], [k - 1, k], [k, k + 1], [0, 0]] {
-                add(file, number, word, lengths);
+                add(file, [13, number], word, lengths);
             }
         }
     }

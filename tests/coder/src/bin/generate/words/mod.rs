@@ -1,5 +1,6 @@
 //! words: received words of all profiles, and what decoding answers.
 
+mod editions;
 mod erasures;
 mod errors;
 mod tried;
@@ -7,9 +8,10 @@ mod tried;
 use std::iter::repeat_with;
 
 use coder::decode::{decode, replaced, within_one, Answer};
+use coder::edition::Edition;
 use coder::examples::{Case, DECODED};
 use coder::near_misses::{NearMiss, NEAR_MISSES};
-use coder::profile::{Profile, PROFILES};
+use coder::profile::Profile;
 use coder::random_words::{
     balanced_noise, both_check_symbols, by_another_choice, changed_at, codeword, encoded,
     one_check_symbol, with_changes, Build,
@@ -43,29 +45,47 @@ const RECEIVED: [Received; 9] = [
 pub fn make() -> CaseFile {
     let mut file = CaseFile::default();
     let rng = &mut Rng::new(SEED);
+    let edition = Edition::Of2013;
     file.group("cases of 01");
-    cases_by_hand(&mut file, &DECODED);
-    near_misses(&mut file, &NEAR_MISSES, OF_EACH_NEAR_MISS, rng);
-    every_position_and_level(&mut file, rng);
-    received(&mut file, &RECEIVED, rng);
+    cases_by_hand(&mut file, edition, &DECODED);
+    near_misses(&mut file, edition, &NEAR_MISSES, OF_EACH_NEAR_MISS, rng);
+    every_position_and_level(&mut file, edition, rng);
+    received(&mut file, edition, &RECEIVED, rng);
     symbols_out_of_range(&mut file, rng);
     order_of_refusals(&mut file, rng);
     erasures::add_groups(&mut file);
     errors::add_groups(&mut file);
     tried::add_groups(&mut file);
+    editions::add_groups(&mut file);
     file
 }
 
+/// The edition and the profile that a call is told, right or not.
+type Told = [u8; 2];
+
 /// Adds the case of a word, with output buffers of these lengths.
-fn add(file: &mut CaseFile, profile: u8, word: &[u8], lengths: [usize; 2]) {
+fn add(file: &mut CaseFile, told: Told, word: &[u8], lengths: [usize; 2]) {
+    let expected = answer(told, word, lengths);
+    let [edition, profile] = told;
+    let [first, second] = lengths;
+    file.case(format!("{edition} {profile} {} {first} {second}", digits(word)), &expected);
+}
+
+/// The line that answers this call.
+fn answer([edition, profile]: Told, word: &[u8], lengths: [usize; 2]) -> String {
     let [mut first, mut second] = lengths.map(|length| vec![FILLER; length]);
-    let (answer, tried) = match decode(profile, word, &mut first, &mut second) {
-        Ok(Answer { decoded, tried }) => (decoded.answer(&first, &second), Some(tried)),
+    let decoded = decode(edition, profile, word, &mut first, &mut second);
+    answer_of(decoded, [&first, &second])
+}
+
+/// The line for this answer, with what the outputs then hold.
+fn answer_of(answer: Result<Answer, Refusal>, [first, second]: [&[u8]; 2]) -> String {
+    let (answer, tried) = match answer {
+        Ok(Answer { decoded, tried }) => (decoded.answer(first, second), Some(tried)),
         Err(refusal @ Refusal::Unreadable { tried }) => (refusal.to_string(), Some(tried)),
         Err(refusal) => (refusal.to_string(), None),
     };
-    let expected = with_count(&answer, tried);
-    file.case(format!("{profile} {} {} {}", digits(word), lengths[0], lengths[1]), &expected);
+    with_count(&answer, tried)
 }
 
 /// What boxlines answers, and after it the count of T-08, where there is one.
@@ -76,21 +96,27 @@ fn with_count(answer: &str, tried: Option<usize>) -> String {
 
 /// Adds the case of a word with outputs of the right length.
 fn add_word(file: &mut CaseFile, profile: &Profile, word: &[u8]) {
-    add(file, profile.number, word, [profile.k(); 2]);
+    add(file, [profile.edition.number(), profile.number], word, [profile.k(); 2]);
 }
 
 /// Words of profile 1, with answers that were worked out by hand.
-fn cases_by_hand(file: &mut CaseFile, cases: &[Case]) {
+fn cases_by_hand(file: &mut CaseFile, edition: Edition, cases: &[Case]) {
     for &(word, answer, tried) in cases {
-        file.case(format!("1 {word} 5 5"), &with_count(answer, tried));
+        file.case(format!("{} 1 {word} 5 5", edition.number()), &with_count(answer, tried));
     }
 }
 
 /// So many words of every near miss, for every profile in which it does harm.
-fn near_misses(file: &mut CaseFile, table: &[NearMiss], count: usize, rng: &mut Rng) {
+fn near_misses<'a>(
+    file: &mut CaseFile,
+    edition: Edition,
+    table: impl IntoIterator<Item = &'a NearMiss>,
+    count: usize,
+    rng: &mut Rng,
+) {
     for near_miss in table {
-        file.group(format!("near miss {:?}: {}", near_miss.slip, near_miss.name));
-        for profile in &PROFILES {
+        file.group(near_miss.title(edition));
+        for profile in edition.profiles() {
             for word in near_miss.words(profile, count, rng) {
                 add_word(file, profile, &word);
             }
@@ -99,11 +125,11 @@ fn near_misses(file: &mut CaseFile, table: &[NearMiss], count: usize, rng: &mut 
 }
 
 /// A codeword and all its neighbours in one position. In w they have every error (02, T-02).
-fn every_position_and_level(file: &mut CaseFile, rng: &mut Rng) {
+fn every_position_and_level(file: &mut CaseFile, edition: Edition, rng: &mut Rng) {
     file.group(
         "a codeword of each profile, and every position and level of it: every error of T-02 in w",
     );
-    for profile in &PROFILES {
+    for profile in edition.profiles() {
         let word = codeword(profile, rng);
         for (_, neighbour) in within_one(profile, &word) {
             add_word(file, profile, &neighbour);
@@ -112,10 +138,10 @@ fn every_position_and_level(file: &mut CaseFile, rng: &mut Rng) {
 }
 
 /// Random words of every kind in the table.
-fn received(file: &mut CaseFile, table: &[Received], rng: &mut Rng) {
+fn received(file: &mut CaseFile, edition: Edition, table: &[Received], rng: &mut Rng) {
     for &(name, count, build) in table {
         file.group(name);
-        for profile in &PROFILES {
+        for profile in edition.profiles() {
             for word in repeat_with(|| build(profile, rng)).flatten().take(count) {
                 add_word(file, profile, &word);
             }
@@ -126,7 +152,7 @@ fn received(file: &mut CaseFile, table: &[Received], rng: &mut Rng) {
 /// A symbol of q, and one of 9, at every position of a codeword.
 fn symbols_out_of_range(file: &mut CaseFile, rng: &mut Rng) {
     file.group("a symbol of q and of 9 at every position");
-    for profile in &PROFILES {
+    for profile in Edition::Of2013.profiles() {
         let word = codeword(profile, rng);
         for position in 1..=word.len() {
             for symbol in [profile.q, 9] {
@@ -155,7 +181,7 @@ fn order_of_refusals(file: &mut CaseFile, rng: &mut Rng) {
         let lengths = [profile.k(), profile.k() - 1, profile.k() + 1, 0];
         for word in &words {
             for pair in 0..16 {
-                add(file, number, word, [lengths[pair / 4], lengths[pair % 4]]);
+                add(file, [13, number], word, [lengths[pair / 4], lengths[pair % 4]]);
             }
         }
     }

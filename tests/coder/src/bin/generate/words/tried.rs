@@ -1,12 +1,14 @@
 //! Words for the count of positions tried (02, T-08). They come after all others and have a seed of
 //! their own, so that the words before are those that were stored before.
 
+use std::iter;
+
 use coder::decode::replaced;
+use coder::edition::Edition;
 use coder::erased_words::with_erasures;
 use coder::erasure::erased_at;
 use coder::examples::TRIED;
 use coder::near_misses::TRIED_NEAR_MISSES;
-use coder::profile::PROFILES;
 use coder::random_words::{changed_at, codeword};
 use coder::rng::Rng;
 use coder::tried_words::{
@@ -23,7 +25,7 @@ const SEED: u64 = 0x7472_6965;
 const OF_EACH_NEAR_MISS: usize = 2;
 
 /// Unreadable words by their cause, and words with erasures.
-const RECEIVED: [Received; 18] = [
+pub const RECEIVED: [Received; 18] = [
     ("unreadable, 0 tried: weight off, and both check sums", 4, both_off),
     ("unreadable, 0 tried: weight off by q, and neither check sum", 4, neither_off_by_q),
     ("unreadable, 0 tried: weight off by less than q, and neither check sum", 4, neither_off),
@@ -80,19 +82,21 @@ pub fn add_groups(file: &mut CaseFile) {
     file.group(
         "T-08, here and below: 01's words with symbols wrong, and how many are tried, by hand",
     );
-    cases_by_hand(file, &TRIED);
-    near_misses(file, &TRIED_NEAR_MISSES, OF_EACH_NEAR_MISS, rng);
-    every_position(file, rng);
-    received(file, &RECEIVED, rng);
+    let edition = Edition::Of2013;
+    cases_by_hand(file, edition, &TRIED);
+    near_misses(file, edition, &TRIED_NEAR_MISSES, OF_EACH_NEAR_MISS, rng);
+    every_position(file, edition, 1, rng);
+    received(file, edition, &RECEIVED, rng);
     refusals(file, rng);
 }
 
-/// A codeword with each symbol changed in turn. In w each one is found, so that there is every count.
-fn every_position(file: &mut CaseFile, rng: &mut Rng) {
+/// So many codewords of each profile with each symbol changed in turn. In w each one is found, so that
+/// there is every count.
+pub fn every_position(file: &mut CaseFile, edition: Edition, count: usize, rng: &mut Rng) {
     file.group(
         "a codeword of each profile with each symbol changed in turn: every count of a corrected word",
     );
-    for profile in &PROFILES {
+    for profile in edition.profiles().iter().flat_map(|profile| iter::repeat_n(profile, count)) {
         let word = codeword(profile, rng);
         for position in 1..=word.len() {
             add_word(file, profile, &changed_at(profile, &word, &[position], rng));
@@ -109,11 +113,12 @@ fn refusals(file: &mut CaseFile, rng: &mut Rng) {
         let word = codeword(profile, rng);
         let word = changed_at(profile, &word, &[profile.m()], rng);
         let k = profile.k();
-        add(file, number, &word, [k, k]);
-        add(file, number, &word, [k, k + 1]);
-        add(file, number, &word[1..], [k, k]);
-        add(file, number, &replaced(&word, 1, profile.q), [k, k]);
-        add(file, number, &erased_at(&word, &[1, 2, 3]), [k, k]);
+        let told = [13, number];
+        add(file, told, &word, [k, k]);
+        add(file, told, &word, [k, k + 1]);
+        add(file, told, &word[1..], [k, k]);
+        add(file, told, &replaced(&word, 1, profile.q), [k, k]);
+        add(file, told, &erased_at(&word, &[1, 2, 3]), [k, k]);
     }
 }
 
@@ -121,11 +126,12 @@ fn refusals(file: &mut CaseFile, rng: &mut Rng) {
 mod tests {
     use std::collections::BTreeSet;
 
+    use coder::edition::EDITIONS;
     use coder::profile::Profile;
 
     /// The counts of all answers to words of this profile that begin so.
     fn counts(profile: &Profile, input: &str, expected: &str, kind: &str) -> BTreeSet<usize> {
-        let of_profile = format!("{} ", profile.number);
+        let of_profile = format!("{} {} ", profile.edition.number(), profile.number);
         let cases = input.lines().zip(expected.lines());
         let answers = cases
             .filter(|(case, answer)| case.starts_with(&of_profile) && answer.starts_with(kind));
@@ -133,13 +139,15 @@ mod tests {
     }
 
     /// "It never passes 9, 27, 25 and 49 for profiles 1 to 4": each count up to there is in the file,
-    /// of words that are corrected; of the others those that there are.
+    /// of words of each edition that are corrected; of the others those that there are.
     #[test]
     fn every_count_stands_in_the_words() {
         let file = super::super::make();
         let [input, expected] =
             [&file.input, &file.expected].map(|bytes| std::str::from_utf8(bytes).unwrap());
-        for (profile, most) in super::PROFILES.iter().zip([9, 27, 25, 49]) {
+        let profiles =
+            EDITIONS.into_iter().flat_map(|edition| edition.profiles().iter().zip([9, 27, 25, 49]));
+        for (profile, most) in profiles {
             let counts = |kind: &str| counts(profile, input, expected, kind);
             assert_eq!(counts("M "), (0..=most).collect());
             assert_eq!(counts("R 4 "), BTreeSet::from([0, most - 1, most]));
