@@ -10,7 +10,8 @@
  * lends, first in first out.
  *
  * Boxes have an edition, 13 or 18, and the same messages have as a rule another word in each. The edition
- * is a property of the box, and a word on the line does not tell it: see FOGZURT_EDITION_2013.
+ * is a property of the box, and a word on the line does not tell it: see FOGZURT_EDITION_2013. Where a box
+ * changes docks, fogzurt_convert makes the word of the other edition.
  *
  *   profile    levels q    message    word
  *      1          3            5       19      lengths in symbols, that is in bytes
@@ -22,7 +23,7 @@
  * nothing and keep nothing between calls, so calls with buffers of their own may run at the same
  * time.
  *
- * ONE RULE FOR ALL SIX FUNCTIONS. The lowest byte of an answer is the number: FOGZURT_NUMBER is 0
+ * ONE RULE FOR ALL SEVEN FUNCTIONS. The lowest byte of an answer is the number: FOGZURT_NUMBER is 0
  * where the call was done, and else one of FOGZURT_ERR_.. below. Every argument may have any value,
  * and what is wrong with it is answered by its number. A refused call writes no buffer. An accepted
  * call writes only what its comment says. Where several things are wrong, the number is the one that
@@ -46,15 +47,16 @@
 extern "C" {
 #endif
 
-/* Major, minor: a major step breaks a caller. 3.0 put the edition before the profile in fogzurt_encode
- * and fogzurt_decode: every call of the two has to be changed, by FOGZURT_EDITION_2013 as a first
- * argument, and then answers as before. 2.1 added FOGZURT_ERROR and 2.2 FOGZURT_TRIED, and no more:
- * each macro masks its own byte of an answer, so a caller of 2.0 that asks by the macros stays as it is.
- * Since 2.2 an answer of fogzurt_decode with the number 4 may have more than its lowest byte. A caller
- * that compares the whole answer with 4, and not FOGZURT_NUMBER of it, as the rule above has always
- * said, has to be changed. */
+/* Major, minor: a major step breaks a caller. 3.1 added fogzurt_convert and FOGZURT_ERR_NOT_CLEAN, which
+ * no other function answers, and no more: a caller of 3.0 stays as it is. 3.0 put the edition before the
+ * profile in fogzurt_encode and fogzurt_decode: every call of the two has to be changed, by
+ * FOGZURT_EDITION_2013 as a first argument, and then answers as before. 2.1 added FOGZURT_ERROR and 2.2
+ * FOGZURT_TRIED, and no more: each macro masks its own byte of an answer, so a caller of 2.0 that asks by
+ * the macros stays as it is. Since 2.2 an answer of fogzurt_decode with the number 4 may have more than its
+ * lowest byte. A caller that compares the whole answer with 4, and not FOGZURT_NUMBER of it, as the rule
+ * above has always said, has to be changed. */
 #define FOGZURT_VERSION_MAJOR 3
-#define FOGZURT_VERSION_MINOR 0
+#define FOGZURT_VERSION_MINOR 1
 
 /* The number in an answer: 0, or why the call was refused. Compare this, and never a whole answer. */
 #define FOGZURT_NUMBER(answer) ((unsigned)((uint64_t)(answer) & 0xff))
@@ -73,7 +75,8 @@ enum {
     FOGZURT_ERR_SHEET_FULL = 8,    /* the sheet has no free cell */
     FOGZURT_ERR_NO_RECORD = 10,    /* the sheet has no record of that number */
     FOGZURT_ERR_ERASURES = 11,     /* more than two symbols are erased */
-    FOGZURT_ERR_EDITION = 12       /* the edition is neither 13 nor 18 */
+    FOGZURT_ERR_EDITION = 12,      /* the edition is neither 13 nor 18 */
+    FOGZURT_ERR_NOT_CLEAN = 13     /* the word is read, but as corrected or filled */
 };
 
 /* The editions of boxes. Both have the profiles, the lengths and the two check symbols above; how messages
@@ -160,6 +163,35 @@ enum {
  * the word, and not how long the call took. 0 where the word is clean or filled, where a check symbol was
  * corrected, for other unreadable words, those with erasures among them, and for every other refusal. */
 #define FOGZURT_TRIED(answer) ((unsigned)((uint64_t)(answer) >> 56 & 0xff))
+
+/* Converts a word of one edition into the word that fogzurt_encode makes for the same messages in the other
+ * (the request's "converter").
+ *   edition              that of the word that comes in: FOGZURT_EDITION_2013 or FOGZURT_EDITION_2018
+ *   profile              1 to 4
+ *   word                 the word as received, with FOGZURT_ERASURE for each erased symbol
+ *   out                  where the other edition's word goes; its length is the word's, and it overlaps
+ *                        word nowhere
+ * Answers 0, and out then holds the other edition's word. Refusals, in this order:
+ *   12 edition; 1 profile; 2 the word or out has not its length; 3 a symbol is neither below q nor an
+ *   erasure; 11 more than two symbols are erased; 4 no codeword of that edition differs from the word in
+ *   at most one position or, where symbols are erased, agrees with it at all others; 13 one does, but not
+ *   the word itself: fogzurt_decode reads it as corrected or filled.
+ * The answer is the number alone: with 4 there is no count of positions tried.
+ *
+ * A word is passed on only where it is a codeword as it arrived. Where it is refused with 4, 11 or 13, read
+ * the box again, and convert what then arrives. Do not encode the messages that fogzurt_decode gives for such
+ * a word: what they became could no longer be told from the word of a clean one.
+ *
+ * There and back gives the word that fogzurt_encode makes for the messages. Where another firm's encoder
+ * made the first word, the two may differ: the same messages may have several codewords.
+ *
+ * The edition must be right, and is not checked: no word tells it. A codeword of the other edition, such as
+ * one that was converted before, is refused with 4 or, without any sign of it, converted as one of other
+ * messages (of the same where both are zeros), as often as it is read as them: see FOGZURT_EDITION_2013.
+ * With one symbol arrived as another level, or with erasures, it is refused, with 4, 11 or 13.
+ */
+uint64_t fogzurt_convert(uint64_t edition, uint64_t profile, const uint8_t *word, size_t word_len,
+                         uint8_t *out, size_t out_len);
 
 /* The bytes of a cell, and of a record that is copied out: byte 0 is 0, then come the box number,
  * the profile and the word's symbols, any of which may be FOGZURT_ERASURE, and then zeros. */

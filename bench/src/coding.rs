@@ -1,5 +1,5 @@
-//! Encoding, and decoding of clean words, of words with one symbol changed, and of words with one
-//! and two symbols erased, in both editions by turns.
+//! Encoding, decoding of clean words, of words with one symbol changed, and of words with one and two
+//! symbols erased, and converting of clean words, in both editions by turns.
 
 use std::hint::black_box;
 use std::time::Duration;
@@ -21,9 +21,18 @@ use crate::race::{time, Race};
 /// Pairs of messages for each profile.
 const PAIRS: usize = 2000;
 
-/// What is measured, in the order of a turn.
-const OPERATIONS: [&str; 5] =
-    ["encode", "decode clean", "decode corrected", "decode one erasure", "decode two erasures"];
+/// What is measured, in the order of a turn. Words are converted to the other edition.
+const OPERATIONS: [&str; 6] = [
+    "encode",
+    "decode clean",
+    "decode corrected",
+    "decode one erasure",
+    "decode two erasures",
+    "convert",
+];
+
+/// The kinds of received words that are decoded.
+const DECODED: usize = OPERATIONS.len() - 2;
 
 /// Where words are erased, by turns: in w, of two symbols of like and of unlike parity, and at check
 /// symbols.
@@ -70,7 +79,7 @@ fn told(profile: &Profile) -> [u64; 2] {
 struct Inputs {
     profile: &'static Profile,
     messages: Vec<Messages>,
-    received: [Vec<Vec<u8>>; OPERATIONS.len() - 1],
+    received: [Vec<Vec<u8>>; DECODED],
 }
 
 impl Inputs {
@@ -98,7 +107,8 @@ impl Inputs {
         let encode = self.encode(coder);
         let [clean, damaged, one_erased, two_erased] =
             self.received.each_ref().map(|words| self.decode(coder, words));
-        [encode, clean, damaged, one_erased, two_erased]
+        let convert = self.convert(coder);
+        [encode, clean, damaged, one_erased, two_erased, convert]
     }
 
     fn encode(&self, coder: &EntryPoints) -> Duration {
@@ -122,6 +132,19 @@ impl Inputs {
                 let answer = (coder.decode)(told[0], told[1], word, &mut first, &mut second);
                 assert!(answer.number() == 0);
                 black_box((&mut first, &mut second));
+            }
+        })
+    }
+
+    fn convert(&self, coder: &EntryPoints) -> Duration {
+        let [edition, number] = told(self.profile);
+        let [clean, ..] = &self.received;
+        let mut out = vec![0; self.profile.word_length()];
+        time(|| {
+            for word in clean {
+                let told = black_box([edition, number]);
+                assert!((coder.convert)(told[0], told[1], word, &mut out) == 0);
+                black_box(&mut out);
             }
         })
     }

@@ -10,6 +10,7 @@ pub const FAST: EntryPoints = EntryPoints {
     decode: |edition, profile, word, first, second| {
         packed(fast::decode(edition, profile, word, first, second))
     },
+    convert: |edition, profile, word, out| number_of(fast::convert(edition, profile, word, out)),
     format: |sheet| number_of(fast::queue::format(sheet)),
     enqueue: |sheet, box_number, profile, word| {
         number_of(fast::queue::enqueue(sheet, box_number, profile, word))

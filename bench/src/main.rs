@@ -14,6 +14,7 @@ use std::process::ExitCode;
 const HEAD: &str = "\
 best of several turns, both coders by turns on the same inputs; ratio = fast / library
 edition 13, but where 18 stands after the profile; 18 / 13 = the library's time over its time for edition 13
+convert = from the row's edition to the other: 13 to 18, and 18 to 13 where 18 stands
 buffers are lent as they are: no output is cleared between calls, by either coder
 ";
 

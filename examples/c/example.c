@@ -1,5 +1,6 @@
 /* Encodes two messages, damages a symbol on the way or erases some, decodes what arrives, and keeps it
- * on a sheet. At the end the same messages go to a box of the 2018 edition.
+ * on a sheet. At the end the same messages go to a box of the 2018 edition, and its word is converted to
+ * the 2013 edition and back.
  *
  * At the top of the repository, after `rt staticlib fogzurt`:
  *   cc -std=c11 -Iinclude examples/c/example.c target/staticlib/libfogzurt.a -o target/example
@@ -89,6 +90,12 @@ static void print_sent(uint64_t edition, const uint8_t *first, const uint8_t *se
     print_symbols("sent              ", word, WORD);
 }
 
+/* Converts a word of an edition, and prints the other edition's word. */
+static void print_converted(const char *label, uint64_t edition, const uint8_t *word, uint8_t *out) {
+    expect_ok("fogzurt_convert", fogzurt_convert(edition, PROFILE, word, WORD, out, WORD));
+    print_symbols(label, out, WORD);
+}
+
 /* Prints the box number and the word of a record that was copied out. */
 static void print_record(const char *label, const uint8_t *record) {
     printf("%s box %u, profile %u, ", label, record[FOGZURT_RECORD_BOX],
@@ -98,7 +105,8 @@ static void print_record(const char *label, const uint8_t *record) {
 
 int main(void) {
     const uint8_t opening[MESSAGE] = {0, 0, 0, 0, 1}, seal[MESSAGE] = {0, 0, 0, 0, 0};
-    uint8_t word[WORD], sheet[FOGZURT_SHEET_BYTES(RECORDS)], record[FOGZURT_CELL];
+    uint8_t word[WORD], converted[WORD], back[WORD];
+    uint8_t sheet[FOGZURT_SHEET_BYTES(RECORDS)], record[FOGZURT_CELL];
 
     print_sent(FOGZURT_EDITION_2013, opening, seal, word);
     print_decoded(word);
@@ -146,5 +154,15 @@ int main(void) {
     print_decoded_as(FOGZURT_EDITION_2018, word);
     printf("the same word as one of edition 2013\n");
     print_decoded(word);
-    return EXIT_SUCCESS;
+
+    /* The box changes docks: its word for the 2013 edition, and that one's for the 2018 edition again. */
+    print_converted("for edition 2013  ", FOGZURT_EDITION_2018, word, converted);
+    print_converted("for edition 2018  ", FOGZURT_EDITION_2013, converted, back);
+
+    /* A word that could be read by correcting a symbol is not passed on: read the box again. */
+    word[6 - 1] = 0;
+    print_symbols("received          ", word, WORD);
+    answer = fogzurt_convert(FOGZURT_EDITION_2018, PROFILE, word, WORD, converted, WORD);
+    printf("  not converted: number %u\n", FOGZURT_NUMBER(answer));
+    return FOGZURT_NUMBER(answer) == FOGZURT_ERR_NOT_CLEAN ? EXIT_SUCCESS : EXIT_FAILURE;
 }

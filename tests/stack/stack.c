@@ -15,10 +15,11 @@
 
 enum { STACK = 1 << 16, PATTERN = 0xa5, RECORDS = 255 };
 
-static uint8_t word[FOGZURT_LONGEST_WORD], first[FOGZURT_LONGEST_MESSAGE], second[FOGZURT_LONGEST_MESSAGE];
+static uint8_t word[FOGZURT_LONGEST_WORD], converted[FOGZURT_LONGEST_WORD];
+static uint8_t first[FOGZURT_LONGEST_MESSAGE], second[FOGZURT_LONGEST_MESSAGE];
 static uint8_t sheet[FOGZURT_SHEET_BYTES(RECORDS)], record[FOGZURT_CELL];
 
-/* Every call of encode and decode is measured in both editions. */
+/* Every call of encode, decode and convert is measured in both editions. */
 static uint64_t edition;
 
 static void encode(void) {
@@ -37,6 +38,11 @@ static void decode_corrected(void) {
 static void decode_filled(void) {
     word[50] = word[51] = FOGZURT_ERASURE;
     decode();
+}
+
+/* Converts the word that was decoded last: clean, or as the damage left it, which is refused. */
+static void convert(void) {
+    fogzurt_convert(edition, 4, word, sizeof word, converted, sizeof converted);
 }
 
 static void format(void) { fogzurt_sheet_format(sheet, sizeof sheet); }
@@ -83,8 +89,11 @@ int main(void) {
         printf("edition %u\n", (unsigned)edition);
         print_used("fogzurt_encode", encode);
         print_used("fogzurt_decode, clean", decode);
+        print_used("fogzurt_convert, clean", convert);
         print_used("fogzurt_decode, corrected", decode_corrected);
+        print_used("fogzurt_convert, corrected", convert);
         print_used("fogzurt_decode, filled", decode_filled);
+        print_used("fogzurt_convert, filled", convert);
     }
     printf("sheets\n");
     print_used("fogzurt_sheet_format", format);

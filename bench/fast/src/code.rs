@@ -10,9 +10,10 @@ pub type Profile2<const EDITION: u64> = Code<3, 4, 26, EDITION>;
 pub type Profile3<const EDITION: u64> = Code<5, 3, 24, EDITION>;
 pub type Profile4<const EDITION: u64> = Code<7, 3, 48, EDITION>;
 
-/// The most check symbols and the most symbols of a component.
+/// The most check symbols and the most symbols of a component, and the longest message.
 pub const MAX_R: usize = 4;
 pub const MAX_N: usize = 48;
+pub const MAX_K: usize = 45;
 
 /// The longest w, padded.
 pub const MAX_M: usize = 104;

@@ -5,6 +5,7 @@
 
 mod cell;
 mod code;
+mod convert;
 mod decode;
 mod encode;
 mod fill;
@@ -12,6 +13,7 @@ pub mod lines;
 pub mod queue;
 
 pub use code::{shape, Shape};
+pub use convert::convert;
 pub use decode::decode;
 pub use encode::encode;
 

@@ -5,7 +5,7 @@ use coder::erasure::ERASURE;
 use coder::refusal::{require, Refusal};
 use coder::text::ERASURE_BYTE;
 
-use crate::code::highest;
+use crate::code::{highest, MAX_K};
 use crate::{decode, shape};
 
 /// The longest answer is profile 4's, as in `4 F 98 6 99 6 0 `, two messages of 45, a space and byte 10.
@@ -17,8 +17,7 @@ const MARK: u8 = ERASURE_BYTE - b'0';
 /// T-03: "boxlines and sheets stay with edition 13."
 const EDITION: u64 = 13;
 
-/// The longest message and word.
-const MESSAGE: usize = 45;
+/// The longest word.
 const WORD: usize = 99;
 
 /// An answer line in the making.
@@ -99,7 +98,7 @@ impl Answer<'_> {
         }
         let number = u64::from(digit(*profile));
         let length = shape(number)?.message_length;
-        let (mut first, mut second) = ([0; MESSAGE], [0; MESSAGE]);
+        let (mut first, mut second) = ([0; MAX_K], [0; MAX_K]);
         let (first, second) = (&mut first[..length], &mut second[..length]);
         let Decoding { decoded, .. } = decode(EDITION, number, word, first, second)?;
         self.put(&[*profile]);

@@ -1,18 +1,13 @@
 -- From what decoding reports and leaves in its outputs to the line's answer.
 -- Assumes nothing.
 use mathlib.Core.Path.{_≡_, refl, sym, ap, _∙_}
-use mathlib.Core.Bool.{Bool, true, false}
+use mathlib.Core.Bool.{true, false}
 use mathlib.Core.List.{List}
-use Prim.Native.Nat.{ℕ, suc, _-_, _≤_, zero-le}
-use lib.Dec.{T, leb, leb→le}
+use Prim.Native.Nat.{ℕ, _-_, _≤_, zero-le}
 use lib.ListN.{length, take}
-use Rattle.modular_theory.specs.Search.{allBelow}
-use Rattle.code_theory.specs.Parameters.{Edition, messageLength}
-use Rattle.code_theory.specs.Profiles.{profiles, isProfile, profile}
-use Rattle.code_theory.proofs.Profiles.{every-profile, profile-none}
-use Rattle.profiles.specs.declared.row.Row.{Row}
-use Rattle.profiles.specs.Row.{RowOf}
-use Rattle.profiles.proofs.Table.{message-is}
+use Rattle.code_theory.specs.Parameters.{messageLength}
+use Rattle.code_theory.specs.Profiles.{isProfile, profile}
+use Rattle.code_theory.proofs.Profiles.{profile-none}
 use Rattle.code_theory.specs.Reading.{read, unreadable}
 use Rattle.code_theory.specs.Operations.{Answer, refused, answered, decodeAnswer, Report, report, decodeOutput}
 use Rattle.lines_theory.specs.Line.{lineEdition, answerLine, readAnswer, lineAnswer}
@@ -47,21 +42,7 @@ module _ (i : ℕ) (u a b a′ b′ : List ℕ) (r : Report) (tells : r ≡ repo
   unfolding readAnswer
   shown-answer e f = rw (tells, first, second) (line-shown i d a b ∙ rw (e, f))
 
--- A message has at most 45 symbols, and none where the number is no profile's.
-
-short-message : ℕ → Bool
-short-message i = leb (messageLength (profile i)) 45
-
-all-messages-short : T (allBelow (λ j. short-message (suc j)) (length profiles))
-unfolding short-message profile
-all-messages-short = tt
-
-pub message-row : {o : Edition} {i : ℕ} {t : Row} → RowOf o i t → (t .message ≡ messageLength (profile i)) × (t .message ≤ 45)
-unfolding short-message
-message-row {i = i} of =
-    let few = leb→le (messageLength (profile i)) 45 (every-profile short-message all-messages-short i (of .known)) in
-    (message-is of, rw (message-is of) few)
-
+-- a number that is no profile's has messages of no symbols
 pub message-none : (i : ℕ) → isProfile i ≡ false → (0 ≡ messageLength (profile i)) × (0 ≤ 45)
 message-none i e = (ap messageLength (sym (profile-none i e)), zero-le)
 

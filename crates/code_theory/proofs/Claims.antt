@@ -6,6 +6,7 @@ use Rattle.code_theory.proofs.Pair.{balance-of-pair}
 use Rattle.code_theory.proofs.Component.{one-component}
 use Rattle.code_theory.proofs.Encoded.{choice-carries, encoded-carries}
 use Rattle.code_theory.proofs.Restored.{one-pair}
+use Rattle.code_theory.proofs.Carried.{carried-messages}
 use Rattle.code_theory.proofs.Parity.{parity-sums, checks-balanced}
 use Rattle.code_theory.proofs.Apart.{apart-by-units, differences-invertible, apart}
 use Rattle.code_theory.proofs.Reading.{near-is-one, reading-is, reading-corrects}
@@ -25,6 +26,7 @@ claims =
       choice-carries = choice-carries;
       encoded-carries = encoded-carries;
       one-pair = one-pair;
+      carried-messages = carried-messages;
       parity-sums = parity-sums;
       checks-balanced = checks-balanced;
       apart-by-units = apart-by-units;

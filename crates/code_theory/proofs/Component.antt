@@ -129,10 +129,13 @@ module _ (p : Parameters) (s : Sized p) {a c : List ℕ} {k : ℕ} (b : Solution
           let n : l < k = lt-of-le-ne (le-of-suc-le-suc m) d in
           dot-set-zero (reducedRow p l) c i y pivot-inside (reduced-other p s l k (omega arith) h d) then b .sums l n
 
+-- a message has a symbol for each position without a check symbol
+pub message-count : (p : Parameters) → Sized p → messageLength p ≡ passing (opposite (checkAt p)) (p .n)
+message-count p s = omega (arith, check-count p s, count-not (checkAt p) (p .n))
+
 module _ (p : Parameters) (s : Sized p) (a : List ℕ) (w : T (isWord (p .q) (messageLength p) a)) where
-  -- as many symbols as there are positions without a check symbol
   message-fits : length a ≡ passing (opposite (checkAt p)) (p .n)
-  message-fits = omega (arith, word-length (p .q) (messageLength p) a w, check-count p s, count-not (checkAt p) (p .n))
+  message-fits = word-length (p .q) (messageLength p) a w ∙ message-count p s
 
   message-below : Below (p .q) a
   message-below = word-below (p .q) (messageLength p) a (q-positive p s) w

@@ -35,6 +35,7 @@ pub mod Erased
 pub mod TriedPositions
 -- The pair that a codeword carries
 pub mod Restored
+pub mod Carried
 pub mod Delta
 pub mod Encoded
 -- The table, the starred cases, and every claim

@@ -11,7 +11,7 @@ use lib.ListN.{length}
 use Rattle.modular_theory.specs.Search.{least}
 use Rattle.modular_theory.proofs.Search.{passes, fails, least-is}
 use Rattle.modular_theory.proofs.Residue.{of-eq, symm, _then_}
-use Rattle.code_theory.specs.Parameters.{Parameters, Sized}
+use Rattle.code_theory.specs.Parameters.{Parameters, Sized, codewordLength}
 use Rattle.code_theory.specs.Component.{inCode, message}
 use Rattle.code_theory.specs.Codeword.{body, received, lowered, restored, carried}
 use Rattle.code_theory.specs.Claims.{Restores, Carries, OnePair}
@@ -20,6 +20,11 @@ use Rattle.code_theory.proofs.Syndrome.{Zero, ColumnOf, code-zero, zero
 use Rattle.code_theory.proofs.Columns.{q-positive, last-row, last-below, one-not-zero, columns-differ}
 use Rattle.code_theory.proofs.Moves.{Column, Near, neither, first, second}
 use Rattle.code_theory.proofs.Conditions.{Conditions, conditions, body-length, balanced-length}
+
+-- the components of a word of N symbols
+pub length-received : (p : Parameters) (b : Bool) (u : List ℕ) → length u ≡ codewordLength p → length (received p b u) ≡ p .n
+unfolding received
+length-received p b u e = length-differenced p b (body p u) (body-length p u e ∙ balanced-length p)
 
 -- the test decides which
 restored-in : (p : Parameters) (c : List ℕ) → inCode p c ≡ true → restored p c ≡ c
@@ -81,14 +86,14 @@ module _ (p : Parameters) (s : Sized p) (c : List ℕ) (n : length c ≡ p .n) w
       }
 
 pub one-pair : OnePair
-unfolding carried received
+unfolding carried
 one-pair p s u h = (carries (l .near), only)
   where
     l : Conditions p u
     l = conditions p (q-positive p s) u h
 
     long : (b : Bool) → length (received p b u) ≡ p .n
-    long b = length-differenced p b (body p u) (body-length p u (l .long) ∙ balanced-length p)
+    long b = length-received p b u (l .long)
 
     back : Bool → List ℕ
     back b = restored p (received p b u)

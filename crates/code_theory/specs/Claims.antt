@@ -107,6 +107,12 @@ OnePair =
     → Carries p u (carried p true u) (carried p false u)
     × ((a b : List ℕ) → Carries p u a b → (a ≡ carried p true u) × (b ≡ carried p false u))
 
+-- and that pair can be encoded: each message of a word of N symbols, whatever they are, has k symbols below q
+abbrev pub CarriedMessages : Type 0
+CarriedMessages =
+    (p : Parameters) → Sized p → (u : List ℕ) → length u ≡ codewordLength p → (b : Bool)
+    → T (isWord (p .q) (messageLength p) (carried p b u))
+
 -- Why one bad symbol is never taken for another pair.
 
 -- the symbols of a codeword at odd positions, β among them, add up to the balancing value mod q, and those at even positions, α among
@@ -303,6 +309,7 @@ pub record Claims : Type 0 where
   pub choice-carries : ChoiceCarries
   pub encoded-carries : EncodedCarries
   pub one-pair : OnePair
+  pub carried-messages : CarriedMessages
   pub parity-sums : ParitySums
   pub checks-balanced : ChecksBalanced
   pub apart-by-units : ApartByUnits

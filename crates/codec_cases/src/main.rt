@@ -1,8 +1,10 @@
-// Runs encode and decode on stored cases (tests/README.md: pairs, words). Pairs come on standard input, a line
+// Runs encode, decode and convert on stored cases (tests/README.md: pairs, words, conversions). Pairs come on standard input, a line
 // `edition profile first second length` each, and the answer is the word. Words are in the file `words`, a line
 // `edition profile word first_length second_length` each, and the answer is `C 0 0 0 first second 0`,
 // `M place symbol error first second tried`, or `F place symbol 0 first second 0` with a place and a symbol for each mark. In a word and in
 // a message `?` is a mark. A refusal is `R number`, and `R 4 tried` for an unreadable word (02, T-08: how many places were tried).
+// Conversions (02, T-04) are in the file `conversions`, a line `edition profile word length` each, and the answer is the word of the other
+// edition, or `R number`.
 mod print;
 mod text;
 
@@ -25,13 +27,31 @@ use text::parse_symbols;
 use text::smaller;
 use text::until;
 
-// Encodes into the output, and prints the word or the refusal.
-fn encode_and_print(edition: usize, profile: usize, first: &[u8], second: &[u8], out: &mut [u8]) {
-    let answer = encoder::encode(edition, profile, first, second, out);
+// The operation that a file has cases of.
+enum Operation {
+    Encode,
+    Decode,
+    Convert,
+}
+
+// The word in an output, or the refusal.
+fn print_encoded(answer: Encoded, out: &[u8]) {
     match answer {
         Encoded::Done => print_word(out),
         Encoded::Refused(number) => print_refusal(number, is_untouched(out)),
     }
+}
+
+// Encodes into the output, and prints the word or the refusal.
+fn encode_and_print(edition: usize, profile: usize, first: &[u8], second: &[u8], out: &mut [u8]) {
+    let answer = encoder::encode(edition, profile, first, second, out);
+    print_encoded(answer, out);
+}
+
+// Converts into the output, and prints the word or the refusal.
+fn convert_and_print(edition: usize, profile: usize, word: &[u8], out: &mut [u8]) {
+    let answer = converter::convert(edition, profile, word, out);
+    print_encoded(answer, out);
 }
 
 // The messages and how many positions were tried, each after a space.
@@ -131,39 +151,55 @@ fn answer_word(line: &[u8]) {
     );
 }
 
-fn answer(line: &[u8], is_words: bool) {
-    if is_words {
-        answer_word(line);
-    } else {
-        answer_pair(line);
+fn answer_conversion(line: &[u8]) {
+    let mut word = [0u8; 128];
+    let n = smaller(parse_symbols(field(line, 2), &mut word), 128);
+    let mut out = [FILL; 128];
+    let l = smaller(parse_number(field(line, 3)), 128);
+    let edition = parse_number(field(line, 0));
+    let profile = parse_number(field(line, 1));
+    convert_and_print(edition, profile, &word[..n], &mut out[..l]);
+}
+
+fn answer(line: &[u8], operation: Operation) {
+    match operation {
+        Operation::Encode => answer_pair(line),
+        Operation::Decode => answer_word(line),
+        Operation::Convert => answer_conversion(line),
     }
     io::write_all(STDOUT_FILENO, b"\n");
 }
 
-// Answers each line, of pairs or of words.
-fn answer_all(input: &[u8], is_words: bool) {
+// Answers each line of a file.
+fn answer_all(input: &[u8], operation: Operation) {
     let mut from = 0;
     while from < input.len() {
         let end = until(input, from, b'\n');
-        answer(&input[from..end], is_words);
+        answer(&input[from..end], operation);
         from = end + 1;
     }
 }
 
 // Answers a file of at most 2 MB; what is longer is cut off.
-fn run(fd: i32, is_words: bool) {
+fn run(fd: i32, operation: Operation) {
     let mut input = [0u8; 2097152];
     let n = io::read_full(fd, &mut input);
-    answer_all(&input[..n], is_words);
+    answer_all(&input[..n], operation);
+}
+
+// Answers the file of that name.
+fn run_file(name: &[u8], operation: Operation) {
+    let fd = os::open_read(name);
+    if fd < 0 {
+        os::fail(name);
+        return;
+    }
+    run(fd, operation);
+    libc::close(fd);
 }
 
 fn main() {
-    run(STDIN_FILENO, false);
-    let fd = os::open_read(b"words");
-    if fd < 0 {
-        os::fail(b"words");
-        return;
-    }
-    run(fd, true);
-    libc::close(fd);
+    run(STDIN_FILENO, Operation::Encode);
+    run_file(b"words", Operation::Decode);
+    run_file(b"conversions", Operation::Convert);
 }

@@ -28,7 +28,7 @@ module _ {o i : ℕ} {a b : List ℕ} {r : Encoded} {out out′ : List ℕ} (h :
   refused-by k e = (h .answer ∙ ap outcome (sym e), h .output ∙ sym (output-kept o i a b out e (λ z. omega arith)))
 
 -- the word of a call that no number refuses
-word-of-pair : (o i : ℕ) (a b : List ℕ) (l : ℕ) → T (isProfile i) → Accepted i a b l → WordOf o i a b (encoded (profileIn o i) a b)
+pub word-of-pair : (o i : ℕ) (a b : List ℕ) (l : ℕ) → T (isProfile i) → Accepted i a b l → WordOf o i a b (encoded (profileIn o i) a b)
 unfolding encoded
 word-of-pair o i a b l known c =
     let s : Sized (profileIn o i) = profiles-fit .0 o i known .0 in

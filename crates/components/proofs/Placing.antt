@@ -12,10 +12,9 @@ use native.Mathlib.Decide.{ℕ-discrete}
 use lib.ListN.{length, getD, drop, set, replicate, length-set, List·getD-eq-default}
 use lib.Seq.{getD-drop, getD-set-same, getD-set-other, ext-getD}
 use Rattle.modular_theory.proofs.Search.{le-or-lt}
-use Rattle.code_theory.specs.Parameters.{Parameters, Sized, messageLength}
+use Rattle.code_theory.specs.Parameters.{Parameters}
 use Rattle.code_theory.specs.Component.{isCheck, checkAt, merge}
-use Rattle.code_theory.proofs.Merge.{cases, opposite, passing, count-not, length-merge, count-pass, count-fail, shift}
-use Rattle.code_theory.proofs.Reduced.{check-count}
+use Rattle.code_theory.proofs.Merge.{cases, opposite, passing, length-merge, count-pass, count-fail, shift}
 use Rattle.profiles.specs.declared.row.Row.{Row}
 use Rattle.profiles.specs.Row.{parameters}
 use Rattle.symbols.specs.Syndromes.{part}
@@ -98,10 +97,6 @@ all-placed : {p : Parameters} {a word : List ℕ} {next : ℕ} → Placing p a w
 all-placed {p} {a} {word} s =
     let long = s .size ∙ sym (length-merge (checkAt p) (p .n) [] a) in
     ext-getD 0 word (merge (checkAt p) (p .n) [] a) long (λ i l. s .done i (rw (s .size) at l))
-
--- a message has a symbol for each position without a check symbol
-pub message-count : (p : Parameters) → Sized p → messageLength p ≡ passing (opposite (checkAt p)) (p .n)
-message-count p s = omega (arith, check-count p s, count-not (checkAt p) (p .n))
 
 -- Both messages, in one array.
 

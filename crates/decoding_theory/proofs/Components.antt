@@ -1,6 +1,6 @@
 -- The test of two syndromes is the test of the components that have them, and the messages follow from them.
 -- Assumes nothing.
-use mathlib.Core.Path.{_≡_, refl, ap, ap₂, _∙_}
+use mathlib.Core.Path.{_≡_, refl, ap, ap₂}
 use mathlib.Core.Logic.{⊎-elim}
 use mathlib.Core.Bool.{Bool, true, false, _&&_}
 use mathlib.Core.List.{List}
@@ -10,17 +10,12 @@ use lib.ListN.{length}
 use Rattle.modular_theory.proofs.Search.{and-left, and-right, or-cases, or-left}
 use Rattle.code_theory.specs.Parameters.{Parameters, Sized, codewordLength}
 use Rattle.code_theory.specs.Component.{message}
-use Rattle.code_theory.specs.Codeword.{body, received, nearComponents, hasComponents, carried}
+use Rattle.code_theory.specs.Codeword.{received, nearComponents, hasComponents, carried}
 use Rattle.code_theory.specs.Reading.{Finding, read, readAs}
-use Rattle.code_theory.proofs.Weights.{length-differenced}
-use Rattle.code_theory.proofs.Conditions.{body-length, balanced-length}
+use Rattle.code_theory.proofs.Restored.{length-received}
 use Rattle.decoding_theory.specs.Syndromes.{zeroSyndrome, columnSyndrome, nearSyndrome, nearSyndromes, restoredBy}
 use Rattle.decoding_theory.specs.Decoded.{readBy}
 use Rattle.decoding_theory.proofs.Near.{Rows, zero-test, near-test, restored-by}
-
-pub length-received : (p : Parameters) (b : Bool) (u : List ℕ) → length u ≡ codewordLength p → length (received p b u) ≡ p .n
-unfolding received
-length-received p b u e = length-differenced p b (body p u) (body-length p u e ∙ balanced-length p)
 
 -- a zero syndrome is near
 near-zero : (p : Parameters) (S : List ℕ) → T (zeroSyndrome p S) → T (nearSyndrome p S)

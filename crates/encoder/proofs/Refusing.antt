@@ -1,4 +1,4 @@
--- The output of encoding, by the number that refuses the call.
+-- The outcome of a call and the output of encoding, by the number that refuses the call.
 -- Assumes nothing.
 use mathlib.Core.Path.{_≡_, refl, sym, ap, _∙_}
 use mathlib.Core.Logic.{_≢_}
@@ -8,7 +8,7 @@ use lib.ListN.{length}
 use Rattle.code_theory.specs.Codeword.{encoded}
 use Rattle.code_theory.proofs.Refusal.{kept, wrote}
 use Rattle.code_theory.specs.Profiles.{profileIn}
-use Rattle.code_theory.specs.Operations.{refusedBy, outcome, encodeRefusal, encodeOutput}
+use Rattle.code_theory.specs.Operations.{refusedBy, outcome, outcomeNumber, encodeRefusal, encodeOutput}
 
 -- a call that a number refuses
 some-outcome : (n : ℕ) → n ≢ 0 → refusedBy n ≡ outcome n
@@ -17,6 +17,11 @@ some-outcome (suc n) d = refl
 
 pub refused-outcome : {k n : ℕ} → k ≡ n → k ≢ 0 → refusedBy k ≡ outcome n
 refused-outcome {k} {n} e d = ap refusedBy e ∙ some-outcome n (λ z. d (e ∙ z))
+
+-- the number gives itself back
+pub number-back : (n : ℕ) → outcomeNumber (outcome n) ≡ n
+number-back zero = refl
+number-back (suc n) = refl
 
 pub output-kept : (e i : ℕ) (a b out : List ℕ) {k : ℕ} → k ≡ encodeRefusal e i a b (length out) → k ≢ 0 → out ≡ encodeOutput e i a b out
 unfolding encodeOutput

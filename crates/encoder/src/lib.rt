@@ -12,7 +12,8 @@ use profiles::row_in;
 use word::put;
 ghost use Rattle.encoder.specs.Answer.{EncodeAllows};
 
-// The answer to encode: the output holds the word, or the call is refused by 01's number and the output is as it was.
+// The answer to encode, and to convert (02, T-04): the output holds the word, or the call is refused by that number and the output is as it
+// was.
 pub enum Encoded {
     Done,
     Refused(u8),

@@ -8,6 +8,7 @@ ghost use Rattle.code_theory.specs.Reading.{filled};
 ghost use Rattle.code_theory.specs.Operations.{encodeRefusal, encodeOutput, outcomeNumber, success};
 ghost use Rattle.queue_theory.specs.Allowed.{FormatAllows, EnqueueAllows, PeekAllows, DequeueAllows};
 ghost use Rattle.encoder.specs.Answer.{encodedOutcome};
+ghost use Rattle.converter.specs.Conversion.{convertRefusal, convertOutput};
 ghost use Rattle.decoder.specs.Decode.{changesIn, decodedReport};
 ghost use Rattle.fogzurt.specs.Packed.{partsOf, joined, twos, packed, PackedAllows, Within};
 use decoder::Changes;
@@ -34,10 +35,11 @@ pub extern "C" fn fogzurt_encode(
     ensures { λ r. ⌜ r ≡ encodeRefusal edition profile (now (first .entry)) (now (second .entry)) (length (now (out .entry))) ⌝ }
     ensures { λ r. ⌜ now (out .exit) ≡ encodeOutput edition profile (now (first .entry)) (now (second .entry)) (now (out .entry)) ⌝ }
 {
-    encode_number(encoder::encode(edition, profile, first, second, out))
+    outcome_number(encoder::encode(edition, profile, first, second, out))
 }
 
-fn encode_number(answer: Encoded) -> u64
+// The number of an answer to encode or convert; 0 is done.
+fn outcome_number(answer: Encoded) -> u64
     ensures { λ r. ⌜ r ≡ outcomeNumber (encodedOutcome answer) ⌝ }
 {
     match answer {
@@ -140,6 +142,20 @@ fn pack(answer: Decoded) -> u64
         Decoded::Unreadable(tried) => join(4, 0, 0, 0, 0, 0, 0, tried as u8),
         Decoded::Refused(number) => join(number, 0, 0, 0, 0, 0, 0, 0),
     }
+}
+
+// 02, T-04: a word of one edition into that of the other.
+#[no_mangle]
+pub extern "C" fn fogzurt_convert(
+    edition: usize,
+    profile: usize,
+    word: &[u8],
+    out: &mut [u8],
+) -> u64
+    ensures { λ r. ⌜ r ≡ convertRefusal edition profile (now (word .entry)) (length (now (out .entry))) ⌝ }
+    ensures { λ r. ⌜ now (out .exit) ≡ convertOutput edition profile (now (word .entry)) (now (out .entry)) ⌝ }
+{
+    outcome_number(converter::convert(edition, profile, word, out))
 }
 
 // 01: Lay out.

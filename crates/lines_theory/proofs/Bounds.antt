@@ -4,25 +4,23 @@
 use mathlib.Core.Path.{_≡_, refl, subst}
 use mathlib.Core.Bool.{Bool, true, false, _&&_}
 use mathlib.Core.List.{List, [], _∷_}
-use Prim.Native.Nat.{ℕ, zero, suc, _+_, _^_, _≤_, _<_, zero-le}
+use Prim.Native.Nat.{ℕ, zero, suc, _+_, _^_, _≤_, zero-le}
 use native.Mathlib.Nat.{le-trans, le-of-lt}
 use native.Mathlib.Numerals.{add-one}
 use native.Mathlib.Omega.{arith}
 use lib.Dec.{lit≤, T, leb, ltb, eqb, leb→le, eqb→eq}
-use lib.ListN.{length, set, getD, drop}
+use lib.ListN.{length, getD, drop}
 use lib.Seq.{getD-drop}
 use borrow.Author.Tests.{ltb-true, eqb-true}
 use Rattle.modular_theory.specs.Search.{allBelow}
 use Rattle.modular_theory.specs.Digits.{digits}
 use Rattle.modular_theory.proofs.Search.{and-left, and-right, least-le}
-use Rattle.modular_theory.proofs.Residue.{minus-below}
 use Rattle.modular_theory.proofs.Integer.{difference-within}
 use Rattle.modular_theory.proofs.Digits.{digits-below}
 use Rattle.code_theory.specs.Parameters.{Parameters, messageLength, codewordLength}
 use Rattle.code_theory.specs.Refusal.{Test, firstRefusal}
-use Rattle.code_theory.specs.Component.{Below, isReceived, message, inCode, erasure}
-use Rattle.code_theory.specs.Balance.{differences}
-use Rattle.code_theory.specs.Codeword.{alternate, received, restored, carried, codeword, body}
+use Rattle.code_theory.specs.Component.{Below, isReceived, erasure}
+use Rattle.code_theory.specs.Codeword.{codeword}
 use Rattle.code_theory.specs.Erasures.{erasures, fill, filling, firstFilling}
 use Rattle.code_theory.specs.Reading.{Change, Finding, correctionAt, clean, corrected, filled, changesOf, changesAt}
 use Rattle.code_theory.specs.Reading.{Reading, read, unreadable, readAs, reading, nearReading, filledReading, receivedReading}
@@ -31,40 +29,13 @@ use Rattle.code_theory.specs.TriedPositions.{triedPositions}
 use Rattle.code_theory.specs.Profiles.{profiles, isProfile, profile, profileIn}
 use Rattle.code_theory.specs.Operations.{Answer, refused, answered, decodeTests, readUnless, decodeAnswer}
 use Rattle.code_theory.proofs.Refusal.{AllPass, passed-every, number-most}
-use Rattle.code_theory.proofs.Weights.{differences-below}
 use Rattle.code_theory.proofs.Symbols.{symbol-below}
-use Rattle.code_theory.proofs.Merge.{cases, below-keep}
+use Rattle.code_theory.proofs.Merge.{cases}
 use Rattle.code_theory.proofs.Whole.{received-levels}
+use Rattle.code_theory.proofs.Carried.{below-carried}
 use Rattle.code_theory.proofs.TriedPositions.{counts-told}
 use Rattle.code_theory.proofs.Profiles.{every-profile}
 use Rattle.lines_theory.specs.Sizes.{ChangesWithin, FindingWithin}
-
--- The symbols of a message are below q.
-
-below-alternate : (q : ℕ) (b : Bool) (z : List ℕ) → Below q z → Below q (alternate b z)
-below-alternate q b [] h i = h i
-below-alternate q true (x ∷ z) h zero = h 0
-below-alternate q true (x ∷ z) h (suc i) = below-alternate q false z (λ j. h (suc j)) i
-below-alternate q false (x ∷ z) h i = below-alternate q true z (λ j. h (suc j)) i
-
-below-set : (q : ℕ) (c : List ℕ) (i y : ℕ) → y < q → Below q c → Below q (set c i y)
-below-set q [] i y k h j = h j
-below-set q (x ∷ c) zero y k h zero = k
-below-set q (x ∷ c) zero y k h (suc j) = h (suc j)
-below-set q (x ∷ c) (suc i) y k h zero = h 0
-below-set q (x ∷ c) (suc i) y k h (suc j) = below-set q c i y k (λ l. h (suc l)) j
-
-below-restored : (p : Parameters) → 1 ≤ p .q → (c : List ℕ) → Below (p .q) c → Below (p .q) (restored p c)
-unfolding restored
-below-restored p h c k =
-    cases (inCode p c) (λ e. rw (e, restored) k) (λ e. rw (e, restored) (below-set (p .q) c _ _ (minus-below (p .q) _ 1 h) k))
-
-below-carried : (p : Parameters) → 1 ≤ p .q → (b : Bool) (u : List ℕ) → Below (p .q) (carried p b u)
-unfolding carried message received
-below-carried p h b u =
-    below-keep (p .q) _ (restored p (received p b u))
-    (below-restored p h (received p b u)
-    (below-alternate (p .q) b (differences p (body p u)) (differences-below p h (body p u))))
 
 -- A reading.
 

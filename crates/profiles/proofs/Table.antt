@@ -169,6 +169,18 @@ module _ (o : Edition) (i : ℕ) {r : Lookup} (e : lookedUp i r ≡ tableAt o i)
       let z : _≡_ {A = ℕ} 1 0 = ap refusing (sym (ap (lookedUp i) f) ∙ e ∙ ap (found o i) (passes {b = isProfile i} h)) in
       omega arith)
 
+-- a message has at most 45 symbols
+short : ℕ → Bool
+short i = leb (messageLength (profile i)) 45
+
+all-short : T (allBelow (λ j. short (suc j)) (length profiles))
+unfolding short profile
+all-short = tt
+
+short-profile : (i : ℕ) → T (isProfile i) → messageLength (profile i) ≤ 45
+unfolding short
+short-profile i h = leb→le (messageLength (profile i)) 45 (every-profile short all-short i h)
+
 -- the numbers of a profile's row that are asked for alone
 module _ {o : Edition} {i : ℕ} {t : Row} (of : RowOf o i t) where
   pub levels-are : t .q ≡ profile i .q
@@ -176,6 +188,9 @@ module _ {o : Edition} {i : ℕ} {t : Row} (of : RowOf o i t) where
 
   pub message-is : t .message ≡ messageLength (profile i)
   message-is = of .valid .message ∙ ap messageLength (of .same)
+
+  pub message-short : t .message ≤ 45
+  message-short = rw message-is (short-profile i (of .known))
 
   pub codeword-is : t .codeword ≡ codewordLength (profile i)
   codeword-is = of .valid .codeword ∙ ap codewordLength (of .same)

@@ -169,6 +169,57 @@ pub const DECODED_2018: [Case; 12] = [
     ("1200011111111112220", "R 4", Some(0)),
 ];
 
+/// T-04's converter: the edition and the profile that it is told, the word, and the word that it makes or the
+/// refusal. 02 has no cases: these are the words above, and others that were worked out by hand.
+/// - The zero pairs have the same word in both editions.
+/// - The pair of profile 3 of `encoded_2018`: x of 2013 is 0 0 1 3 3 0 1 0 0 1, 37 zeros, 1 0. With s = 0 the
+///   w is 0 0 1 4 2 2 3 3 3, 38 fours, 0 0, of weight 170, which no v makes 98; nor does one with s = 1. With
+///   s = 2 it is 2 2 3 1 4 4 0 0 0, 38 ones, 2 2, of weight 58, and v = 10 makes it 98, the middle.
+/// - The pair 0 0 0 0 1 and zeros: in 2013 also s = 1, v = 12 and s = 2, v = 11 balance, and in 2018 s = 0,
+///   v = 11 and s = 2, v = 10.
+pub fn converted() -> Vec<(u8, u8, String, String)> {
+    let zeros = [(1, "1", 17, "02"), (2, "1", 53, "02"), (3, "2", 49, "13"), (4, "3", 97, "24")];
+    let zeros = zeros.map(|(profile, symbol, m, checks)| {
+        let word = symbol.repeat(m) + checks;
+        (profile, [word.clone(), word])
+    });
+    let of_profile_3 = [["223144000", "3313"], ["110244333", "1004"]];
+    let pairs = [
+        (1, ["1200011111111112220", "1022211111111110011"].map(str::to_string)),
+        (3, of_profile_3.map(|[start, end]| start.to_string() + &"2".repeat(38) + end)),
+    ];
+    let both_ways = zeros.into_iter().chain(pairs).flat_map(|(profile, [of_2013, of_2018])| {
+        let there = (13, profile, of_2013.clone(), of_2018.clone());
+        [there, (18, profile, of_2018, of_2013)]
+    });
+    let others =
+        CONVERTED.map(|(edition, word, answer)| (edition, 1, word.to_string(), answer.to_string()));
+    both_ways.chain(others).collect()
+}
+
+/// Words of profile 1: codewords by other choices than the encoder's; a word with one symbol wrong, with a
+/// check symbol wrong, and erased; codewords of the other edition; and words that are unreadable or worse.
+const CONVERTED: [(u8, &str, &str); 18] = [
+    (13, "1222200000011112202", "1022211111111110011"),
+    (13, "2000011111222220011", "1022211111111110011"),
+    (18, "1000022222211110002", "1200011111111112220"),
+    (18, "0222211111000002220", "1200011111111112220"),
+    (13, "1200021111111112220", "R 13"),
+    (18, "1022221111111110011", "R 13"),
+    (13, "1111111111111111101", "R 13"),
+    (18, "1111111111111111101", "R 13"),
+    (13, "?111111111111111102", "R 13"),
+    (18, "11111111111111111??", "R 13"),
+    (13, "1022211111111110011", "R 4"),
+    (18, "1200011111111112220", "R 4"),
+    (13, "2211111111111111102", "R 4"),
+    (18, "2?11111111111111102", "R 4"),
+    (13, "???1111111111111102", "R 11"),
+    (18, "???3111111111111102", "R 3"),
+    (13, "111111111111111110", "R 2"),
+    (17, "1111111111111111102", "R 12"),
+];
+
 /// "Checked by hand": user words of profile 1 and their halves.
 pub const COMPONENTS: [(&str, &str); 2] = [("10000", "12210000"), ("00001", "10100001")];
 

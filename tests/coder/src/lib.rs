@@ -2,12 +2,13 @@
 //! used to test: what 01 says exists is looked for by trying everything, and what 01 calls right
 //! is tested condition by condition. Clarity comes before speed throughout.
 //!
-//! Quoted sentences are document 01's or, of requests (T-01, T-02, T-03, T-05, T-08), document 02's.
+//! Quoted sentences are document 01's or, of requests (T-01 to T-05, T-08), document 02's.
 //! Positions count from 1, as there.
 
 pub mod balance;
 pub mod codeword;
 pub mod component;
+pub mod convert;
 pub mod decode;
 pub mod edition;
 pub mod encode;
@@ -18,6 +19,8 @@ pub mod fillings;
 pub mod lines;
 pub mod list;
 pub mod near_miss;
+pub mod near_miss_calls;
+pub mod near_miss_conversion;
 pub mod near_miss_editions;
 mod near_miss_erasures;
 mod near_miss_errors;

@@ -33,11 +33,15 @@ pub const ENCODER_SLIPS: [Slip; 10] = [
 pub const HARMLESS_SLIPS: [Slip; 2] = [Slip::VUpToM, Slip::VAsIn2013];
 
 /// The slips of a call.
-pub const CALL_SLIPS: [Slip; 3] =
-    [Slip::EditionAfterProfile, Slip::EditionLast, Slip::OtherEditionIs2013];
+pub const CALL_SLIPS: [Slip; 4] = [
+    Slip::EditionAfterProfile,
+    Slip::EditionLast,
+    Slip::OtherEditionIs2013,
+    Slip::OtherEditionIs2018,
+];
 
-/// What a call answers with a slip of the order of refusals; `right` answers, told the edition, as it
-/// should.
+/// What a call answers with a slip in the edition's number or in its place in the order; `right` answers,
+/// told the edition, as it should.
 pub fn call<Answer>(
     slip: Slip,
     edition: u8,
@@ -49,6 +53,7 @@ pub fn call<Answer>(
         Slip::EditionAfterProfile => Profile::lookup(profile).and_then(|_| right(edition)),
         Slip::EditionLast if !is_known => right(13).and_then(|_| right(edition)),
         Slip::OtherEditionIs2013 if !is_known => right(13),
+        Slip::OtherEditionIs2018 if !is_known => right(18),
         _ => right(edition),
     }
 }

@@ -211,7 +211,7 @@ pub fn every_near_miss(edition: Edition) -> impl Iterator<Item = &'static NearMi
 }
 
 /// How many words are built before a slip is taken to do no harm in a profile.
-const ATTEMPTS: usize = 4000;
+pub(crate) const ATTEMPTS: usize = 4000;
 
 impl NearMiss {
     /// Words of the profile that the slip gets wrong. There are none where it does no harm: the

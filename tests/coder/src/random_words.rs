@@ -36,6 +36,14 @@ pub fn codeword(profile: &Profile, rng: &mut Rng) -> Vec<u8> {
     rng.pick(&words).1.clone()
 }
 
+/// A codeword of random messages whose choice adds 1 to neither component, if they have one. It is a
+/// codeword of both editions, with another pair in each unless both messages are zeros.
+pub fn of_both(profile: &Profile, rng: &mut Rng) -> Option<Vec<u8>> {
+    let words = codewords(profile, &rng.messages(profile)).into_iter();
+    let mut words = words.filter(|(choice, _)| choice.adds_nothing(profile.edition));
+    words.next().map(|(_, word)| word)
+}
+
 /// The word with another level at each of these positions.
 pub fn changed_at(profile: &Profile, word: &[u8], positions: &[usize], rng: &mut Rng) -> Vec<u8> {
     positions.iter().fold(word.to_vec(), |word, &position| {

@@ -2,9 +2,12 @@
 
 use std::fmt;
 
+/// What a buffer holds before a call, so that a byte changed by a refusal shows.
+pub const FILLER: u8 = 170;
+
 /// "1 profile; 2 length; 3 symbol; 4 unreadable; 5 sheet length; 6 unsound sheet; 7 box number;
 /// 8 no free cell; 9 line form; 10 no such record." T-01: "11, more than two marks". T-03: "12, edition
-/// neither 13 nor 18".
+/// neither 13 nor 18". T-04: "13, the word reads but as mended or filled".
 #[derive(Debug, Clone, Copy, PartialEq, Eq)]
 pub enum Refusal {
     Profile,
@@ -23,6 +26,8 @@ pub enum Refusal {
     NoSuchRecord,
     Erasures,
     Edition,
+    /// The word reads, but not as clean.
+    NotClean,
 }
 
 impl Refusal {
@@ -41,6 +46,7 @@ impl Refusal {
             Refusal::NoSuchRecord => 10,
             Refusal::Erasures => 11,
             Refusal::Edition => 12,
+            Refusal::NotClean => 13,
         }
     }
 }

@@ -1,9 +1,9 @@
-//! The steps of a decoder that can be got wrong, those of an encoder's check row sums, and what differs
-//! between the editions.
+//! The steps of a decoder that can be got wrong, those of an encoder's check row sums, what differs
+//! between the editions, and the steps of a converter from one to the other.
 
 /// One step got wrong: 01's "Wrong turns seen in drafts", and others of their kind; then those that
-/// the erasures of T-01, the error of T-02, the count of T-08, the eight-bit sums of T-05 and the 2018
-/// edition of T-03 invite.
+/// the erasures of T-01, the error of T-02, the count of T-08, the eight-bit sums of T-05, the 2018 edition
+/// of T-03 and the converter of T-04 invite.
 #[derive(Debug, Clone, Copy, PartialEq, Eq)]
 pub enum Slip {
     /// δ is 002's printed 2(q−1)(2−m).
@@ -188,4 +188,63 @@ pub enum Slip {
     EditionLast,
     /// An edition that is neither 13 nor 18 is taken for 13.
     OtherEditionIs2013,
+    /// An edition that is not 13 is taken for 18, the other one.
+    OtherEditionIs2018,
+    /// T-04, here and below: of a converter. A corrected word is passed on.
+    CorrectedPassedOn,
+    /// A filled word is passed on: no symbol of it is known to be wrong.
+    FilledPassedOn,
+    /// A word of which only check symbols are corrected or filled is passed on: its w is as it was sent.
+    ChecksPassedOn,
+    /// A word in which no position was tried is passed on: T-08's count is 0 for clean words, but also for
+    /// filled ones and those with a check symbol corrected.
+    NoneTriedPassedOn,
+    /// A corrected or filled word is refused with 4.
+    NotCleanIsUnreadable,
+    /// An unreadable word is refused with 13.
+    UnreadableIsNotClean,
+    /// A word with one or two erasures is refused with 13 at once, and not with 4 where no codeword agrees.
+    ErasuresUnfilled,
+    /// A word with any erasures is refused with 13 at once: 13 comes before number 11.
+    NotCleanBeforeErasures,
+    /// The same before the symbols are looked at: 13 comes before number 3.
+    NotCleanBeforeSymbols,
+    /// A codeword by another choice than the encoder's is refused with 13.
+    AnotherChoiceNotClean,
+    /// 13 is answered, but the word is written.
+    NotCleanWritten,
+    /// The received word is written to the output, to be corrected there, before it is read.
+    ReceivedWrittenFirst,
+    /// The length of the output is not tested: as many symbols are written as there is room for.
+    OutputUntested,
+    /// An output longer than N will do, and its end is left as it was.
+    LongerOutputTaken,
+    /// Number 2 for the output comes after number 3.
+    OutputAfterSymbols,
+    /// Number 2 for the output comes last, as the encoder tests it.
+    OutputLast,
+    /// Number 2 comes before number 1 for an output as long as no profile's word.
+    OutputBeforeProfile,
+    /// Number 2 comes before numbers 12 and 1 for an output that is not as long as the word.
+    LengthsComparedFirst,
+    /// The word is the one that the encoder of its own edition makes.
+    OwnEditionWritten,
+    /// The word is copied.
+    WordCopied,
+    /// The word is copied if it is a codeword of the other edition too, whatever its pair there.
+    WordOfBothCopied,
+    /// Every symbol of w is taken from q−1, and the check symbols are made anew: a codeword of the pair in
+    /// the other edition, but by the choice that goes with the one received.
+    Complemented,
+    /// The same of the word that the encoder of its own edition makes: the first choice of one edition is
+    /// not that which goes with the first of the other.
+    EncodedWordComplemented,
+    /// Every symbol of the word that is written is right, but the check symbols are those received.
+    CheckSymbolsKept,
+    /// s and v are those of the word received.
+    ChoiceKept,
+    /// The edition that is named is taken for that of the output.
+    EditionOfOutput,
+    /// The second message is taken for the first, and the first for the second.
+    MessagesExchanged,
 }

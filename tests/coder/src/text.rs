@@ -34,6 +34,9 @@ fn byte(symbol: u8) -> u8 {
 
 /// The word that is written so.
 pub fn symbols(digits: &str) -> Vec<u8> {
+    if digits == EMPTY_WORD {
+        return Vec::new();
+    }
     digits.bytes().map(|byte| symbol(byte).expect("a digit or a question mark")).collect()
 }
 

@@ -1,16 +1,17 @@
 //! Every case of document 01, starred or not, against the coder, words with erasures (T-01), words
-//! with errors of both signs (T-02), words by how many positions are tried (T-08) and words of the
-//! 2018 edition (T-03).
+//! with errors of both signs (T-02), words by how many positions are tried (T-08), words of the 2018
+//! edition (T-03) and words converted from one edition to the other (T-04).
 
 use coder::balance::{balanced_words, weight, BalancingChoice};
 use coder::codeword::codewords;
 use coder::component::encode_component;
+use coder::convert::convert;
 use coder::decode::decode_word;
 use coder::edition::Edition;
 use coder::encode::encode;
 use coder::examples::{
-    encoded, encoded_2018, Encoded2018, BOXLINES_INPUT, BOXLINES_OUTPUT, COMPONENTS, DECODED,
-    DECODED_2018, ERASED, ERRORS, PROFILE_TABLE, TRIED,
+    converted, encoded, encoded_2018, Encoded2018, BOXLINES_INPUT, BOXLINES_OUTPUT, COMPONENTS,
+    DECODED, DECODED_2018, ERASED, ERRORS, PROFILE_TABLE, TRIED,
 };
 use coder::lines::{answer, boxlines};
 use coder::profile::{Profile, PROFILES, PROFILES_2018};
@@ -88,6 +89,18 @@ fn received_words_of_2018() {
             Err(refusal) => (refusal.to_string(), None),
         };
         assert_eq!((answer.as_str(), counted), (expected, tried), "{word}");
+    }
+}
+
+#[test]
+fn converted_words() {
+    for (edition, profile, word, expected) in converted() {
+        let mut output = vec![0; word.len()];
+        let answer = match convert(edition, profile, &symbols(&word), &mut output) {
+            Ok(()) => digits(&output),
+            Err(refusal) => refusal.to_string(),
+        };
+        assert_eq!(answer, expected, "{edition} {profile} {word}");
     }
 }
 

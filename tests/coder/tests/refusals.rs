@@ -1,15 +1,13 @@
 //! The order of refusals of each operation, and that "a refusal .. writes no buffer".
 
+use coder::convert::convert;
 use coder::decode::{decode, replaced};
 use coder::encode::encode;
 use coder::erasure::erased_at;
 use coder::lines::boxlines;
 use coder::list::CELL;
 use coder::queue;
-use coder::refusal::Refusal;
-
-/// What every buffer holds before a call.
-const FILLER: u8 = 170;
+use coder::refusal::{Refusal, FILLER};
 
 const RIGHT_MESSAGE: &[u8] = &[0; 5];
 const RIGHT_WORD: &[u8] = &[1, 1, 1, 1, 1, 1, 1, 1, 1, 1, 1, 1, 1, 1, 1, 1, 1, 0, 2];
@@ -100,6 +98,54 @@ fn decode_refuses_in_order() {
         let (mut first, mut second) = ([FILLER; 5], [FILLER; 5]);
         assert_eq!(number(decode(edition, 1, RIGHT_WORD, &mut first, &mut second)), 12);
         assert!(is_untouched(&first) && is_untouched(&second));
+    }
+}
+
+/// T-04: "The order of reading applies, with 2 also for an output not N long, and nothing is written on a
+/// refusal. Errors: 13, the word reads but as mended or filled, after 4."
+#[test]
+fn convert_refuses_in_order() {
+    let bad_symbol: &[u8] = &[3; 19];
+    let short: &[u8] = &[255; 18];
+    let with = |position: usize, symbol: u8| replaced(RIGHT_WORD, position, symbol);
+    for (profile, word, length, expected) in [
+        (0, short, 18, 1),
+        (5, RIGHT_WORD, 19, 1),
+        (255, RIGHT_WORD, 0, 1),
+        (1, short, 19, 2),
+        (1, short, 18, 2),
+        (1, RIGHT_WORD, 18, 2),
+        (1, RIGHT_WORD, 20, 2),
+        (1, bad_symbol, 0, 2),
+        (1, &[255; 19], 20, 2),
+        (1, UNREADABLE, 18, 2),
+        (1, &with(1, 0), 18, 2),
+        (2, RIGHT_WORD, 19, 2),
+        (2, RIGHT_WORD, 55, 2),
+        (1, bad_symbol, 19, 3),
+        (1, &erased_at(&with(1, 254), &[2, 3, 4]), 19, 3),
+        (1, &erased_at(&with(1, 3), &[2]), 19, 3),
+        (1, &erased_at(RIGHT_WORD, &[1, 18, 19]), 19, 11),
+        (1, &erased_at(UNREADABLE, &[1, 2, 3]), 19, 11),
+        (1, &erased_at(UNREADABLE, &[1, 2]), 19, 4),
+        (1, &erased_at(&with(1, 0), &[2]), 19, 4),
+        (1, UNREADABLE, 19, 4),
+        (1, &with(1, 0), 19, 13),
+        (1, &with(18, 1), 19, 13),
+        (1, &with(19, 0), 19, 13),
+        (1, &erased_at(RIGHT_WORD, &[1]), 19, 13),
+        (1, &erased_at(RIGHT_WORD, &[18, 19]), 19, 13),
+    ] {
+        for (edition, expected) in by_edition(expected) {
+            let mut output = vec![FILLER; length];
+            assert_eq!(number(convert(edition, profile, word, &mut output)), expected);
+            assert!(is_untouched(&output));
+        }
+    }
+    for edition in OTHER_EDITIONS {
+        let mut output = vec![FILLER; 19];
+        assert_eq!(number(convert(edition, 1, RIGHT_WORD, &mut output)), 12);
+        assert!(is_untouched(&output));
     }
 }
 

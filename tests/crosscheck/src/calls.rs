@@ -1,5 +1,6 @@
-//! Encoding and decoding by a coder's entry points and by the separate coder.
+//! Encoding, decoding and converting by a coder's entry points and by the separate coder.
 
+use coder::codeword::Messages;
 use coder::decode::{Answer, Decoded, Kind, Sent};
 use coder::profile::Profile;
 use coder::refusal::Refusal;
@@ -78,6 +79,20 @@ pub fn decode(tried: &EntryPoints, told: Told, word: &[u8], lengths: [usize; 2])
     decode_to(tried, told, word, packed(expected), [&first, &second])
 }
 
+/// What the separate coder's search finds for a word of N symbols: its answer and the messages, or the
+/// refusal.
+pub type Found = Result<(Answer, Messages), Refusal>;
+
+/// Decodes a word for which the search found this.
+pub fn decode_found(tried: &EntryPoints, profile: &Profile, word: &[u8], found: &Found) -> Checked {
+    let untouched = vec![FILLER; profile.k()];
+    let (answer, outputs) = match found {
+        Ok((answer, messages)) => (Ok(*answer), messages.each_ref()),
+        Err(refusal) => (Err(*refusal), [&untouched; 2]),
+    };
+    decode_to(tried, told(profile), word, packed(answer), outputs.map(Vec::as_slice))
+}
+
 /// Decodes, where it is known what is right: the answer, and what both outputs then hold.
 pub fn decode_to(
     tried: &EntryPoints,
@@ -96,5 +111,43 @@ pub fn decode_to(
         || format!("decode {edition}, {profile}, {word:?}, into {lengths:?} bytes"),
         [answer, expected],
         &[("word", &received, word), ("first", &first, a), ("second", &second, b)],
+    )
+}
+
+/// Converts into an output of this length; what is right is found by the separate coder's search.
+pub fn convert(tried: &EntryPoints, told: Told, word: &[u8], length: usize) -> Checked {
+    let mut out = vec![FILLER; length];
+    let [edition, profile] = told.map(narrow);
+    let expected = coder::convert::convert(edition, profile, word, &mut out);
+    convert_to(tried, told, word, number_of(expected), &out)
+}
+
+/// Converts a word of a profile, where it is known what is right: the other edition's word, or the refusal.
+pub fn convert_word(
+    tried: &EntryPoints,
+    profile: &Profile,
+    word: &[u8],
+    expected: Result<&[u8], Refusal>,
+) -> Checked {
+    let untouched = vec![FILLER; profile.word_length()];
+    let number = number_of(expected.map(|_| ()));
+    convert_to(tried, told(profile), word, number, expected.unwrap_or(&untouched))
+}
+
+/// Converts, where it is known what is right: the answer, and what the output then holds.
+fn convert_to(
+    tried: &EntryPoints,
+    [edition, profile]: Told,
+    word: &[u8],
+    expected: u64,
+    output: &[u8],
+) -> Checked {
+    let received = Buffer::new(word);
+    let mut out = Buffer::output(output.len());
+    let answer = (tried.convert)(edition, profile, received.lent(), out.lent_mut());
+    compare(
+        || format!("convert {edition}, {profile}, {word:?}, into {} bytes", output.len()),
+        [answer, expected],
+        &[("word", &received, word), ("out", &out, output)],
     )
 }

@@ -1,19 +1,21 @@
-//! All 3^19 received words of profile 1, of one edition. The codewords and their neighbours are marked in
-//! a table, a part of it at a time; everything else has to be refused with 4. The table also says which
-//! position is found, if any, and so how many are tried (02, T-08).
+//! All 3^19 received words of profile 1, of one edition, decoded and converted. The codewords and their
+//! neighbours are marked in a table, a part of it at a time; everything else has to be refused with 4. The
+//! table also says which position is found, if any, and so how many are tried (02, T-08); and that converting
+//! has to refuse all neighbours with 13 (02, T-04).
 
 use std::ops::Range;
 
 use coder::codeword::{all_messages, codewords, messages_of, with_check_symbols, Messages};
 use coder::edition::Edition;
+use coder::encode::encoded_word;
 use coder::profile::Profile;
 use coder::refusal::Refusal;
 use coder::tried::tried_up_to;
 use fogzurt::{EntryPoints, PackedAnswer};
 
-use crate::calls::{decode_to, packed, told};
+use crate::calls::{convert_word, decode_to, number_of, packed, told};
 use crate::compare::{Checked, Mismatch, FILLER};
-use crate::parallel::run_jobs;
+use crate::parallel::{run_jobs, sums_of_jobs};
 
 /// Profile 1's N, m and k.
 const LENGTH: usize = 19;
@@ -49,16 +51,16 @@ fn word<const COUNT: usize>(value: u32) -> [u8; COUNT] {
 pub fn check(tried: &EntryPoints, edition: Edition) -> Checked<String> {
     let profile = &edition.profiles()[0];
     let codewords = list(profile)?;
-    let parts = run_jobs("every word of profile 1", PARTS, |part| {
+    let counts = sums_of_jobs("every word of profile 1", PARTS, |part| {
         check_part(tried, profile, &codewords, part as u32 * WORDS_OF_A_PART)
     })?;
-    let [clean, corrected, refused] =
-        [0, 1, 2].map(|kind| parts.iter().map(|counts| counts[kind]).sum::<u64>());
+    let [clean, corrected, refused] = counts;
     let (sent, received) = (codewords.len(), clean + corrected + refused);
+    let [edition, other] = [edition, edition.other()].map(Edition::number);
     Ok(format!(
-        "every word of profile 1, edition {}: {sent} codewords; {received} received words, \
-         {clean} clean, {corrected} corrected, {refused} refused",
-        edition.number()
+        "every word of profile 1, edition {edition}: {sent} codewords; {received} received words, \
+         {clean} clean, {corrected} corrected, {refused} refused; each also converted, \
+         {clean} to edition {other}, {corrected} refused with 13, {refused} with 4"
     ))
 }
 
@@ -127,20 +129,21 @@ fn marks(codewords: &Codewords, first: u32) -> Vec<Mark> {
     marks
 }
 
-/// Decodes the words from `first` on; how many are clean, corrected and refused.
+/// Decodes and converts the words from `first` on; how many are clean, corrected and refused.
 fn check_part(
     tried: &EntryPoints,
     profile: &Profile,
     codewords: &Codewords,
     first: u32,
-) -> Checked<[u64; 3]> {
+) -> Checked<[usize; 3]> {
     let mut counts = [0; 3];
     for (mark, number) in marks(codewords, first).into_iter().zip(first..) {
         let received: [u8; LENGTH] = word(number);
         let mut sent = received;
         let (kind, expected) = match mark {
             Mark::Far => {
-                check_refused(tried, profile, &received)?;
+                decode_far(tried, profile, &received)?;
+                convert_far(tried, profile, &received)?;
                 counts[2] += 1;
                 continue;
             }
@@ -155,17 +158,34 @@ fn check_part(
             }
         };
         let row = codewords.binary_search_by_key(&value(&sent), |(listed, _)| *listed);
-        let (_, [first, second]) = &codewords[row.expect("the word is listed")];
+        let (_, messages) = &codewords[row.expect("the word is listed")];
+        let [first, second] = messages;
         decode_to(tried, told(profile), &received, expected, [first, second])?;
+        convert_marked(tried, profile, &received, mark, messages)?;
         counts[kind] += 1;
     }
     Ok(counts)
 }
 
-/// The answer to a word that no codeword is near. Nearly every word is one, so the buffers stand on
-/// the stack, each output the middle of three parts, and the call is made again by `decode_to`, to
-/// say what differs, only where something does.
-fn check_refused(tried: &EntryPoints, profile: &Profile, received: &[u8; LENGTH]) -> Checked {
+/// Converts a word that is read as these messages.
+fn convert_marked(
+    tried: &EntryPoints,
+    profile: &Profile,
+    received: &[u8],
+    mark: Mark,
+    messages: &Messages,
+) -> Checked {
+    if mark != Mark::Codeword {
+        return convert_word(tried, profile, received, Err(Refusal::NotClean));
+    }
+    let converted = encoded_word(&profile.in_other_edition(), messages);
+    convert_word(tried, profile, received, Ok(&converted))
+}
+
+/// Decodes a word that no codeword is near. Nearly every word is one, so the buffers stand on the stack,
+/// each output the middle of three parts, and the call is made again by `decode_to`, to say what differs,
+/// only where something does.
+fn decode_far(tried: &EntryPoints, profile: &Profile, received: &[u8; LENGTH]) -> Checked {
     const UNTOUCHED: [u8; 3 * MESSAGE] = [FILLER; 3 * MESSAGE];
     const LENT: Range<usize> = MESSAGE..2 * MESSAGE;
     let word = *received;
@@ -180,5 +200,22 @@ fn check_refused(tried: &EntryPoints, profile: &Profile, received: &[u8; LENGTH]
     decode_to(tried, told, received, expected, [&UNTOUCHED[LENT]; 2])?;
     Err(Mismatch(format!(
         "decode {edition}, 1, {received:?} is right only the second time; first {answer}"
+    )))
+}
+
+/// Converts such a word, in the same way.
+fn convert_far(tried: &EntryPoints, profile: &Profile, received: &[u8; LENGTH]) -> Checked {
+    const UNTOUCHED: [u8; 3 * LENGTH] = [FILLER; 3 * LENGTH];
+    const UNREADABLE: Refusal = Refusal::Unreadable { tried: 0 };
+    let word = *received;
+    let mut out = UNTOUCHED;
+    let [edition, number] = told(profile);
+    let answer = (tried.convert)(edition, number, &word, &mut out[LENGTH..2 * LENGTH]);
+    if answer == number_of(Err(UNREADABLE)) && word == *received && out == UNTOUCHED {
+        return Ok(());
+    }
+    convert_word(tried, profile, received, Err(UNREADABLE))?;
+    Err(Mismatch(format!(
+        "convert {edition}, 1, {received:?} is right only the second time; first {answer}"
     )))
 }

@@ -11,6 +11,8 @@ mod parallel;
 mod received;
 mod refusals;
 mod sheets;
+#[cfg(test)]
+mod wrong_converters;
 
 use coder::edition::Edition;
 use fogzurt::EntryPoints;

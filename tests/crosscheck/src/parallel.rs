@@ -1,5 +1,6 @@
 //! Jobs on every core, with a line that says how far they are.
 
+use std::array;
 use std::io::Write;
 use std::sync::atomic::{AtomicBool, AtomicUsize, Ordering};
 use std::thread;
@@ -52,5 +53,16 @@ pub fn sum_of_jobs(
     count: usize,
     job: impl Fn(usize) -> Checked<usize> + Sync,
 ) -> Checked<usize> {
-    Ok(run_jobs(name, count, job)?.into_iter().sum())
+    let [sum] = sums_of_jobs(name, count, |number| Ok([job(number)?]))?;
+    Ok(sum)
+}
+
+/// The same of several things that the jobs do.
+pub fn sums_of_jobs<const THINGS: usize>(
+    name: &str,
+    count: usize,
+    job: impl Fn(usize) -> Checked<[usize; THINGS]> + Sync,
+) -> Checked<[usize; THINGS]> {
+    let done = run_jobs(name, count, job)?;
+    Ok(array::from_fn(|thing| done.iter().map(|counts| counts[thing]).sum()))
 }

@@ -1,9 +1,11 @@
-//! Received words of every profile and of both editions, against the separate coder's search of all
-//! neighbours and, where symbols are erased, of all fillings.
+//! Received words of every profile and of both editions, decoded and converted, against the separate coder's
+//! search of all neighbours and, where symbols are erased, of all fillings.
 
 use coder::balance::{balanced_words, difference, subtract, BalancingChoice};
 use coder::codeword::{codewords, components_of, interleave, with_check_symbols, Messages};
+use coder::decode::{decode_word, Kind};
 use coder::edition::{profiles_of_both, Edition, EDITIONS};
+use coder::encode::encoded_word;
 use coder::erased_words::{
     both_checks, erased, erased_and_changed, like_parity, one_check_changed, one_check_erased,
     one_of_w, spoiled_and_erased, Draw,
@@ -11,12 +13,13 @@ use coder::erased_words::{
 use coder::erasure::erased_at;
 use coder::profile::Profile;
 use coder::random_words::{changed, changed_at, off_by_q, Receive};
+use coder::refusal::{require, Refusal};
 use coder::rng::Rng;
 use fogzurt::EntryPoints;
 
-use crate::calls::{decode, encode, told};
+use crate::calls::{convert_word, decode_found, encode, told, Found};
 use crate::compare::Checked;
-use crate::parallel::run_jobs;
+use crate::parallel::sums_of_jobs;
 
 /// Pairs of messages for each profile and edition, for the library and for a coder that is only a
 /// yardstick. Each has its encoded word, and the words of KINDS.
@@ -52,34 +55,68 @@ pub fn check_fewer(tried: &EntryPoints) -> Checked<String> {
     check_pairs(tried, FEWER_PAIRS)
 }
 
-/// Decodes the words of so many pairs of each profile and edition, these by turns.
+/// Decodes and converts the words of so many pairs of each profile and edition, these by turns.
 fn check_pairs(tried: &EntryPoints, pairs: usize) -> Checked<String> {
     let profiles: Vec<&Profile> = profiles_of_both().collect();
-    let words = run_jobs("received words", pairs * profiles.len(), |job| {
+    let pairs = pairs * profiles.len();
+    let counts = sums_of_jobs("received words", pairs, |job| {
         let profile = profiles[job % profiles.len()];
-        let words = check_pair(tried, profile, &mut Rng::new(job as u64))?;
-        Ok((profile.edition, words))
+        let [words, passed_on] = check_pair(tried, profile, &mut Rng::new(job as u64))?;
+        let [of_2013, of_2018] =
+            EDITIONS.map(|edition| if edition == profile.edition { words } else { 0 });
+        Ok([of_2013, of_2018, passed_on])
     })?;
-    let [of_2013, of_2018] = EDITIONS.map(|edition| {
-        words.iter().filter(|(of, _)| *of == edition).map(|(_, words)| words).sum::<usize>()
-    });
-    let pairs = words.len();
+    let [of_2013, of_2018, passed_on] = counts;
     Ok(format!(
         "received words: {of_2013} of edition 13 and {of_2018} of edition 18, of four profiles, \
-         decoded, {pairs} pairs encoded"
+         decoded, and converted, of which {passed_on} are passed on; {pairs} pairs encoded, and \
+         converted back"
     ))
 }
 
-/// How many words were received, all of one random pair.
-fn check_pair(tried: &EntryPoints, profile: &Profile, rng: &mut Rng) -> Checked<usize> {
-    let messages = rng.messages(profile);
-    let told = told(profile);
-    encode(tried, told, [&messages[0], &messages[1]], profile.word_length())?;
-    let words = received_words(profile, &messages, rng);
+/// How many words were received, all of one random pair, and how many of them are passed on.
+fn check_pair(tried: &EntryPoints, profile: &Profile, rng: &mut Rng) -> Checked<[usize; 2]> {
+    let pair = Pair::new(profile, rng.messages(profile));
+    let [first, second] = &pair.messages;
+    encode(tried, told(profile), [first, second], profile.word_length())?;
+    let words = received_words(profile, &pair.messages, rng);
+    convert_word(tried, &profile.in_other_edition(), &pair.converted, Ok(&words[0]))?;
+    let mut passed_on = 0;
     for word in &words {
-        decode(tried, told, word, [profile.k(); 2])?;
+        let found = decode_word(profile, word);
+        decode_found(tried, profile, word, &found)?;
+        let converted = pair.convert(found);
+        convert_word(tried, profile, word, converted.as_deref().map_err(|refusal| *refusal))?;
+        passed_on += usize::from(converted.is_ok());
     }
-    Ok(words.len())
+    Ok([words.len(), passed_on])
+}
+
+/// A pair of messages, and the word that the other edition's encoder makes of it.
+struct Pair<'a> {
+    profile: &'a Profile,
+    messages: Messages,
+    converted: Vec<u8>,
+}
+
+impl Pair<'_> {
+    fn new(profile: &Profile, messages: Messages) -> Pair<'_> {
+        let converted = encoded_word(&profile.in_other_edition(), &messages);
+        Pair { profile, messages, converted }
+    }
+
+    /// What converting has to answer to a word for which the search found this: "the word the other edition's
+    /// writer makes for the same pair", which is nearly always this one, or "13, the word reads but as
+    /// mended or filled" (02, T-04).
+    fn convert(&self, found: Found) -> Result<Vec<u8>, Refusal> {
+        let (answer, messages) = found?;
+        require(answer.decoded.kind == Kind::Clean, Refusal::NotClean)?;
+        Ok(if messages == self.messages {
+            self.converted.clone()
+        } else {
+            encoded_word(&self.profile.in_other_edition(), &messages)
+        })
+    }
 }
 
 /// The encoded word of a pair, and the words of every kind.
@@ -96,7 +133,7 @@ fn received_words(profile: &Profile, messages: &Messages, rng: &mut Rng) -> Vec<
     words
 }
 
-fn both_check_symbols(profile: &Profile, codeword: &[u8], rng: &mut Rng) -> Vec<u8> {
+pub fn both_check_symbols(profile: &Profile, codeword: &[u8], rng: &mut Rng) -> Vec<u8> {
     changed_at(profile, codeword, &[profile.m() + 1, profile.m() + 2], rng)
 }
 
@@ -166,29 +203,4 @@ fn off_balance(
 }
 
 #[cfg(test)]
-mod tests {
-    use coder::near_miss::{self, Slip};
-    use coder::near_misses::every_near_miss;
-
-    use super::*;
-
-    /// A fiftieth of what is received tells each decoder with a slip from the right one, but for
-    /// 002's printed δ, which is right for q = 3.
-    #[test]
-    fn every_slip_of_a_decoder_is_told() {
-        for profile in profiles_of_both() {
-            let rng = &mut Rng::new(1);
-            let near_misses = every_near_miss(profile.edition);
-            let mut untold: Vec<Slip> = near_misses.map(|near_miss| near_miss.slip).collect();
-            for _ in 0..PAIRS / 50 {
-                let messages = rng.messages(profile);
-                for word in received_words(profile, &messages, rng) {
-                    let right = near_miss::decode(profile, &word, None);
-                    untold.retain(|&slip| near_miss::decode(profile, &word, Some(slip)) == right);
-                }
-            }
-            let harmless: &[Slip] = if profile.q == 3 { &[Slip::PrintedDelta] } else { &[] };
-            assert_eq!(untold, harmless, "{profile:?}");
-        }
-    }
-}
+mod tests;

@@ -1,16 +1,19 @@
-//! Encoding and decoding with every fault of their arguments, alone and together.
+//! Encoding, decoding and converting with every fault of their arguments, alone and together.
 
 use coder::codeword::codewords;
 use coder::decode::replaced;
 use coder::edition::Edition;
+use coder::erased_words::erased;
 use coder::erasure::{erased_at, ERASURE};
 use coder::profile::{Profile, PROFILES};
+use coder::random_words::changed;
 use coder::rng::Rng;
 use fogzurt::EntryPoints;
 
-use crate::calls::{decode, encode, narrow, Told};
+use crate::calls::{convert, decode, encode, narrow, Told};
 use crate::compare::Checked;
-use crate::parallel::sum_of_jobs;
+use crate::parallel::sums_of_jobs;
+use crate::received::both_check_symbols;
 
 /// The profiles, and numbers that name none. Cut to 8, 16 or 32 bits many of them would.
 #[rustfmt::skip]
@@ -32,18 +35,30 @@ const EDITION_NUMBERS: [u64; 25] = [
 /// An oversize buffer.
 const OVERSIZE: usize = 1000;
 
+/// A job for each edition, each profile that the calls are told, and each profile of their words.
+const JOBS: usize = EDITION_NUMBERS.len() * NUMBERS.len() * PROFILES.len();
+
 pub fn check(tried: &EntryPoints) -> Checked<String> {
-    let by_profile = NUMBERS.len() * PROFILES.len();
-    let calls = sum_of_jobs("refusals", EDITION_NUMBERS.len() * by_profile, |job| {
-        let told = [EDITION_NUMBERS[job / by_profile], NUMBERS[job % by_profile / PROFILES.len()]];
-        let edition = Edition::lookup(narrow(told[0])).unwrap_or(Edition::Of2013);
-        let profile = &edition.profiles()[job % PROFILES.len()];
+    let calls = sums_of_jobs("refusals", JOBS, |job| {
+        let (told, profile) = numbers_of(job);
         let rng = &mut Rng::new(job as u64);
-        Ok(check_encode(tried, told, profile, rng)? + check_decode(tried, told, profile, rng)?)
+        let encoded = check_encode(tried, told, profile, rng)?;
+        let decoded = check_decode(tried, told, profile, rng)?;
+        Ok([encoded, decoded, check_convert(tried, told, profile, rng)?])
     })?;
+    let [encoded, decoded, converted] = calls;
     Ok(format!(
-        "refusals: {calls} calls with editions, profiles, lengths and symbols of every kind"
+        "refusals: {encoded} calls of encode, {decoded} of decode and {converted} of convert, with \
+         editions, profiles, lengths and symbols of every kind"
     ))
+}
+
+/// What the calls of a job are told, and the profile of their words.
+fn numbers_of(job: usize) -> (Told, &'static Profile) {
+    let (told, of_words) = (job / PROFILES.len(), job % PROFILES.len());
+    let told = [EDITION_NUMBERS[told / NUMBERS.len()], NUMBERS[told % NUMBERS.len()]];
+    let edition = Edition::lookup(narrow(told[0])).unwrap_or(Edition::Of2013);
+    (told, &edition.profiles()[of_words])
 }
 
 /// The right length, wrong ones, none and far too much.
@@ -104,4 +119,62 @@ fn check_decode(
         }
     }
     Ok(calls)
+}
+
+fn check_convert(
+    tried: &EntryPoints,
+    told: Told,
+    profile: &Profile,
+    rng: &mut Rng,
+) -> Checked<usize> {
+    let mut calls = 0;
+    for word in faulty_or_doubtful(profile, rng) {
+        for length in lengths(profile.word_length()) {
+            convert(tried, told, &word, length)?;
+            calls += 1;
+        }
+    }
+    Ok(calls)
+}
+
+/// A codeword and its faulty ones; and with a symbol changed, with two erased, and with both check symbols
+/// changed, which no codeword is near.
+fn faulty_or_doubtful(profile: &Profile, rng: &mut Rng) -> Vec<Vec<u8>> {
+    let (_, codeword) = &codewords(profile, &rng.messages(profile))[0];
+    let doubtful = [
+        changed(profile, codeword, 1, rng),
+        erased(codeword, 2, rng),
+        both_check_symbols(profile, codeword, rng),
+    ];
+    faulty(profile.q, codeword).into_iter().chain(doubtful).collect()
+}
+
+#[cfg(test)]
+mod tests {
+    use coder::near_miss_calls::Call;
+
+    use crate::wrong_converters::{retain_untold, OF_ARGUMENTS};
+
+    use super::*;
+
+    /// The calls with words of each profile tell each converter with a slip of its arguments from the right
+    /// one.
+    #[test]
+    fn every_slip_of_a_converters_arguments_is_told() {
+        for of_words in 0..PROFILES.len() {
+            let mut untold = OF_ARGUMENTS.to_vec();
+            for job in (of_words..JOBS).step_by(PROFILES.len()) {
+                let (told, profile) = numbers_of(job);
+                let [edition, number] = told.map(narrow);
+                for word in faulty_or_doubtful(profile, &mut Rng::new(job as u64)) {
+                    for length in lengths(profile.word_length()) {
+                        let word = word.clone();
+                        let call = Call { edition, profile: number, word, length };
+                        retain_untold(&mut untold, &call);
+                    }
+                }
+            }
+            assert!(untold.is_empty(), "{untold:?}");
+        }
+    }
 }

@@ -10,18 +10,20 @@ use std::path::PathBuf;
 
 pub use answer::{PackedAnswer, PositionAndSymbol};
 
-/// The six functions of a coder: the library's, or those of another that answers in the same way. Encode
-/// and decode are told the edition first, and then the profile.
+/// The seven functions of a coder: the library's, or those of another that answers in the same way. Encode,
+/// decode and convert are told the edition first, and then the profile.
 pub struct EntryPoints {
     pub encode: fn(u64, u64, &[u8], &[u8], &mut [u8]) -> u64,
     pub decode: fn(u64, u64, &[u8], &mut [u8], &mut [u8]) -> PackedAnswer,
+    pub convert: fn(u64, u64, &[u8], &mut [u8]) -> u64,
     pub format: fn(&mut [u8]) -> u64,
     pub enqueue: fn(&mut [u8], u64, u64, &[u8]) -> u64,
     pub peek: fn(&[u8], u64, &mut [u8]) -> u64,
     pub dequeue: fn(&mut [u8], &mut [u8]) -> u64,
 }
 
-pub const LIBRARY: EntryPoints = EntryPoints { encode, decode, format, enqueue, peek, dequeue };
+pub const LIBRARY: EntryPoints =
+    EntryPoints { encode, decode, convert, format, enqueue, peek, dequeue };
 
 /// Names another program to run in place of target/bin/boxlines.
 const PROGRAM: &str = "FOGZURT_BOXLINES";
@@ -42,6 +44,10 @@ extern "C" {
     fn fogzurt_decode(
         edition: u64, profile: u64, word: *const u8, word_len: usize,
         first: *mut u8, first_len: usize, second: *mut u8, second_len: usize,
+    ) -> u64;
+    fn fogzurt_convert(
+        edition: u64, profile: u64, word: *const u8, word_len: usize,
+        out: *mut u8, out_len: usize,
     ) -> u64;
     fn fogzurt_sheet_format(sheet: *mut u8, sheet_len: usize) -> u64;
     fn fogzurt_sheet_enqueue(
@@ -76,6 +82,12 @@ fn decode(
     let (a, a_len) = (first.as_mut_ptr(), first.len());
     let (b, b_len) = (second.as_mut_ptr(), second.len());
     PackedAnswer(unsafe { fogzurt_decode(edition, profile, word, length, a, a_len, b, b_len) })
+}
+
+/// 02, T-04: the converter. 0, or the number of the refusal.
+fn convert(edition: u64, profile: u64, word: &[u8], out: &mut [u8]) -> u64 {
+    let (word, length) = lent(word);
+    unsafe { fogzurt_convert(edition, profile, word, length, out.as_mut_ptr(), out.len()) }
 }
 
 /// 01: lay out. 0, or the number of the refusal.

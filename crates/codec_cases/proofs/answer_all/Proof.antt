@@ -7,10 +7,10 @@ use Rattle.codec_cases.proofs.answer_all.Statement.{statement}
 use Rattle.codec_cases.proofs.answer_all.Tie as tie
 
 abbrev Inv-loop : tie.InvT-loop
-Inv-loop input is-words from₀ from = Unit {0}
+Inv-loop input operation from₀ from = Unit {0}
 
 abbrev μ-loop : tie.MeasureT-loop
-μ-loop input is-words from₀ from = length input - from
+μ-loop input operation from₀ from = length input - from
 
 loop-holds : tie.Need-loop-holds Inv-loop μ-loop
 loop-holds c = search needs

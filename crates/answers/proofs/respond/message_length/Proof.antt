@@ -1,8 +1,8 @@
 -- `answers::respond::message_length` meets its contract: the row is the profile's, where there is one.
 -- Assumes nothing.
 use borrow.Author.Needs.{needs}
-use Rattle.profiles.proofs.Table.{row-found, none-found}
-use Rattle.answers.proofs.Answers.{message-row, message-none}
+use Rattle.profiles.proofs.Table.{row-found, none-found, message-is, message-short}
+use Rattle.answers.proofs.Answers.{message-none}
 use Rattle.answers.proofs.respond.message_length.Statement.{statement}
 use Rattle.answers.proofs.respond.message_length.Tie as tie
 
@@ -21,7 +21,8 @@ returns c = message-none _ (none-found _ _ (c .before .before .row-of .ensures) 
 returns-2 : tie.Need-returns-2
 returns-2 c =
     let looked = c .before .before .before in
-    message-row (row-found _ _ (looked .row-of .ensures) (c .before .row .given .1))
+    let of = row-found _ _ (looked .row-of .ensures) (c .before .row .given .1) in
+    (message-is of, message-short of)
 
 pub message-length-spec : {M : Type 1} → statement M
 message-length-spec =

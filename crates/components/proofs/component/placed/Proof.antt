@@ -8,8 +8,9 @@ use native.Mathlib.Nat.{mul-le-mul}
 use native.Mathlib.Omega.{arith}
 use lib.ListN.{length}
 use borrow.Author.Needs.{needs}
+use Rattle.code_theory.proofs.Component.{message-count}
 use Rattle.profiles.specs.Row.{parameters}
-use Rattle.components.proofs.Placing.{Pair, pair-none, pair-power, pair-two, pair-inside, pair-message, pair-all, message-count}
+use Rattle.components.proofs.Placing.{Pair, pair-none, pair-power, pair-two, pair-inside, pair-message, pair-all}
 use Rattle.components.proofs.component.placed.Statement.{statement}
 use Rattle.components.proofs.component.placed.Tie as tie
 

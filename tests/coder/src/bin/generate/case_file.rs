@@ -3,9 +3,6 @@
 use coder::lines::boxlines;
 use coder::profile::{Profile, PROFILES};
 
-/// What a buffer holds before a call, so that a byte changed by a refusal shows.
-pub const FILLER: u8 = 170;
-
 /// A run of cases with a name, by the lines of the input (and of the expected output).
 pub struct Group {
     pub name: String,

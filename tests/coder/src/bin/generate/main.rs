@@ -4,6 +4,7 @@
 
 mod case_file;
 mod contents;
+mod conversions;
 mod line_erasures;
 mod line_forms;
 mod pairs;
@@ -26,7 +27,11 @@ struct Program {
 
 fn programs() -> [Program; 4] {
     let one = |name: &str, file: CaseFile| (name.to_string(), file);
-    let codec = vec![one("stdin", pairs::make()), one("data/words", words::make())];
+    let codec = vec![
+        one("stdin", pairs::make()),
+        one("data/words", words::make()),
+        one("data/conversions", conversions::make()),
+    ];
     let lines = [line_forms::make()].into_iter().chain(streams::endings());
     let lines = lines.zip(1..).map(|(file, number)| (format!("data/{number:02}"), file));
     [

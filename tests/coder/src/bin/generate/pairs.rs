@@ -10,10 +10,11 @@ use coder::encode::encode;
 use coder::erasure::{erased_at, ERASURE};
 use coder::examples;
 use coder::profile::Profile;
+use coder::refusal::FILLER;
 use coder::rng::Rng;
 use coder::text::digits;
 
-use crate::case_file::{row_for, CaseFile, FILLER, PROFILE_NUMBERS};
+use crate::case_file::{row_for, CaseFile, PROFILE_NUMBERS};
 
 const SEED: u64 = 0x7061_6972;
 

@@ -4,7 +4,7 @@ use coder::edition::profiles_of_both;
 use coder::near_miss_editions::{self, CALL_SLIPS, ENCODER_SLIPS, HARMLESS_SLIPS};
 use coder::near_miss_sums::{self, SUM_SLIPS};
 use coder::profile::{PROFILES, PROFILES_2018};
-use coder::text::{symbols, EMPTY_WORD};
+use coder::text::symbols;
 
 use super::*;
 
@@ -83,7 +83,7 @@ fn every_slip_of_a_call_is_told() {
         let is_told = input.lines().zip(expected.lines()).any(|(case, expected)| {
             let fields: Vec<&str> = case.split(' ').collect();
             let [edition, profile] = [fields[0], fields[1]].map(|field| field.parse().unwrap());
-            let [first, second] = [fields[2], fields[3]].map(word_of);
+            let [first, second] = [fields[2], fields[3]].map(symbols);
             let right = |edition| {
                 let mut output = vec![FILLER; fields[4].parse().unwrap()];
                 encode(edition, profile, &first, &second, &mut output).map(|()| digits(&output))
@@ -93,12 +93,4 @@ fn every_slip_of_a_call_is_told() {
         });
         assert!(is_told, "{slip:?}");
     }
-}
-
-/// A word as it stands in a case.
-fn word_of(field: &str) -> Vec<u8> {
-    if field == EMPTY_WORD {
-        return Vec::new();
-    }
-    symbols(field)
 }

@@ -4,11 +4,10 @@ use std::fmt;
 
 use coder::list::{Record, RecordList, CELL};
 use coder::queue;
-use coder::refusal::Refusal;
+use coder::refusal::{Refusal, FILLER};
 use coder::text::EMPTY_WORD;
 
 use super::Maker;
-use crate::case_file::FILLER;
 
 /// One call, or one act on the buffer between calls.
 #[derive(Debug, Clone)]

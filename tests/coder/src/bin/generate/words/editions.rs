@@ -2,7 +2,6 @@
 //! none. They come after all others and have a seed of their own, so that the words before are those
 //! that were stored before.
 
-use coder::codeword::codewords;
 use coder::decode::replaced;
 use coder::edition::{Edition, EDITIONS};
 use coder::erased_words::{
@@ -14,7 +13,7 @@ use coder::near_misses::{every_near_miss, EDITION_NEAR_MISSES};
 use coder::profile::{Profile, PROFILES_2018};
 use coder::random_words::{
     balanced_noise, both_check_symbols, by_another_choice, changed, changed_at, codeword, encoded,
-    with_changes,
+    of_both, with_changes,
 };
 use coder::rng::Rng;
 
@@ -33,7 +32,7 @@ const CHANGED_IN_TURN: usize = 2;
 const RECEIVED: [Received; 16] = [
     ("the encoder's word", 20, |profile, rng| Some(encoded(profile, rng))),
     ("codeword by another choice", 40, by_another_choice),
-    ("codeword of which 1 was added nowhere: v = 0", 15, |profile, rng| of_both(profile, rng)),
+    ("codeword of which 1 was added nowhere: v = 0", 15, of_both),
     ("two symbols changed", 50, |profile, rng| Some(with_changes(profile, 2, rng))),
     ("three symbols changed", 20, |profile, rng| Some(with_changes(profile, 3, rng))),
     ("both check symbols changed", 8, both_check_symbols),
@@ -62,7 +61,7 @@ const RECEIVED: [Received; 16] = [
 ];
 
 /// Words of another edition than the profile's.
-const OF_OTHER_EDITION: [Received; 5] = [
+pub const OF_OTHER_EDITION: [Received; 5] = [
     ("the encoder's word", 8, |profile, rng| Some(encoded(&profile.in_other_edition(), rng))),
     ("codeword by any choice", 12, |profile, rng| Some(codeword(&profile.in_other_edition(), rng))),
     ("codeword of both, which is read as another pair", 8, |profile, rng| {
@@ -103,14 +102,6 @@ pub fn add_groups(file: &mut CaseFile) {
     }
     file.name_groups("T-03, every edition: ");
     order_of_editions(file, rng);
-}
-
-/// A codeword of random messages whose choice adds 1 to neither component, if they have one. It is a
-/// codeword of both editions, with another pair in each unless both messages are zeros.
-fn of_both(profile: &Profile, rng: &mut Rng) -> Option<Vec<u8>> {
-    let words = codewords(profile, &rng.messages(profile)).into_iter();
-    let mut words = words.filter(|(choice, _)| choice.adds_nothing(profile.edition));
-    words.next().map(|(_, word)| word)
 }
 
 /// A codeword of each profile with every position erased; of profile 1 every two as well.

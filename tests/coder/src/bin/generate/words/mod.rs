@@ -1,7 +1,7 @@
 //! words: received words of all profiles, and what decoding answers.
 
-mod editions;
-mod erasures;
+pub mod editions;
+pub mod erasures;
 mod errors;
 mod tried;
 
@@ -16,11 +16,11 @@ use coder::random_words::{
     balanced_noise, both_check_symbols, by_another_choice, changed_at, codeword, encoded,
     one_check_symbol, with_changes, Build,
 };
-use coder::refusal::Refusal;
+use coder::refusal::{Refusal, FILLER};
 use coder::rng::Rng;
 use coder::text::digits;
 
-use crate::case_file::{row_for, CaseFile, FILLER, PROFILE_NUMBERS};
+use crate::case_file::{row_for, CaseFile, PROFILE_NUMBERS};
 
 const SEED: u64 = 0x776f_7264;
 
@@ -28,7 +28,7 @@ const SEED: u64 = 0x776f_7264;
 const OF_EACH_NEAR_MISS: usize = 4;
 
 /// What is received, how many words of it for each profile, and how one is built.
-type Received = (&'static str, usize, Build);
+pub type Received = (&'static str, usize, Build);
 
 const RECEIVED: [Received; 9] = [
     ("the encoder's word", 40, |profile, rng| Some(encoded(profile, rng))),
@@ -139,11 +139,22 @@ fn every_position_and_level(file: &mut CaseFile, edition: Edition, rng: &mut Rng
 
 /// Random words of every kind in the table.
 fn received(file: &mut CaseFile, edition: Edition, table: &[Received], rng: &mut Rng) {
+    add_received(file, edition, table, add_word, rng);
+}
+
+/// The same, each word added in this way.
+pub fn add_received(
+    file: &mut CaseFile,
+    edition: Edition,
+    table: &[Received],
+    add: fn(&mut CaseFile, &Profile, &[u8]),
+    rng: &mut Rng,
+) {
     for &(name, count, build) in table {
         file.group(name);
         for profile in edition.profiles() {
             for word in repeat_with(|| build(profile, rng)).flatten().take(count) {
-                add_word(file, profile, &word);
+                add(file, profile, &word);
             }
         }
     }

@@ -3,12 +3,11 @@
 use coder::decode::decode;
 use coder::near_miss::{self, Slip};
 use coder::near_miss_editions::{self, CALL_SLIPS};
-use coder::refusal::Refusal;
-use coder::text::{symbols, EMPTY_WORD};
+use coder::refusal::{Refusal, FILLER};
+use coder::text::symbols;
 
 use super::super::{answer_of, make};
 use super::*;
-use crate::case_file::FILLER;
 
 /// A case, and the line that answers it.
 struct Stored {
@@ -28,7 +27,7 @@ fn stored() -> Vec<Stored> {
             let fields: Vec<&str> = case.split(' ').collect();
             Stored {
                 told: [fields[0], fields[1]].map(|field| field.parse().unwrap()),
-                word: if fields[2] == EMPTY_WORD { vec![] } else { symbols(fields[2]) },
+                word: symbols(fields[2]),
                 lengths: [fields[3], fields[4]].map(|field| field.parse().unwrap()),
                 expected: expected.to_string(),
             }
