@@ -27,7 +27,7 @@
  * where the call was done, and else one of FOGZURT_ERR_.. below. Every argument may have any value,
  * and what is wrong with it is answered by its number. A refused call writes no buffer. An accepted
  * call writes only what its comment says. Where several things are wrong, the number is the one that
- * stands first in the order given with the function. Edition, profile, box and record numbers are 64
+ * stands first in the order given with the function. Edition, profile, rule, box and record numbers are 64
  * bits wide, so that 257 is refused and not taken for 1.
  *
  * WHAT NO FUNCTION CAN CHECK, and the caller must see to, or anything may happen:
@@ -47,16 +47,18 @@
 extern "C" {
 #endif
 
-/* Major, minor: a major step breaks a caller. 3.1 added fogzurt_convert and FOGZURT_ERR_NOT_CLEAN, which
- * no other function answers, and no more: a caller of 3.0 stays as it is. 3.0 put the edition before the
- * profile in fogzurt_encode and fogzurt_decode: every call of the two has to be changed, by
- * FOGZURT_EDITION_2013 as a first argument, and then answers as before. 2.1 added FOGZURT_ERROR and 2.2
- * FOGZURT_TRIED, and no more: each macro masks its own byte of an answer, so a caller of 2.0 that asks by
- * the macros stays as it is. Since 2.2 an answer of fogzurt_decode with the number 4 may have more than its
- * lowest byte. A caller that compares the whole answer with 4, and not FOGZURT_NUMBER of it, as the rule
- * above has always said, has to be changed. */
-#define FOGZURT_VERSION_MAJOR 3
-#define FOGZURT_VERSION_MINOR 1
+/* Major, minor: a major step breaks a caller. 4.0 put the line rule after the profile in fogzurt_encode:
+ * every call of it has to be changed, by FOGZURT_RULE_1 as a third argument, and then answers as before; a
+ * caller without a declaration would hand over a pointer for it. 3.1 added fogzurt_convert and
+ * FOGZURT_ERR_NOT_CLEAN, which no other function answers, and no more: a caller of 3.0 stays as it is. 3.0
+ * put the edition before the profile in fogzurt_encode and fogzurt_decode: every call of the two has to be
+ * changed, by FOGZURT_EDITION_2013 as a first argument, and then answers as before. 2.1 added FOGZURT_ERROR
+ * and 2.2 FOGZURT_TRIED, and no more: each macro masks its own byte of an answer, so a caller of 2.0 that
+ * asks by the macros stays as it is. Since 2.2 an answer of fogzurt_decode with the number 4 may have more
+ * than its lowest byte. A caller that compares the whole answer with 4, and not FOGZURT_NUMBER of it, as the
+ * rule above has always said, has to be changed. */
+#define FOGZURT_VERSION_MAJOR 4
+#define FOGZURT_VERSION_MINOR 0
 
 /* The number in an answer: 0, or why the call was refused. Compare this, and never a whole answer. */
 #define FOGZURT_NUMBER(answer) ((unsigned)((uint64_t)(answer) & 0xff))
@@ -76,7 +78,8 @@ enum {
     FOGZURT_ERR_NO_RECORD = 10,    /* the sheet has no record of that number */
     FOGZURT_ERR_ERASURES = 11,     /* more than two symbols are erased */
     FOGZURT_ERR_EDITION = 12,      /* the edition is neither 13 nor 18 */
-    FOGZURT_ERR_NOT_CLEAN = 13     /* the word is read, but as corrected or filled */
+    FOGZURT_ERR_NOT_CLEAN = 13,    /* the word is read, but as corrected or filled */
+    FOGZURT_ERR_RULE = 14          /* the line rule is neither 1 nor 2 */
 };
 
 /* The editions of boxes. Both have the profiles, the lengths and the two check symbols above; how messages
@@ -84,9 +87,20 @@ enum {
  * edition that is decoded as one of the other is refused with 4 or, without any sign of it, read as other
  * messages, save for a word of two messages of zeros, which is refused or read as them. With random messages
  * it is read in about 7, 2, 1 and 0.4 of a hundred words of 18 decoded as 13, for profiles 1 to 4, and in
- * about 40, 21, 5 and 2 of a hundred words of 13 decoded as 18. */
+ * about 40, 21, 5 and 2 of a hundred words of 13 decoded as 18, where FOGZURT_RULE_1 made them; where
+ * FOGZURT_RULE_2 did, in about 9, 2, 2 and 0.9, and in about 21, 8, 5 and 3. */
 #define FOGZURT_EDITION_2013 13
 #define FOGZURT_EDITION_2018 18
+
+/* The line rules. The same messages have several codewords, and the rule says which of them fogzurt_encode
+ * makes: by rule 1 the one of the first choice that balances it, which is what boxes already sold are given;
+ * by rule 2 one whose running digital sum on the line stays closest to 0. That sum (the request's "swing") is,
+ * after each symbol, twice the sum of the symbols so far less q - 1 for each of them; its largest size over a
+ * whole word, check symbols included, is the word's peak, and rule 2 makes a word with the least peak. Both
+ * are codewords of the same messages: fogzurt_decode reads either and is told no rule, and no word tells by
+ * which it was made. */
+#define FOGZURT_RULE_1 1
+#define FOGZURT_RULE_2 2
 
 /* The bytes of a profile's message and of its word; 0 where there is no such profile. */
 #define FOGZURT_MESSAGE_BYTES(profile) \
@@ -104,14 +118,16 @@ enum {
 /* Encodes two messages into their word (the request's "write").
  *   edition              FOGZURT_EDITION_2013 or FOGZURT_EDITION_2018
  *   profile              1 to 4
+ *   rule                 FOGZURT_RULE_1 or FOGZURT_RULE_2
  *   first, second        the messages
  *   out                  where the word goes; its length is the word's
  * Answers 0, and out then holds the word. Refusals, in this order:
- *   12 edition; 1 profile; 2 a message or out has not its length; 3 a symbol of a message is not below
- *   q, as FOGZURT_ERASURE is not.
+ *   12 edition; 1 profile; 14 line rule; 2 a message or out has not its length; 3 a symbol of a message is
+ *   not below q, as FOGZURT_ERASURE is not.
  */
-uint64_t fogzurt_encode(uint64_t edition, uint64_t profile, const uint8_t *first, size_t first_len,
-                        const uint8_t *second, size_t second_len, uint8_t *out, size_t out_len);
+uint64_t fogzurt_encode(uint64_t edition, uint64_t profile, uint64_t rule, const uint8_t *first,
+                        size_t first_len, const uint8_t *second, size_t second_len, uint8_t *out,
+                        size_t out_len);
 
 /* Decodes a received word (the request's "read").
  *   edition              the box's: FOGZURT_EDITION_2013 or FOGZURT_EDITION_2018
@@ -165,7 +181,7 @@ enum {
 #define FOGZURT_TRIED(answer) ((unsigned)((uint64_t)(answer) >> 56 & 0xff))
 
 /* Converts a word of one edition into the word that fogzurt_encode makes for the same messages in the other
- * (the request's "converter").
+ * by FOGZURT_RULE_1 (the request's "converter"), whatever rule the word that comes in was made by.
  *   edition              that of the word that comes in: FOGZURT_EDITION_2013 or FOGZURT_EDITION_2018
  *   profile              1 to 4
  *   word                 the word as received, with FOGZURT_ERASURE for each erased symbol
@@ -182,8 +198,9 @@ enum {
  * the box again, and convert what then arrives. Do not encode the messages that fogzurt_decode gives for such
  * a word: what they became could no longer be told from the word of a clean one.
  *
- * There and back gives the word that fogzurt_encode makes for the messages. Where another firm's encoder
- * made the first word, the two may differ: the same messages may have several codewords.
+ * There and back gives the word that fogzurt_encode makes for the messages by FOGZURT_RULE_1. Where the first
+ * word was made by FOGZURT_RULE_2, or by another firm's encoder, the two may differ: the same messages may
+ * have several codewords.
  *
  * The edition must be right, and is not checked: no word tells it. A codeword of the other edition, such as
  * one that was converted before, is refused with 4 or, without any sign of it, converted as one of other

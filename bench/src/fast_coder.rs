@@ -4,8 +4,8 @@ use crosscheck::{number_of, packed};
 use fogzurt::EntryPoints;
 
 pub const FAST: EntryPoints = EntryPoints {
-    encode: |edition, profile, first, second, out| {
-        number_of(fast::encode(edition, profile, first, second, out))
+    encode: |edition, profile, rule, first, second, out| {
+        number_of(fast::encode(edition, profile, rule, first, second, out))
     },
     decode: |edition, profile, word, first, second| {
         packed(fast::decode(edition, profile, word, first, second))

@@ -84,7 +84,7 @@ fn mixed_lines() -> Vec<u8> {
             let profile = &PROFILES[count % PROFILES.len()];
             let [first, second] = rng.messages(profile);
             let mut word = vec![0; profile.word_length()];
-            fast::encode(13, u64::from(profile.number), &first, &second, &mut word)
+            fast::encode(13, u64::from(profile.number), 1, &first, &second, &mut word)
                 .expect("the messages are right");
             let word = changed(profile, &word, count / PROFILES.len() % 4, rng);
             let malformed = if rng.once_in(10) { "!" } else { "" };

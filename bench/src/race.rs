@@ -39,12 +39,21 @@ impl Race {
         races
     }
 
+    /// The nanoseconds of a call, of the time for all of them.
+    fn nanoseconds(&self, time: Duration) -> f64 {
+        time.as_nanos() as f64 / self.calls as f64
+    }
+
     /// The times of a call and the ratio, and the library's time for each of `symbols`.
     pub fn row(&self, operation: &str, symbols: Option<usize>) -> String {
-        let nanoseconds = |time: Duration| time.as_nanos() as f64 / self.calls as f64;
-        let [fast, library] = [self.fast, self.library].map(nanoseconds);
+        let [fast, library] = [self.fast, self.library].map(|time| self.nanoseconds(time));
         let times = format!("{operation:35} fast {fast:9.1} ns   library {library:9.1} ns");
         format!("{times}   ratio {:5.2}{}", fast / library, by_symbol(library, symbols))
+    }
+
+    /// The library's nanoseconds for each of `symbols`.
+    pub fn library_by_symbol(&self, symbols: usize) -> f64 {
+        self.nanoseconds(self.library) / symbols as f64
     }
 
     /// The library's time over its time in another race of as many calls.

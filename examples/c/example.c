@@ -1,6 +1,6 @@
 /* Encodes two messages, damages a symbol on the way or erases some, decodes what arrives, and keeps it
- * on a sheet. At the end the same messages go to a box of the 2018 edition, and its word is converted to
- * the 2013 edition and back.
+ * on a sheet. Then the same messages go to a box of the 2018 edition, and its word is converted to the
+ * 2013 edition and back. At the end two messages are encoded by either line rule.
  *
  * At the top of the repository, after `rt staticlib fogzurt`:
  *   cc -std=c11 -Iinclude examples/c/example.c target/staticlib/libfogzurt.a -o target/example
@@ -14,6 +14,7 @@
 /* Boxes 1 to 12 have profile 1. */
 enum {
     PROFILE = 1,
+    LEVELS = 3,
     MESSAGE = FOGZURT_MESSAGE_BYTES(PROFILE),
     WORD = FOGZURT_WORD_BYTES(PROFILE),
     BOX = 7,
@@ -83,11 +84,29 @@ static void print_decoded(const uint8_t *word) {
     print_decoded_as(FOGZURT_EDITION_2013, word);
 }
 
-/* Encodes for an edition, and prints the word. */
-static void print_sent(uint64_t edition, const uint8_t *first, const uint8_t *second, uint8_t *word) {
+/* Encodes for an edition by a line rule, and prints the word. */
+static void print_sent_by(uint64_t edition, uint64_t rule, const uint8_t *first, const uint8_t *second,
+                          uint8_t *word) {
     expect_ok("fogzurt_encode",
-              fogzurt_encode(edition, PROFILE, first, MESSAGE, second, MESSAGE, word, WORD));
+              fogzurt_encode(edition, PROFILE, rule, first, MESSAGE, second, MESSAGE, word, WORD));
     print_symbols("sent              ", word, WORD);
+}
+
+/* The same by line rule 1, as boxes already sold have it. */
+static void print_sent(uint64_t edition, const uint8_t *first, const uint8_t *second, uint8_t *word) {
+    print_sent_by(edition, FOGZURT_RULE_1, first, second, word);
+}
+
+/* Prints the peak of a word: how far its running digital sum goes from 0. */
+static void print_peak(const uint8_t *word) {
+    int sum = 0, peak = 0;
+    for (size_t i = 0; i < WORD; i++) {
+        sum += 2 * word[i] - (LEVELS - 1);
+        if (peak < abs(sum)) {
+            peak = abs(sum);
+        }
+    }
+    printf("  peak %d\n", peak);
 }
 
 /* Converts a word of an edition, and prints the other edition's word. */
@@ -164,5 +183,17 @@ int main(void) {
     print_symbols("received          ", word, WORD);
     answer = fogzurt_convert(FOGZURT_EDITION_2018, PROFILE, word, WORD, converted, WORD);
     printf("  not converted: number %u\n", FOGZURT_NUMBER(answer));
-    return FOGZURT_NUMBER(answer) == FOGZURT_ERR_NOT_CLEAN ? EXIT_SUCCESS : EXIT_FAILURE;
+    if (FOGZURT_NUMBER(answer) != FOGZURT_ERR_NOT_CLEAN) {
+        return EXIT_FAILURE;
+    }
+
+    /* By line rule 2 the word swings less. It is read as the same messages, and no rule is told. */
+    const uint8_t later[MESSAGE] = {2, 0, 0, 0, 0}, other[MESSAGE] = {0, 0, 0, 0, 1};
+    printf("line rule 1, then line rule 2\n");
+    print_sent(FOGZURT_EDITION_2013, later, other, word);
+    print_peak(word);
+    print_sent_by(FOGZURT_EDITION_2013, FOGZURT_RULE_2, later, other, word);
+    print_peak(word);
+    print_decoded(word);
+    return EXIT_SUCCESS;
 }

@@ -22,9 +22,13 @@ static uint8_t sheet[FOGZURT_SHEET_BYTES(RECORDS)], record[FOGZURT_CELL];
 /* Every call of encode, decode and convert is measured in both editions. */
 static uint64_t edition;
 
-static void encode(void) {
-    fogzurt_encode(edition, 4, first, sizeof first, second, sizeof second, word, sizeof word);
+static void encode_by(uint64_t rule) {
+    fogzurt_encode(edition, 4, rule, first, sizeof first, second, sizeof second, word, sizeof word);
 }
+
+static void encode_by_rule_1(void) { encode_by(1); }
+
+static void encode_by_rule_2(void) { encode_by(2); }
 
 static void decode(void) {
     fogzurt_decode(edition, 4, word, sizeof word, first, sizeof first, second, sizeof second);
@@ -87,7 +91,8 @@ int main(void) {
     for (size_t i = 0; i < sizeof editions / sizeof editions[0]; i++) {
         edition = editions[i];
         printf("edition %u\n", (unsigned)edition);
-        print_used("fogzurt_encode", encode);
+        print_used("fogzurt_encode, rule 2", encode_by_rule_2);
+        print_used("fogzurt_encode, rule 1", encode_by_rule_1);
         print_used("fogzurt_decode, clean", decode);
         print_used("fogzurt_convert, clean", convert);
         print_used("fogzurt_decode, corrected", decode_corrected);

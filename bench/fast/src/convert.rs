@@ -1,10 +1,12 @@
-//! Converting (02, T-04): decoding in one edition, and encoding in the other.
+//! Converting (02, T-04): decoding in one edition, and encoding in the other. T-06: "T-04 keeps to version 1."
 
 use coder::decode::Kind;
 use coder::refusal::{require, Refusal};
 
 use crate::code::MAX_K;
 use crate::{decode, encode, shape};
+
+const LINE_RULE: u64 = 1;
 
 /// Writes the word that the other edition's encoder makes of the messages of a codeword. Refusals 12, 1, 2,
 /// 3, 11, 4 and 13, in this order.
@@ -16,7 +18,7 @@ pub fn convert(edition: u64, profile: u64, word: &[u8], out: &mut [u8]) -> Resul
     let (first, second) = (&mut first[..shape.message_length], &mut second[..shape.message_length]);
     let answer = decode(edition, profile, word, first, second)?;
     require(answer.decoded.kind == Kind::Clean, Refusal::NotClean)?;
-    encode(other, profile, first, second, out)
+    encode(other, profile, LINE_RULE, first, second, out)
 }
 
 /// The other edition's number.

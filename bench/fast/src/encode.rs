@@ -5,31 +5,53 @@ use coder::refusal::{require, Refusal};
 use crate::code::{dot, Code, Symbols, MAX_M, MAX_N};
 use crate::for_profile;
 
-/// Writes the encoded word of two messages. Refusals 12, 1, 2 and 3, in this order.
+/// Writes the encoded word of two messages, by line rule 1 or 2. Refusals 12, 1, 14, 2 and 3, in this order.
 pub fn encode(
     edition: u64,
     profile: u64,
+    rule: u64,
     first: &[u8],
     second: &[u8],
     out: &mut [u8],
 ) -> Result<(), Refusal> {
-    for_profile!(edition, profile, encode(first, second, out))
+    for_profile!(edition, profile, encode(rule, first, second, out))
 }
 
 impl<const Q: usize, const R: usize, const N: usize, const EDITION: u64> Code<Q, R, N, EDITION> {
-    pub(crate) fn encode(first: &[u8], second: &[u8], out: &mut [u8]) -> Result<(), Refusal> {
+    pub(crate) fn encode(
+        rule: u64,
+        first: &[u8],
+        second: &[u8],
+        out: &mut [u8],
+    ) -> Result<(), Refusal> {
+        match (rule, Self::FROM_END) {
+            (1, false) => Self::encode_by(Self::first_balancing_choice, first, second, out),
+            (1, true) => Self::encode_by(Self::first_balancing_choice_from_end, first, second, out),
+            (2, _) => Self::encode_by(Self::least_peak, first, second, out),
+            _ => Err(Refusal::LineRule),
+        }
+    }
+
+    /// By a rule: it finds the choice that is taken, its s and the index from which on 1 more is added or, in edition
+    /// 18, before which. Each rule has a function of its own, so that none slows down the other.
+    fn encode_by(
+        rule: impl Fn(&Symbols) -> (i16, usize),
+        first: &[u8],
+        second: &[u8],
+        out: &mut [u8],
+    ) -> Result<(), Refusal> {
         require(first.len() == Self::K && second.len() == Self::K, Refusal::Length)?;
         require(out.len() == Self::LENGTH, Refusal::Length)?;
         require(Self::has_symbols(first) && Self::has_symbols(second), Refusal::Symbol)?;
         let (first, second) = (Self::component(first), Self::component(second));
         if Self::FROM_END {
             let sums = Self::integrate_from_end(&first, &second);
-            let (s, v) = Self::first_balancing_choice_from_end(&sums);
-            Self::write_word(&sums, |index| s + i16::from(index < v), out);
+            let (s, start) = rule(&sums);
+            Self::write_word(&sums, |index| s + i16::from(index < start), out);
         } else {
             let sums = Self::integrate(&first, &second);
-            let (s, v) = Self::first_balancing_choice(&sums);
-            Self::write_word(&sums, |index| s + i16::from(v <= index + 1), out);
+            let (s, start) = rule(&sums);
+            Self::write_word(&sums, |index| s + i16::from(start <= index), out);
         }
         Ok(())
     }
@@ -87,8 +109,8 @@ impl<const Q: usize, const R: usize, const N: usize, const EDITION: u64> Code<Q,
         sums
     }
 
-    /// The first (s, v) that balances. Adding s and 1 more from v on weighs, at v = 1, what adding
-    /// s + 1 does; going from v to v + 1 takes 1 from symbol v, or adds q − 1 where it was 0.
+    /// The first (s, v) that balances: s, and the index of position v. Adding s and 1 more from v on weighs, at
+    /// v = 1, what adding s + 1 does; going from v to v + 1 takes 1 from symbol v, or adds q − 1 where it was 0.
     fn first_balancing_choice(sums: &Symbols) -> (i16, usize) {
         let mut at_first: i16 = sums[..Self::M].iter().sum();
         for s in 0..Q as i16 {
@@ -98,7 +120,7 @@ impl<const Q: usize, const R: usize, const N: usize, const EDITION: u64> Code<Q,
             let mut weight = at_first;
             for (index, &sum) in sums[..Self::M].iter().enumerate() {
                 if weight == Self::BALANCING_VALUE {
-                    return (s, index + 1);
+                    return (s, index);
                 }
                 weight += if sum == wrapping { Q as i16 - 1 } else { -1 };
             }
@@ -106,8 +128,8 @@ impl<const Q: usize, const R: usize, const N: usize, const EDITION: u64> Code<Q,
         unreachable!("01: a balancing choice always exists")
     }
 
-    /// The same of edition 18. At v = 0 only s is added; going from v to v + 1 adds 1 to symbol v + 1, or
-    /// takes q − 1 where it was the highest. What all symbols weigh with 1 more is the next s.
+    /// The same of edition 18, where the index is v. At v = 0 only s is added; going from v to v + 1 adds 1 to symbol
+    /// v + 1, or takes q − 1 where it was the highest. What all symbols weigh with 1 more is the next s.
     fn first_balancing_choice_from_end(sums: &Symbols) -> (i16, usize) {
         let mut at_first: i16 = sums[..Self::M].iter().sum();
         for s in 0..Q as i16 {

@@ -9,6 +9,7 @@ mod convert;
 mod decode;
 mod encode;
 mod fill;
+mod least_peak;
 pub mod lines;
 pub mod queue;
 

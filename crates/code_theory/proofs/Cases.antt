@@ -1,4 +1,4 @@
--- The starred cases, those with erasures, how many positions are tried, and words of edition 18, computed.
+-- The starred cases, those with erasures, how many positions are tried, words of edition 18, and choices of line rule 2, computed.
 -- Assumes nothing.
 use mathlib.Core.Path.{refl}
 use Rattle.modular_theory.specs.Residue.{minus}
@@ -8,12 +8,14 @@ use Rattle.code_theory.specs.Balance.{chosen, balances, earliestS, earli
 use Rattle.code_theory.specs.Codeword.{alpha, beta, withChecks, interleaved, encoded, body, received, nearCode}
 use Rattle.code_theory.specs.Codeword.{restored, isBalanced, checkSumAgrees, hasChecks, nearComponents}
 use Rattle.code_theory.specs.Codeword.{hasComponents, codeword, carried}
+use Rattle.code_theory.specs.RunningSum.{runningDigitalSum, peak}
+use Rattle.code_theory.specs.LineRule.{choicePeak, peaksFrom, allPeakFrom, hasLeastPeak, chosenS, chosenV, balancedBy}
 use Rattle.code_theory.specs.Erasures.{filling, firstFilling}
 use Rattle.code_theory.specs.Reading.{mends, changedAt, sentAt, nearReading, reading, filledReading, receivedReading}
 use Rattle.code_theory.specs.TriedPositions.{searched, triedPositions}
 use Rattle.code_theory.specs.Profiles.{profile}
 use Rattle.code_theory.specs.Operations.{decodeAnswer}
-use Rattle.code_theory.specs.Cases.{AllHold, starred, erased, counted, in18, noEdition}
+use Rattle.code_theory.specs.Cases.{AllHold, starred, erased, counted, in18, leastPeaks13, leastPeaks18, noEdition}
 
 pub starred-hold : AllHold 13 starred
 unfolding minus balancingValue delta syndrome inCode isCheck message candidate component chosen balances earliestS earliestV balanced alpha
@@ -55,6 +57,14 @@ in-18-hold = (
       ),
     ),
   ),
+)
+
+pub least-peaks-hold : AllHold 13 leastPeaks13 × AllHold 18 leastPeaks18
+unfolding balancingValue delta syndrome inCode isCheck candidate component chosen balances alpha beta withChecks interleaved runningDigitalSum
+    peak choicePeak peaksFrom allPeakFrom hasLeastPeak chosenS chosenV balancedBy profile
+least-peaks-hold = (
+  ((refl, refl, refl, refl), ((refl, refl, refl, refl), ((refl, refl, refl, refl), ((refl, refl, refl, refl), tt)))),
+  ((refl, refl, refl, refl), ((refl, refl, refl, refl), ((refl, refl, refl, refl), ((refl, refl, refl, refl), tt)))),
 )
 
 pub no-edition-holds : AllHold 12 noEdition × AllHold 0 noEdition

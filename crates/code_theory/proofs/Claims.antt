@@ -3,6 +3,7 @@
 use Rattle.code_theory.specs.Claims.{Claims}
 use Rattle.code_theory.proofs.Choice.{balance-exists}
 use Rattle.code_theory.proofs.Pair.{balance-of-pair}
+use Rattle.code_theory.proofs.LineRule.{peaks-told, least-peak-exists, least-peak-of-pair, rule-one, rule-numbers}
 use Rattle.code_theory.proofs.Component.{one-component}
 use Rattle.code_theory.proofs.Encoded.{choice-carries, encoded-carries}
 use Rattle.code_theory.proofs.Restored.{one-pair}
@@ -15,13 +16,18 @@ use Rattle.code_theory.proofs.Whole.{received-symbols, whole-reading}
 use Rattle.code_theory.proofs.Erased.{erasures-filled, erased-by-filling}
 use Rattle.code_theory.proofs.TriedPositions.{counts-told, most-tried}
 use Rattle.code_theory.proofs.Profiles.{edition-numbers, profiles-fit}
-use Rattle.code_theory.proofs.Cases.{starred-hold, erased-hold, counted-hold, in-18-hold, no-edition-holds}
+use Rattle.code_theory.proofs.Cases.{starred-hold, erased-hold, counted-hold, in-18-hold, least-peaks-hold, no-edition-holds}
 
 pub claims : Claims
 claims =
     record {
       balance-exists = balance-exists;
       balance-of-pair = balance-of-pair;
+      peaks-told = peaks-told;
+      least-peak-exists = least-peak-exists;
+      least-peak-of-pair = least-peak-of-pair;
+      rule-one = rule-one;
+      rule-numbers = rule-numbers;
       one-component = one-component;
       choice-carries = choice-carries;
       encoded-carries = encoded-carries;
@@ -49,5 +55,6 @@ claims =
       erased-hold = erased-hold;
       counted-hold = counted-hold;
       in-18-hold = in-18-hold;
+      least-peaks-hold = least-peaks-hold;
       no-edition-holds = no-edition-holds;
     }

@@ -14,12 +14,14 @@ use lib.Seq.{lt-length-set, getD-set-same, set-set, set-getD}
 use Rattle.modular_theory.specs.Sum.{weight}
 use Rattle.modular_theory.specs.Residue.{minus}
 use Rattle.modular_theory.proofs.Search.{and-left, and-right, and-intro}
-use Rattle.code_theory.specs.Parameters.{Edition, edition13, edition18, Parameters, inEdition, Sized, balancedLength, balancingValue}
-use Rattle.code_theory.specs.Component.{symbolsBelow, inCode, message, component}
+use Rattle.code_theory.specs.Parameters.{Edition, edition13, edition18, Parameters, inEdition, Sized, balancedLength}
+use Rattle.code_theory.specs.Parameters.{messageLength, balancingValue}
+use Rattle.code_theory.specs.Component.{symbolsBelow, isWord, inCode, message, component}
 use Rattle.code_theory.specs.Balance.{interleave, addAt, withZero, addOne}
 use Rattle.code_theory.specs.Balance.{differences, choice, chosen, earliestS, earliestV, balanced}
 use Rattle.code_theory.specs.Codeword.{alternate, alpha, beta, withChecks, interleaved, encoded}
 use Rattle.code_theory.specs.Codeword.{body, differenced, received, lowered, restored, carried}
+use Rattle.code_theory.specs.LineRule.{rule1, rule2, chosenS, chosenV, balancedBy, encodedBy}
 use Rattle.code_theory.specs.Claims.{Tried, Holding, Encodes, ChoiceCarries, EncodedCarries}
 use Rattle.code_theory.proofs.Weights.{double, double-is, parity}
 use Rattle.code_theory.proofs.Syndrome.{Zero, ColumnOf, code-zero, lowered-column}
@@ -28,8 +30,10 @@ use Rattle.code_theory.proofs.Moves.{Column, neither, first, second, Ne
 use Rattle.code_theory.proofs.Symbols.{symbol-below, symbols-raised, symbols-append}
 use Rattle.code_theory.proofs.Conditions.{codeword-of, body-with-checks}
 use Rattle.code_theory.proofs.FromEnd.{from-end-below, undone-from-end}
-use Rattle.code_theory.proofs.Choice.{length-chosen, tried-index}
+use Rattle.code_theory.proofs.First.{tried-index}
+use Rattle.code_theory.proofs.Choice.{length-chosen}
 use Rattle.code_theory.proofs.Pair.{length-component, length-interleave, length-zero, length-interleaved, balance-of-pair}
+use Rattle.code_theory.proofs.LineRule.{least-peak-of-pair, rule-one}
 use Rattle.code_theory.proofs.Component.{component-holding}
 use Rattle.code_theory.proofs.Restored.{restored-zero, restored-column}
 use Rattle.code_theory.proofs.Alternate.{alternate-first, alternate-second, minus-sum, differences-integrate}
@@ -217,9 +221,23 @@ module _ (p : Parameters) (s : Sized p) (a b : List ℕ) (ha : Holding p a (comp
 pub choice-carries : ChoiceCarries
 choice-carries p s a b ha hb t v tried weighs = encodes p s a b (component-holding p s a ha) (component-holding p s b hb) t v tried weighs
 
+module _ (p : Parameters) (s : Sized p) (a b : List ℕ) (ha : T (isWord (p .q) (messageLength p) a))
+    (hb : T (isWord (p .q) (messageLength p) b)) where
+  earliest-carries : Encodes p (encoded p a b) a b
+  unfolding encoded balanced
+  earliest-carries =
+      let (e, found) = balance-of-pair p s a b in
+      choice-carries p s a b ha hb (earliestS p (interleaved p a b)) (earliestV p (interleaved p a b))
+      (rw e at (found .v-tried)) (found .balances ∙ ap (balancingValue (p .q)) e)
+
+  least-peak-carries : Encodes p (encodedBy rule2 p a b) a b
+  unfolding encodedBy balancedBy
+  least-peak-carries =
+      let e = length-interleaved p a b in
+      let found = least-peak-of-pair p s a b in
+      choice-carries p s a b ha hb (chosenS rule2 p (interleaved p a b)) (chosenV rule2 p (interleaved p a b))
+      (rw e at (found .v-tried)) (found .balances ∙ ap (balancingValue (p .q)) e)
+
 pub encoded-carries : EncodedCarries
-unfolding encoded balanced
-encoded-carries p s a b ha hb =
-    let (e, found) = balance-of-pair p s a b in
-    choice-carries p s a b ha hb (earliestS p (interleaved p a b)) (earliestV p (interleaved p a b))
-    (rw e at (found .v-tried)) (found .balances ∙ ap (balancingValue (p .q)) e)
+encoded-carries rule1 p s a b ha hb = subst (λ (u : List ℕ). Encodes p u a b) (sym (rule-one p a b)) (earliest-carries p s a b ha hb)
+encoded-carries rule2 p s a b ha hb = least-peak-carries p s a b ha hb

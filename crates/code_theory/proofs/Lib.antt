@@ -10,8 +10,11 @@ pub mod Balance
 pub mod Shifted
 pub mod FromEnd
 pub mod Walk
+pub mod First
 pub mod Choice
 pub mod Pair
+-- Which of the balancing choices a line rule takes
+pub mod LineRule
 -- The component code
 pub mod Weights
 pub mod Syndrome

@@ -85,12 +85,19 @@ chosen p x s v = integrated p (addOne p (addAt (p .q) x (zeroIndex p x) s) v)
 unfoldable pub balances : Parameters → List ℕ → ℕ → ℕ → Bool
 balances p x s v = eqb (weight (chosen p x s v)) (balancingValue (p .q) (length x))
 
--- 01: the choice used, the first that balances: s from 0 upward and, for each s, v upward
+-- the first choice that passes a test: s from 0 upward and, for each s, v upward, for m symbols
+abbrev pub firstS : Parameters → ℕ → (ℕ → ℕ → Bool) → ℕ
+firstS p m t = least (λ s. anyBelow (λ i. t s (choice p i)) m) (p .q)
+
+abbrev pub firstV : Parameters → ℕ → (ℕ → ℕ → Bool) → ℕ
+firstV p m t = choice p (least (λ i. t (firstS p m t) (choice p i)) m)
+
+-- 01: the choice used, the first that balances
 unfoldable pub earliestS : Parameters → List ℕ → ℕ
-earliestS p x = least (λ s. anyBelow (λ i. balances p x s (choice p i)) (length x)) (p .q)
+earliestS p x = firstS p (length x) (balances p x)
 
 unfoldable pub earliestV : Parameters → List ℕ → ℕ
-earliestV p x = choice p (least (λ i. balances p x (earliestS p x) (choice p i)) (length x))
+earliestV p x = firstV p (length x) (balances p x)
 
 unfoldable pub balanced : Parameters → List ℕ → List ℕ
 balanced p x = chosen p x (earliestS p x) (earliestV p x)

@@ -1,5 +1,5 @@
--- The starred cases of document 01 ("Checked by hand"), words with erased symbols (02, T-01), how many positions are tried (02, T-08), and
--- words of edition 18 (02, T-03): a row each.
+-- The starred cases of document 01 ("Checked by hand"), words with erased symbols (02, T-01), how many positions are tried (02, T-08),
+-- words of edition 18 (02, T-03), and choices of line rule 2 (02, T-06): a row each.
 -- Assumes nothing.
 use mathlib.Core.Path.{_≡_}
 use mathlib.Core.List.{List, [], _∷_, _++_}
@@ -10,7 +10,9 @@ use Rattle.modular_theory.specs.Sum.{weight}
 use Rattle.code_theory.specs.Parameters.{editionOf, Parameters, inEdition, messageLength}
 use Rattle.code_theory.specs.Component.{component}
 use Rattle.code_theory.specs.Balance.{earliestS, earliestV, balanced}
-use Rattle.code_theory.specs.Codeword.{interleaved, encoded}
+use Rattle.code_theory.specs.Codeword.{withChecks, interleaved, encoded}
+use Rattle.code_theory.specs.RunningSum.{peak}
+use Rattle.code_theory.specs.LineRule.{rule2, chosenS, chosenV, balancedBy}
 use Rattle.code_theory.specs.Reading.{Change, change, corrected, filled, Reading, read, unreadable, receivedReading}
 use Rattle.code_theory.specs.TriedPositions.{triedPositions}
 use Rattle.code_theory.specs.Profiles.{row, profileIn}
@@ -23,6 +25,10 @@ pub data Case : Type 0 where
   encoding : ℕ → List ℕ → List ℕ → List ℕ → Case
   -- profile, pair; s, v, line word
   choosing : ℕ → List ℕ → List ℕ → ℕ → ℕ → List ℕ → Case
+  -- q, x; s, v by line rule 2, line word and its peak
+  leastPeakOf : ℕ → List ℕ → ℕ → ℕ → List ℕ → ℕ → Case
+  -- profile, pair; the same
+  leastPeakOfPair : ℕ → List ℕ → List ℕ → ℕ → ℕ → List ℕ → ℕ → Case
   -- profile, user word; half
   checking : ℕ → List ℕ → List ℕ → Case
   -- profile, received word; its reading
@@ -36,6 +42,11 @@ pub data Case : Type 0 where
 abbrev pub levelsOnly : ℕ → ℕ → Parameters
 levelsOnly e q = inEdition (editionOf e) (row q 0 0)
 
+-- line rule 2's choice for x, the line word that it makes, and the peak of that
+abbrev pub LeastPeakIs : Parameters → List ℕ → ℕ → ℕ → List ℕ → ℕ → Type 0
+LeastPeakIs p x s v u n =
+    (chosenS rule2 p x ≡ s) × (chosenV rule2 p x ≡ v) × (withChecks (p .q) (balancedBy rule2 p x) ≡ u) × (peak (p .q) u ≡ n)
+
 -- the case in edition e
 abbrev pub Holds : ℕ → Case → Type 0
 Holds e (balancing q x s v w sum) =
@@ -45,6 +56,8 @@ Holds e (choosing i a b s v u) =
     (earliestS (profileIn e i) (interleaved (profileIn e i) a b) ≡ s)
     × (earliestV (profileIn e i) (interleaved (profileIn e i) a b) ≡ v)
     × (encoded (profileIn e i) a b ≡ u)
+Holds e (leastPeakOf q x s v u n) = LeastPeakIs (levelsOnly e q) x s v u n
+Holds e (leastPeakOfPair i a b s v u n) = LeastPeakIs (profileIn e i) (interleaved (profileIn e i) a b) s v u n
 Holds e (checking i a c) = component (profileIn e i) a ≡ c
 Holds e (decoding i u d) = receivedReading (profileIn e i) u ≡ d
 Holds e (refusing i u n) =
@@ -153,6 +166,31 @@ in18 =
     (read (corrected (record { position = 6; symbol = 1; error = pos 1 })) (0 ∷ 0 ∷ 0 ∷ 0 ∷ 1 ∷ []) (zeros 5))
     ∷ decoding 1 (erase (erase shown18 0) 2) (shownFilled (change 1 1 ∷ change 3 2 ∷ []))
     ∷ counting 1 (set shown18 5 2) 3
+    ∷ []
+
+-- choices of line rule 2, worked from 02's text
+abbrev pub leastPeaks13 : List Case
+leastPeaks13 =
+    -- x of 002's example 1
+    leastPeakOf 5 (4 ∷ 2 ∷ 1 ∷ 0 ∷ 0 ∷ 0 ∷ []) 4 2 (3 ∷ 1 ∷ 2 ∷ 2 ∷ 2 ∷ 2 ∷ 4 ∷ 0 ∷ []) 4
+    -- others are chosen where the largest peak is taken, v before s, the last s or v of equal peaks, w's peak without the check symbols, or
+    -- the size of one sign alone
+    ∷ leastPeakOf 5 (2 ∷ 2 ∷ 4 ∷ 3 ∷ 4 ∷ 2 ∷ 2 ∷ []) 1 2 (3 ∷ 1 ∷ 0 ∷ 3 ∷ 2 ∷ 4 ∷ 1 ∷ 1 ∷ 3 ∷ []) 4
+    -- and here where the first position is left out
+    ∷ leastPeakOf 5 (0 ∷ 2 ∷ 4 ∷ 3 ∷ 0 ∷ 4 ∷ 4 ∷ []) 1 2 (1 ∷ 4 ∷ 3 ∷ 1 ∷ 1 ∷ 0 ∷ 4 ∷ 4 ∷ 0 ∷ []) 4
+    -- rule 1 chooses s = 0, v = 13, with a peak of 8
+    ∷ leastPeakOfPair 1 (2 ∷ 0 ∷ 0 ∷ 0 ∷ 0 ∷ []) (0 ∷ 0 ∷ 0 ∷ 0 ∷ 1 ∷ []) 1 9
+    (1 ∷ 0 ∷ 1 ∷ 2 ∷ 2 ∷ 0 ∷ 1 ∷ 0 ∷ replicate 8 1 ++ (2 ∷ 2 ∷ 0 ∷ [])) 2
+    ∷ []
+
+abbrev pub leastPeaks18 : List Case
+leastPeaks18 =
+    leastPeakOf 5 (4 ∷ 2 ∷ 1 ∷ 0 ∷ 0 ∷ 0 ∷ []) 1 5 (4 ∷ 0 ∷ 3 ∷ 2 ∷ 2 ∷ 1 ∷ 1 ∷ 3 ∷ []) 4
+    ∷ leastPeakOf 5 (3 ∷ 1 ∷ 2 ∷ 1 ∷ 3 ∷ 2 ∷ 3 ∷ []) 0 1 (1 ∷ 2 ∷ 1 ∷ 4 ∷ 3 ∷ 0 ∷ 3 ∷ 3 ∷ 1 ∷ []) 4
+    ∷ leastPeakOf 3 (2 ∷ 2 ∷ 0 ∷ 2 ∷ 1 ∷ 2 ∷ 2 ∷ []) 1 0 (0 ∷ 1 ∷ 2 ∷ 2 ∷ 0 ∷ 2 ∷ 0 ∷ 0 ∷ 2 ∷ []) 2
+    -- rule 1 chooses s = 0, v = 2, with a peak of 4
+    ∷ leastPeakOfPair 1 (2 ∷ 0 ∷ 0 ∷ 0 ∷ 0 ∷ []) (0 ∷ 0 ∷ 0 ∷ 0 ∷ 1 ∷ []) 0 8
+    (1 ∷ 2 ∷ 1 ∷ 0 ∷ 0 ∷ 2 ∷ 1 ∷ 2 ∷ replicate 8 1 ++ (0 ∷ 1 ∷ 1 ∷ [])) 2
     ∷ []
 
 -- 02: 12 comes before 1, 2 and 3

@@ -15,6 +15,9 @@ use Rattle.code_theory.specs.Parameters.{codewordLength, balancingValue,
 use Rattle.code_theory.specs.Component.{isWord, erasure, isReceived, inCode, message, component}
 use Rattle.code_theory.specs.Balance.{chosen, earliestS, earliestV, balanced}
 use Rattle.code_theory.specs.Codeword.{alternate, withChecks, interleaved, encoded, received, lowered}
+use Rattle.code_theory.specs.RunningSum.{runningDigitalSum, peak}
+use Rattle.code_theory.specs.LineRule.{LineRule, rule1, rule2, isLineRule, lineRuleOf, choicePeak, chosenS, chosenV, balancedBy}
+use Rattle.code_theory.specs.LineRule.{encodedBy}
 use Rattle.code_theory.specs.Codeword.{isBalanced, checkSumAgrees, codeword, carried}
 use Rattle.code_theory.specs.Erasures.{erasures, Agrees}
 use Rattle.code_theory.specs.Reading.{distance, Correction, Change, change, clean, corrected, filled, errorOf, findingOf, read}
@@ -22,7 +25,7 @@ use Rattle.code_theory.specs.Reading.{unreadable, readAs, reading}
 use Rattle.code_theory.specs.Reading.{changesAt, filledReading, receivedReading}
 use Rattle.code_theory.specs.TriedPositions.{triedPositions}
 use Rattle.code_theory.specs.Profiles.{isProfile, profileIn, table, derivedRow}
-use Rattle.code_theory.specs.Cases.{AllHold, starred, erased, counted, in18, noEdition}
+use Rattle.code_theory.specs.Cases.{AllHold, starred, erased, counted, in18, noEdition, leastPeaks13, leastPeaks18}
 
 -- Why a balance can always be found.
 
@@ -50,6 +53,42 @@ BalanceExists = (p : Parameters) (x : List ℕ) → 1 ≤ p .q → 1 ≤ length 
 abbrev pub BalanceOfPair : Type 0
 BalanceOfPair =
     (p : Parameters) → Sized p → (a b : List ℕ) → (length (interleaved p a b) ≡ balancedLength p) × Balanced p (interleaved p a b)
+
+-- Which of the balancing choices a line rule takes (02, T-06).
+
+-- 02: the peak is the largest size of the running digital sum: none passes it, and one has it
+pub record PeakTold (q : ℕ) (u : List ℕ) : Type 0 where
+  pub above : (i : ℕ) → 1 ≤ i → i ≤ length u → natAbs (runningDigitalSum q u i) ≤ peak q u
+  pub met : 1 ≤ length u → (i : ℕ) × (1 ≤ i) × (i ≤ length u) × (natAbs (runningDigitalSum q u i) ≡ peak q u)
+
+abbrev pub PeaksTold : Type 0
+PeaksTold = (q : ℕ) (u : List ℕ) → PeakTold q u
+
+-- rule 2's choice is one of the choices, it balances x, no choice that does has a smaller peak, and none before it has one as small
+pub record LeastPeak (p : Parameters) (x : List ℕ) : Type 0 where
+  pub s-below : chosenS rule2 p x < p .q
+  pub v-tried : Tried p (length x) (chosenV rule2 p x)
+  pub balances : weight (balancedBy rule2 p x) ≡ balancingValue (p .q) (length x)
+  pub smallest : (s v : ℕ) → s < p .q → Tried p (length x) v → weight (chosen p x s v) ≡ balancingValue (p .q) (length x)
+      → choicePeak p x (chosenS rule2 p x) (chosenV rule2 p x) ≤ choicePeak p x s v
+  pub first : (s v : ℕ) → Tried p (length x) v → Before s v (chosenS rule2 p x) (chosenV rule2 p x)
+      → weight (chosen p x s v) ≡ balancingValue (p .q) (length x)
+      → choicePeak p x (chosenS rule2 p x) (chosenV rule2 p x) < choicePeak p x s v
+
+-- 02: "The rule that the writer finds a choice holds for both"
+abbrev pub LeastPeakExists : Type 0
+LeastPeakExists = (p : Parameters) (x : List ℕ) → 1 ≤ p .q → 1 ≤ length x → length x * (p .q - 1) % 2 ≡ 0 → LeastPeak p x
+
+abbrev pub LeastPeakOfPair : Type 0
+LeastPeakOfPair = (p : Parameters) → Sized p → (a b : List ℕ) → LeastPeak p (interleaved p a b)
+
+-- rule 1 is 01's
+abbrev pub RuleOne : Type 0
+RuleOne = (p : Parameters) (a b : List ℕ) → encodedBy rule1 p a b ≡ encoded p a b
+
+-- 02: "line rule neither 1 nor 2"
+abbrev pub RuleNumbers : Type 0
+RuleNumbers = ((k : ℕ) → T (isLineRule k) ↔ ((k ≡ 1) ⊎ (k ≡ 2))) × (lineRuleOf 1 ≡ rule1) × (lineRuleOf 2 ≡ rule2)
 
 -- The component code.
 
@@ -80,11 +119,11 @@ ChoiceCarries =
     → (s v : ℕ) → Tried p (balancedLength p) v → weight (chosen p (interleaved p a b) s v) ≡ balancingValue (p .q) (balancedLength p)
     → Encodes p (withChecks (p .q) (chosen p (interleaved p a b) s v)) a b
 
--- and with the encoder's word
+-- and with the encoder's word, by either line rule
 abbrev pub EncodedCarries : Type 0
 EncodedCarries =
-    (p : Parameters) → Sized p → (a b : List ℕ) → T (isWord (p .q) (messageLength p) a) → T (isWord (p .q) (messageLength p) b)
-    → Encodes p (encoded p a b) a b
+    (r : LineRule) (p : Parameters) → Sized p → (a b : List ℕ) → T (isWord (p .q) (messageLength p) a)
+    → T (isWord (p .q) (messageLength p) b) → Encodes p (encodedBy r p a b) a b
 
 -- c is in code, and is h or h with 1 taken mod q from one symbol
 pub record Restores (p : Parameters) (h c : List ℕ) : Type 0 where
@@ -298,6 +337,10 @@ CountedHold = AllHold 13 counted
 abbrev pub In18Hold : Type 0
 In18Hold = AllHold 18 in18
 
+-- Choices of line rule 2, in each edition.
+abbrev pub LeastPeaksHold : Type 0
+LeastPeaksHold = AllHold 13 leastPeaks13 × AllHold 18 leastPeaks18
+
 -- Numbers that are no edition's.
 abbrev pub NoEditionHolds : Type 0
 NoEditionHolds = AllHold 12 noEdition × AllHold 0 noEdition
@@ -305,6 +348,11 @@ NoEditionHolds = AllHold 12 noEdition × AllHold 0 noEdition
 pub record Claims : Type 0 where
   pub balance-exists : BalanceExists
   pub balance-of-pair : BalanceOfPair
+  pub peaks-told : PeaksTold
+  pub least-peak-exists : LeastPeakExists
+  pub least-peak-of-pair : LeastPeakOfPair
+  pub rule-one : RuleOne
+  pub rule-numbers : RuleNumbers
   pub one-component : OneComponent
   pub choice-carries : ChoiceCarries
   pub encoded-carries : EncodedCarries
@@ -332,4 +380,5 @@ pub record Claims : Type 0 where
   pub erased-hold : ErasedHold
   pub counted-hold : CountedHold
   pub in-18-hold : In18Hold
+  pub least-peaks-hold : LeastPeaksHold
   pub no-edition-holds : NoEditionHolds

@@ -4,6 +4,8 @@ pub mod Component
 pub mod Balance
 pub mod Walk
 pub mod Codeword
+pub mod RunningSum
+pub mod LineRule
 pub mod Erasures
 pub mod Reading
 pub mod TriedPositions

@@ -9,7 +9,7 @@ use lib.ListN.{length}
 use Rattle.code_theory.specs.Refusal.{Test, asks, firstRefusal, onSuccess}
 use Rattle.code_theory.specs.Parameters.{isEdition, Parameters, messageLength, codewordLength}
 use Rattle.code_theory.specs.Component.{symbolsBelow, isReceived}
-use Rattle.code_theory.specs.Codeword.{encoded}
+use Rattle.code_theory.specs.LineRule.{isLineRule, lineRuleOf, encodedBy}
 use Rattle.code_theory.specs.Erasures.{erasures, mostErasures}
 use Rattle.code_theory.specs.Reading.{Finding, Reading, read, unreadable, receivedReading}
 use Rattle.code_theory.specs.TriedPositions.{triedPositions}
@@ -19,22 +19,24 @@ use Rattle.code_theory.specs.Profiles.{isProfile, profileIn}
 abbrev pub callTests : ℕ → ℕ → List Test
 callTests e i = asks (isEdition e) 12 ∷ asks (isProfile i) 1 ∷ []
 
--- 01: Write, what is tested, in this order: edition and profile, messages a and b, an output of l symbols
-abbrev pub encodeTests : ℕ → ℕ → List ℕ → List ℕ → ℕ → List Test
-encodeTests e i a b l =
+-- 01: Write, what is tested, in this order: edition and profile, line rule r (02, T-06: "after 1 and before 2"), messages a and b, an output
+-- of l symbols
+abbrev pub encodeTests : ℕ → ℕ → ℕ → List ℕ → List ℕ → ℕ → List Test
+encodeTests e i r a b l =
     let p : Parameters = profileIn e i in
     callTests e i
-    ++ (asks (eqb (length a) (messageLength p) && eqb (length b) (messageLength p) && eqb l (codewordLength p)) 2
+    ++ (asks (isLineRule r) 14
+    ∷ asks (eqb (length a) (messageLength p) && eqb (length b) (messageLength p) && eqb l (codewordLength p)) 2
     ∷ asks (symbolsBelow (p .q) a && symbolsBelow (p .q) b) 3
     ∷ [])
 
 -- the number of the refusal, or 0
-unfoldable pub encodeRefusal : ℕ → ℕ → List ℕ → List ℕ → ℕ → ℕ
-encodeRefusal e i a b l = firstRefusal (encodeTests e i a b l)
+unfoldable pub encodeRefusal : ℕ → ℕ → ℕ → List ℕ → List ℕ → ℕ → ℕ
+encodeRefusal e i r a b l = firstRefusal (encodeTests e i r a b l)
 
--- the output afterwards: the encoded word, or what it held where the call is refused
-unfoldable pub encodeOutput : ℕ → ℕ → List ℕ → List ℕ → List ℕ → List ℕ
-encodeOutput e i a b out = onSuccess (encodeRefusal e i a b (length out)) (encoded (profileIn e i) a b) out
+-- the output afterwards: the word that the rule's encoder makes, or what it held where the call is refused
+unfoldable pub encodeOutput : ℕ → ℕ → ℕ → List ℕ → List ℕ → List ℕ → List ℕ
+encodeOutput e i r a b out = onSuccess (encodeRefusal e i r a b (length out)) (encodedBy (lineRuleOf r) (profileIn e i) a b) out
 
 -- what a call answers beside its output: it is done, or refused by a number
 pub data Outcome : Type 0 where

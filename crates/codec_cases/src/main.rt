@@ -1,5 +1,5 @@
 // Runs encode, decode and convert on stored cases (tests/README.md: pairs, words, conversions). Pairs come on standard input, a line
-// `edition profile first second length` each, and the answer is the word. Words are in the file `words`, a line
+// `edition profile rule first second length` each, and the answer is the word. Words are in the file `words`, a line
 // `edition profile word first_length second_length` each, and the answer is `C 0 0 0 first second 0`,
 // `M place symbol error first second tried`, or `F place symbol 0 first second 0` with a place and a symbol for each mark. In a word and in
 // a message `?` is a mark. A refusal is `R number`, and `R 4 tried` for an unreadable word (02, T-08: how many places were tried).
@@ -43,8 +43,15 @@ fn print_encoded(answer: Encoded, out: &[u8]) {
 }
 
 // Encodes into the output, and prints the word or the refusal.
-fn encode_and_print(edition: usize, profile: usize, first: &[u8], second: &[u8], out: &mut [u8]) {
-    let answer = encoder::encode(edition, profile, first, second, out);
+fn encode_and_print(
+    edition: usize,
+    profile: usize,
+    rule: usize,
+    first: &[u8],
+    second: &[u8],
+    out: &mut [u8],
+) {
+    let answer = encoder::encode(edition, profile, rule, first, second, out);
     print_encoded(answer, out);
 }
 
@@ -123,14 +130,22 @@ fn decode_and_print(
 
 fn answer_pair(line: &[u8]) {
     let mut first = [0u8; 64];
-    let a = smaller(parse_symbols(field(line, 2), &mut first), 64);
+    let a = smaller(parse_symbols(field(line, 3), &mut first), 64);
     let mut second = [0u8; 64];
-    let b = smaller(parse_symbols(field(line, 3), &mut second), 64);
+    let b = smaller(parse_symbols(field(line, 4), &mut second), 64);
     let mut out = [FILL; 128];
-    let n = smaller(parse_number(field(line, 4)), 128);
+    let n = smaller(parse_number(field(line, 5)), 128);
     let edition = parse_number(field(line, 0));
     let profile = parse_number(field(line, 1));
-    encode_and_print(edition, profile, &first[..a], &second[..b], &mut out[..n]);
+    let rule = parse_number(field(line, 2));
+    encode_and_print(
+        edition,
+        profile,
+        rule,
+        &first[..a],
+        &second[..b],
+        &mut out[..n],
+    );
 }
 
 fn answer_word(line: &[u8]) {

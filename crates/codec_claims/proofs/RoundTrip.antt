@@ -6,8 +6,8 @@ use Rattle.codec_claims.proofs.Encoding.{encode-writes}
 use Rattle.codec_claims.proofs.Decoding.{decode-corrects-at}
 
 pub round-trip : RoundTrip
-round-trip o i a b made out word h d p e s r before-first first before-second second allowed first-long second-long =
-    let w = encode-writes o i a b made out word h d p e s .1 in
+round-trip o i l a b made out word h d p t e s r before-first first before-second second allowed first-long second-long =
+    let w = encode-writes o i l a b made out word h d p t e s .1 in
     let (clean, pair) =
     decode-corrects-at o i d p .unchanged word (w .is-codeword) r first second
     record {

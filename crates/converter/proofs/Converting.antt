@@ -1,8 +1,9 @@
 -- A codeword is converted to the other edition's word for its pair, and there and back to its own edition's: by demand 2 the word that is
 -- written is a codeword that carries the pair.
 -- Assumes nothing.
-use mathlib.Core.Path.{_≡_, refl, sym, ap, _∙_}
+use mathlib.Core.Path.{_≡_, refl, sym, ap, subst, _∙_}
 use mathlib.Core.Logic.{_≢_}
+use mathlib.Core.Bool.{true, false}
 use mathlib.Core.List.{List}
 use Prim.Native.Nat.{ℕ}
 use native.Mathlib.Omega.{arith}
@@ -11,13 +12,14 @@ use lib.ListN.{length}
 use Rattle.modular_theory.proofs.Search.{and-right}
 use Rattle.code_theory.specs.Parameters.{isEdition, Parameters, Sized, codewordLength}
 use Rattle.code_theory.specs.Component.{symbolsBelow, isWord}
-use Rattle.code_theory.specs.Codeword.{codeword}
+use Rattle.code_theory.specs.Codeword.{codeword, carried}
 use Rattle.code_theory.specs.Reading.{Finding, clean, corrected, filled}
 use Rattle.code_theory.specs.Profiles.{isProfile, profileIn}
 use Rattle.code_theory.specs.Operations.{done, outcome, Report, refusal, failure, success, reportNumber}
 use Rattle.code_theory.proofs.Merge.{word-length}
 use Rattle.code_theory.proofs.Profiles.{profiles-fit, few-levels}
 use Rattle.code_theory.proofs.Whole.{levels-received}
+use Rattle.code_theory.proofs.LineRule.{rule-one}
 use Rattle.code_theory.proofs.Reading.{codeword-word}
 use Rattle.profiles.proofs.Refusing.{accepted-by}
 use Rattle.encoder.specs.declared.Encoded.{Encoded}
@@ -70,10 +72,12 @@ convert-writes e i edition known u c r out out′ a =
     let room : l ≡ codewordLength (profileIn e i) = a .long in
     let n : length u ≡ codewordLength (profileIn e i) = long e i edition known u c in
     let (is-done, word) = written e i u a (none-refuses e i u l (reaches-reading e i edition known u c l room) c) in
+    let first : List ℕ = carried (profileIn e i) true u in
+    let second : List ℕ = carried (profileIn e i) false u in
     let made =
-    word-of-pair (otherEdition e) i _ _ l known
-    (accepted-by (otherEdition e) i _ _ l (fits e i known u n l room) (levels e i known u n l room)) in
-    (is-done, rw word made)
+    word-of-pair (otherEdition e) i 1 first second l known
+    (accepted-by (otherEdition e) i 1 first second l (fits e i known u n l room) (levels e i known u n l room)) in
+    (is-done, rw word (subst (WordOf (otherEdition e) i 1 first second) (rule-one (profileIn (otherEdition e) i) first second) made))
 
 pub there-and-back : ThereAndBack
 there-and-back e i edition known u c r out there a r′ out′ back b =
@@ -83,9 +87,9 @@ there-and-back e i edition known u c r out there a r′ out′ back b =
 
 pub own-word-back : OwnWordBack
 own-word-back e i a b made before u h edition known lengths below r out there x r′ out′ back y =
-    let w : WordOf e i a b u = encode-writes e i a b made before u h edition known lengths below .1 in
+    let w : WordOf e i 1 a b u = encode-writes e i 1 a b made before u h edition known tt lengths below .1 in
     let (is-done, again) = there-and-back e i edition known u (w .is-codeword) r out there x r′ out′ back y in
-    let same : WordOf e i a b back = rw (w .first, w .second) at again in
+    let same : WordOf e i 1 a b back = rw (w .first, w .second) at again in
     (is-done, same .word ∙ sym (w .word))
 
 -- the number by a report that is one of a refusal, and by one of a word that is not clean

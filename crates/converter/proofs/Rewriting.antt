@@ -12,7 +12,7 @@ use lib.ListN.{length}
 use Rattle.modular_theory.proofs.Search.{and-left, and-right, and-intro, eq-test, fails}
 use Rattle.code_theory.specs.Parameters.{isEdition, Parameters, messageLength, codewordLength}
 use Rattle.code_theory.specs.Component.{symbolsBelow, isWord, isReceived}
-use Rattle.code_theory.specs.Codeword.{encoded, carried}
+use Rattle.code_theory.specs.Codeword.{withChecks, interleaved, encoded, carried}
 use Rattle.code_theory.specs.Erasures.{erasures}
 use Rattle.code_theory.specs.Reading.{clean, corrected, filled, Reading, read, unreadable, receivedReading}
 use Rattle.code_theory.specs.TriedPositions.{triedPositions}
@@ -21,6 +21,7 @@ use Rattle.code_theory.specs.Refusal.{asks, firstRefusal}
 use Rattle.code_theory.specs.Operations.{done, outcome, readUnless, decodeAnswer, report}
 use Rattle.code_theory.proofs.Profiles.{edition-numbers, profiles-fit}
 use Rattle.code_theory.proofs.Carried.{carried-messages}
+use Rattle.code_theory.proofs.LineRule.{balanced-by-one}
 use Rattle.encoder.specs.declared.Encoded.{Encoded}
 use Rattle.encoder.specs.declared.Encoded.the-variants.{Refused}
 use Rattle.encoder.specs.Answer.{encodedOutcome, EncodeAllows}
@@ -136,15 +137,16 @@ module _ (e i : ℕ) (known : T (isProfile i)) (u : List ℕ) (long : length u �
 -- what encoding may make of the pair in the other edition is the word
 pub encode-converts : (e i : ℕ) (u : List ℕ) {l : ℕ} → PassedOn e i u l → {r : Encoded} {out out′ : List ℕ}
     → length out ≡ codewordLength (profileIn e i)
-    → EncodeAllows (otherEdition e) i (carried (profileIn e i) true u) (carried (profileIn e i) false u) r out out′
+    → EncodeAllows (otherEdition e) i 1 (carried (profileIn e i) true u) (carried (profileIn e i) false u) r out out′
     → (encodedOutcome r ≡ done) × (out′ ≡ converted e i u)
 unfolding converted encoded
 encode-converts e i u passed {r} {out} {out′} room made =
     let t = passed .reaches-reading in
+    let p : Parameters = profileIn (otherEdition e) i in
     let (is-done, word) =
-    encode-writes (otherEdition e) i _ _ r out out′ made (other-known e (t .edition)) (t .in-table)
+    encode-writes (otherEdition e) i 1 _ _ r out out′ made (other-known e (t .edition)) (t .in-table) tt
     (fits e i (t .in-table) u (t .word-long) (length out) room) (levels e i (t .in-table) u (t .word-long) (length out) room) in
-    (is-done, word .word)
+    (is-done, word .word ∙ ap (withChecks (p .q)) (balanced-by-one p (interleaved p _ _)))
 
 -- The answers of `convert` before a word is read.
 
@@ -177,7 +179,7 @@ module _ (e i : ℕ) (u : List ℕ) {d : Decoded} {first first′ second second�
   refuses is some = refuses-by e i u out (sym (is ∙ number)) some
 
   -- a clean one
-  pub writes : doubt (decodedReport d) ≡ 0 → {r : Encoded} {out′ : List ℕ} → EncodeAllows (otherEdition e) i first′ second′ r out out′
+  pub writes : doubt (decodedReport d) ≡ 0 → {r : Encoded} {out′ : List ℕ} → EncodeAllows (otherEdition e) i 1 first′ second′ r out out′
       → ConvertAllows e i u r out out′
   writes is {r} {out′} made =
       let none : convertRefusal e i u (length out) ≡ 0 = sym number ∙ is in

@@ -34,9 +34,9 @@ pub record Answered (e i : ℕ) (u : List ℕ) (r : Encoded) (out out′ : List 
   pub long : length out ≡ codewordLength (profileIn e i)
   pub allowed : ConvertAllows e i u r out out′
 
--- v is the word that 01, or 02 for edition 18, asks for in edition e′, for the pair that u carries in edition e
+-- v is the word that 01, or 02 for edition 18, asks for in edition e′, for the pair that u carries in edition e; 02, T-06: by line rule 1
 abbrev pub SamePair : ℕ → ℕ → ℕ → List ℕ → List ℕ → Type 0
-SamePair e e′ i u v = WordOf e′ i (carried (profileIn e i) true u) (carried (profileIn e i) false u) v
+SamePair e e′ i u v = WordOf e′ i 1 (carried (profileIn e i) true u) (carried (profileIn e i) false u) v
 
 -- a codeword is converted to the word of the other edition for its pair, whatever choice it was made by
 abbrev pub ConvertWrites : Type 0
@@ -52,10 +52,10 @@ ThereAndBack =
     → (r′ : Encoded) (out′ back : List ℕ) → Answered (otherEdition e) i there r′ out′ back
     → (encodedOutcome r′ ≡ done) × SamePair e e i u back
 
--- so a word that encode made comes back
+-- so a word that encode made by line rule 1 comes back
 abbrev pub OwnWordBack : Type 0
 OwnWordBack =
-    (e i : ℕ) (a b : List ℕ) (made : Encoded) (before u : List ℕ) → EncodeAllows e i a b made before u
+    (e i : ℕ) (a b : List ℕ) (made : Encoded) (before u : List ℕ) → EncodeAllows e i 1 a b made before u
     → T (isEdition e) → T (isProfile i) → T (encodeLengthsFit i a b (length before)) → T (levelsFit i a b)
     → (r : Encoded) (out there : List ℕ) → Answered e i u r out there
     → (r′ : Encoded) (out′ back : List ℕ) → Answered (otherEdition e) i there r′ out′ back
@@ -67,9 +67,9 @@ pub record FollowsReading (e i : ℕ) (d : Decoded) (first second : List ℕ) (r
   pub refused : decodedNumber d ≢ 0 → RefusedBy (decodedNumber d) r out out′
   -- 02: "13, the word reads but as mended or filled"
   pub doubtful : (f : Finding) (t : ℕ) → decodedReport d ≡ success f t → f ≢ clean → RefusedBy 13 r out out′
-  -- and a clean word is written as encode writes its messages in the other edition
+  -- and a clean word is written as encode writes its messages in the other edition, by line rule 1
   pub written : decodedReport d ≡ success clean 0 → (made : Encoded) (before v : List ℕ)
-      → EncodeAllows (otherEdition e) i first second made before v → length before ≡ codewordLength (profileIn e i)
+      → EncodeAllows (otherEdition e) i 1 first second made before v → length before ≡ codewordLength (profileIn e i)
       → (encodedOutcome r ≡ done) × (out′ ≡ v)
 
 abbrev pub ConvertFollows : Type 0

@@ -1,5 +1,5 @@
-// Conversion (02, T-04) of a word of one edition into the word that the encoder makes in the other for the same pair. A word is read as
-// decoding reads it, and passed on only where that finds it clean.
+// Conversion (02, T-04) of a word of one edition into the word that the encoder makes in the other for the same pair, by line rule 1 (02,
+// T-06: "T-04 keeps to version 1"). A word is read as decoding reads it, and passed on only where that finds it clean.
 use decoder::Decoded;
 use decoder::decode;
 use encoder::Encoded;
@@ -51,7 +51,7 @@ fn rewrite(
     if number != 0 {
         return Encoded::Refused(number);
     }
-    encode(other_edition(edition), profile, first, second, out)
+    encode(other_edition(edition), profile, 1, first, second, out)
 }
 
 // 02, T-04: a word of the edition of that number into the word of the other edition. Refused 12: the edition is neither 13 nor 18; 1: no

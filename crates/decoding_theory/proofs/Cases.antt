@@ -9,7 +9,8 @@ use Rattle.code_theory.specs.Codeword.{alpha, beta, body, received}
 use Rattle.code_theory.specs.Reading.{read, unreadable, clean}
 use Rattle.code_theory.specs.Profiles.{profile}
 use Rattle.code_theory.specs.Operations.{answered, report, reportNumber}
-use Rattle.code_theory.specs.Cases.{Case, balancing, encoding, choosing, checking, decoding, refusing, counting, starred}
+use Rattle.code_theory.specs.Cases.{Case, balancing, encoding, choosing, leastPeakOf, leastPeakOfPair, checking, decoding, refusing}
+use Rattle.code_theory.specs.Cases.{counting, starred}
 use Rattle.decoding_theory.specs.Syndromes.{zeroSyndrome, columnPosition, columnSyndrome}
 use Rattle.decoding_theory.specs.Syndromes.{nearSyndrome, nearSyndromes, restoredBy, moved, movedOf}
 use Rattle.decoding_theory.specs.Decoded.{lack, balancingSymbol, inRange, offByLack, nearAfter, fits, firstFit, readBy, readFit}
@@ -20,6 +21,8 @@ abbrev pub Decodes : Case → Type 0
 Decodes (balancing q x s v w sum) = Unit {0}
 Decodes (encoding i a b u) = decoded (profile i) u ≡ read clean a b
 Decodes (choosing i a b s v u) = decoded (profile i) u ≡ read clean a b
+Decodes (leastPeakOf q x s v u n) = Unit {0}
+Decodes (leastPeakOfPair i a b s v u n) = decoded (profile i) u ≡ read clean a b
 Decodes (checking i a c) = Unit {0}
 Decodes (decoding i u d) = decoded (profile i) u ≡ d
 Decodes (refusing i u n) = reportNumber (report (answered (decoded (profile i) u) (triedOf (profile i) u))) ≡ n

@@ -6,7 +6,7 @@ use Prim.Native.Nat.{ℕ, _+_, _-_, _≤_, _<_}
 use native.Mathlib.Numerals.{add-one}
 use native.Mathlib.Omega.{arith}
 use Rattle.code_theory.specs.Parameters.{Edition, Parameters, inEdition}
-use Rattle.code_theory.specs.Codeword.{encoded}
+use Rattle.code_theory.specs.LineRule.{LineRule, encodedBy}
 use Rattle.code_theory.specs.Profiles.{profile}
 use Rattle.code_theory.specs.Walk.{complement, shiftOf, unwalked}
 use Rattle.modular.specs.Byte.{byteDifference}
@@ -34,6 +34,6 @@ own-edition of = sym (ap (λ (p : Parameters). p .edition) (of .same))
 pub of-own : {o : Edition} {i : ℕ} {t : Row} → RowOf o i t → RowOf (editionIs (t .edition)) i t
 of-own {i = i} {t} of = subst (λ (e : Edition). RowOf e i t) (own-edition of) of
 
-pub encoded-in : {o : Edition} {i : ℕ} {t : Row} → RowOf o i t → (a b : List ℕ)
-    → encoded (inEdition (editionIs (t .edition)) (profile i)) a b ≡ encoded (inEdition o (profile i)) a b
-encoded-in {i = i} of a b = ap (λ (e : Edition). encoded (inEdition e (profile i)) a b) (sym (own-edition of))
+pub encoded-in : {o : Edition} {i : ℕ} {t : Row} → RowOf o i t → (r : LineRule) (a b : List ℕ)
+    → encodedBy r (inEdition (editionIs (t .edition)) (profile i)) a b ≡ encodedBy r (inEdition o (profile i)) a b
+encoded-in {i = i} of r a b = ap (λ (e : Edition). encodedBy r (inEdition e (profile i)) a b) (sym (own-edition of))

@@ -5,6 +5,7 @@ pub mod Stepping
 pub mod Searching
 pub mod Complementing
 pub mod Editions
+pub mod LeastPeak
 -- The word
 pub mod Writing
 -- The writer

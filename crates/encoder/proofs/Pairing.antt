@@ -13,8 +13,9 @@ use Rattle.modular_theory.proofs.Sum.{dot-one, dot-same}
 use Rattle.modular_theory.proofs.Residue.{of-eq, _then_, add}
 use Rattle.code_theory.specs.Parameters.{Edition, Parameters, inEdition, Sized, messageLength, balancedLength, codewordLength}
 use Rattle.code_theory.specs.Component.{Below, isWord, checkRow, syndrome, inCode, isCheck, candidate, component}
-use Rattle.code_theory.specs.Balance.{interleave, withZero, balanced}
-use Rattle.code_theory.specs.Codeword.{withChecks, interleaved, encoded}
+use Rattle.code_theory.specs.Balance.{interleave, withZero}
+use Rattle.code_theory.specs.Codeword.{withChecks, interleaved}
+use Rattle.code_theory.specs.LineRule.{LineRule, balancedBy, encodedBy}
 use Rattle.code_theory.specs.Profiles.{profile}
 use Rattle.code_theory.proofs.Merge.{word-length}
 use Rattle.code_theory.proofs.Component.{component-below, component-holding}
@@ -111,10 +112,11 @@ module _ {o : Edition} {i : ℕ} {t : Row} (of : RowOf o i t) (a b : List ℕ) (
       ap₂ (λ (r : Parameters) (l : List ℕ). withZero r (drop 1 l)) (of .same) is
       ∙ ap₂ (λ (c d : List ℕ). withZero p (interleave c d)) (sym (component-in o (profile i) a)) (sym (component-in o (profile i) b))
 
-  pub pair-encoded : {w u : List ℕ} → w ≡ balanced (parameters t) (withZero (parameters t) (drop 1 (take (t .balanced) x)))
-      → u ≡ withChecks (t .q) w → u ≡ encoded (inEdition o (profile i)) a b
-  unfolding encoded
-  pair-encoded e f = f ∙ ap₂ withChecks (levels-are of) (e ∙ ap₂ balanced (of .same) pair-interleaved)
+  pub pair-encoded : (r : LineRule) {w u : List ℕ}
+      → w ≡ balancedBy r (parameters t) (withZero (parameters t) (drop 1 (take (t .balanced) x)))
+      → u ≡ withChecks (t .q) w → u ≡ encodedBy r (inEdition o (profile i)) a b
+  unfolding encodedBy
+  pair-encoded r e f = f ∙ ap₂ withChecks (levels-are of) (e ∙ ap₂ (balancedBy r) (of .same) pair-interleaved)
 
   pub pair-length : {l : ℕ} → l ≡ t .codeword → l ≡ codewordLength (profile i)
   pair-length e = e ∙ codeword-is of

@@ -5,7 +5,7 @@ use mathlib.Core.Logic.{_≢_}
 use mathlib.Core.List.{List}
 use Prim.Native.Nat.{ℕ, zero, suc}
 use lib.ListN.{length}
-use Rattle.code_theory.specs.Codeword.{encoded}
+use Rattle.code_theory.specs.LineRule.{lineRuleOf, encodedBy}
 use Rattle.code_theory.proofs.Refusal.{kept, wrote}
 use Rattle.code_theory.specs.Profiles.{profileIn}
 use Rattle.code_theory.specs.Operations.{refusedBy, outcome, outcomeNumber, encodeRefusal, encodeOutput}
@@ -23,11 +23,14 @@ pub number-back : (n : ℕ) → outcomeNumber (outcome n) ≡ n
 number-back zero = refl
 number-back (suc n) = refl
 
-pub output-kept : (e i : ℕ) (a b out : List ℕ) {k : ℕ} → k ≡ encodeRefusal e i a b (length out) → k ≢ 0 → out ≡ encodeOutput e i a b out
-unfolding encodeOutput
-output-kept e i a b out f d = kept (encodeRefusal e i a b (length out)) (encoded (profileIn e i) a b) out (λ z. d (f ∙ z))
+module _ (e i l : ℕ) (a b out : List ℕ) where
+  abbrev word : List ℕ
+  word = encodedBy (lineRuleOf l) (profileIn e i) a b
 
-pub output-done : (e i : ℕ) (a b out : List ℕ) → 0 ≡ encodeRefusal e i a b (length out)
-    → encoded (profileIn e i) a b ≡ encodeOutput e i a b out
-unfolding encodeOutput
-output-done e i a b out f = wrote (encodeRefusal e i a b (length out)) (encoded (profileIn e i) a b) out (sym f)
+  pub output-kept : {k : ℕ} → k ≡ encodeRefusal e i l a b (length out) → k ≢ 0 → out ≡ encodeOutput e i l a b out
+  unfolding encodeOutput
+  output-kept f d = kept (encodeRefusal e i l a b (length out)) word out (λ z. d (f ∙ z))
+
+  pub output-done : 0 ≡ encodeRefusal e i l a b (length out) → encodedBy (lineRuleOf l) (profileIn e i) a b ≡ encodeOutput e i l a b out
+  unfolding encodeOutput
+  output-done f = wrote (encodeRefusal e i l a b (length out)) word out (sym f)

@@ -16,9 +16,12 @@ use Rattle.modular_theory.proofs.Integer.{difference-zero, no-difference}
 use Rattle.code_theory.specs.Parameters.{Parameters, balancingValue}
 use Rattle.code_theory.specs.Balance.{shiftedFrom, choice, chosen, earliestS, earliestV, balanced}
 use Rattle.code_theory.specs.Walk.{walked, shiftOf, unwalked}
+use Rattle.code_theory.specs.LineRule.{rule1}
 use Rattle.code_theory.specs.Claims.{Balanced}
 use Rattle.code_theory.proofs.Walk.{chosen-walked, length-walked, shift-below, Together, halves-together}
-use Rattle.code_theory.proofs.Choice.{tried-at, tried-index, before-choice, balance-exists}
+use Rattle.code_theory.proofs.First.{tried-at, tried-index, before-choice}
+use Rattle.code_theory.proofs.Choice.{balance-exists}
+use Rattle.code_theory.proofs.LineRule.{balanced-by-one}
 use Rattle.modular.proofs.Signed.{Holds, zero-read, other-read}
 use Rattle.profiles.specs.declared.row.Row.{Row}
 use Rattle.profiles.specs.Row.{parameters, Valid}
@@ -182,12 +185,14 @@ module _ (t : Row) (valid : Valid t) where
       omega (arith, missed-below levels (i .of) (i .is) (row-even (length (i .of))) b m, b .s-below)
 
   pub all-found : {d : List ℕ} {s u v excess : ℕ} → length d ≡ t .balanced → Walked (parameters t) d → Missed (parameters t) d s
-      → u ≡ shiftOf (parameters t) s → Trying (t .q) d u v excess → v ≤ length d → excess ≡ 0 → Chosen (parameters t) d u v
+      → u ≡ shiftOf (parameters t) s → Trying (t .q) d u v excess → v ≤ length d → excess ≡ 0 → Chosen rule1 (parameters t) d u v
   all-found {d} {s} {u} {v} e i m g y l f =
       record {
         below = rw g (shift-below (parameters t) levels s (s-left e i m));
         from = y .from;
         upto = l;
         word =
-            λ x j. found-word levels x j (row-even (length x)) (row-balances x (long x j e)) m g y l f;
+            λ x j.
+            found-word levels x j (row-even (length x)) (row-balances x (long x j e)) m g y l f
+            ∙ sym (balanced-by-one (parameters t) x);
       }

@@ -13,7 +13,7 @@ abbrev pub encodedOutcome : Encoded → Outcome
 encodedOutcome Done = done
 encodedOutcome (Refused k) = refusedBy k
 
--- r and the output, that held `out` and now holds `out′`, are the answer to the messages a and b in edition e and profile i
-pub record EncodeAllows (e i : ℕ) (a b : List ℕ) (r : Encoded) (out out′ : List ℕ) : Type 0 where
-  pub answer : encodedOutcome r ≡ outcome (encodeRefusal e i a b (length out))
-  pub output : out′ ≡ encodeOutput e i a b out
+-- r and the output, that held `out` and now holds `out′`, are the answer to the messages a and b in edition e and profile i, by line rule l
+pub record EncodeAllows (e i l : ℕ) (a b : List ℕ) (r : Encoded) (out out′ : List ℕ) : Type 0 where
+  pub answer : encodedOutcome r ≡ outcome (encodeRefusal e i l a b (length out))
+  pub output : out′ ≡ encodeOutput e i l a b out

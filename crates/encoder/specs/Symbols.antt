@@ -9,8 +9,10 @@ use lib.ListN.{length, getD, take, drop}
 use Rattle.modular_theory.specs.Sum.{weight}
 use Rattle.modular_theory.specs.Residue.{Congruent}
 use Rattle.code_theory.specs.Parameters.{Parameters}
-use Rattle.code_theory.specs.Balance.{shiftedFrom, balanced}
-use Rattle.code_theory.specs.Walk.{walked, unwalked}
+use Rattle.code_theory.specs.Balance.{shiftedFrom}
+use Rattle.code_theory.specs.Walk.{walked, shiftOf, unwalked}
+use Rattle.code_theory.specs.LineRule.{LineRule, balancedBy}
+use Rattle.peaks_theory.specs.Lowest.{noCost, lowestIndex}
 
 -- the first m of x's 97 symbols are below q, and q is small enough that sums of two symbols fit a byte
 pub record SymbolArray (q m : ℕ) (x : List ℕ) : Type 0 where
@@ -34,12 +36,20 @@ pub record Walked (p : Parameters) (d : List ℕ) : Type 0 where
   pub of : List ℕ
   pub is : d ≡ walked p of
 
--- raised by s, and by 1 more from position v on, d gives w of the choice used, for every x whose choices shift d
-pub record Chosen (p : Parameters) (d : List ℕ) (s v : ℕ) : Type 0 where
+-- raised by s, and by 1 more from position v on, d gives w of the choice that the rule r takes, for every x whose choices shift d
+pub record Chosen (r : LineRule) (p : Parameters) (d : List ℕ) (s v : ℕ) : Type 0 where
   pub below : s < p .q
   pub from : 1 ≤ v
   pub upto : v ≤ length d
-  pub word : (x : List ℕ) → d ≡ walked p x → unwalked p (shiftedFrom (p .q) s (v - 1) d) ≡ balanced p x
+  pub word : (x : List ℕ) → d ≡ walked p x → unwalked p (shiftedFrom (p .q) s (v - 1) d) ≡ balancedBy r p x
+
+-- what the least peak of the choices of s is, where `costs` has it for each shift
+abbrev pub shiftCost : Parameters → List ℕ → ℕ → ℕ
+shiftCost p costs s = getD costs (shiftOf p s) 0
+
+-- 02: "then the lowest s", the first with the lowest of them; q where there is none
+unfoldable pub lowestS : Parameters → List ℕ → ℕ
+lowestS p costs = lowestIndex (λ s. ltb (shiftCost p costs s) noCost) (shiftCost p costs) (p .q)
 
 -- s, and 1 more from an index on
 abbrev pub riseAt : ℕ → ℕ → ℕ → ℕ

@@ -1,6 +1,8 @@
-// Balancing (01: How a word is made, 4 and 5): w of the first choice that balances x. A choice s, v adds s to every symbol of the
-// integrated x, and 1 more from position v on, so x is integrated once. In edition 18 (02, T-03) w is the complement of that for another s:
-// the components' symbols sum to 0 mod q, so the sums from the end are the negatives of those from the front.
+// Balancing (01: How a word is made, 4 and 5): w of the first choice that balances x; 02, T-06: under line rule 2 of one with the least
+// peak. A choice s, v adds s to every symbol of the integrated x, and 1 more from position v on, so x is integrated once. In edition 18 (02,
+// T-03) w is the complement of that for another s: the components' symbols sum to 0 mod q, so the sums from the end are the negatives of
+// those from the front.
+use crate::least_peak::least_peak;
 use modular::SumArray;
 use modular::add;
 use modular::remainders;
@@ -12,8 +14,9 @@ use symbols::weigh;
 ghost use mathlib.Core.Path.{_≡_};
 ghost use Prim.Native.Nat.{_≤_, _<_};
 ghost use lib.ListN.{take, drop};
-ghost use Rattle.code_theory.specs.Balance.{integrate, withZero, balanced};
+ghost use Rattle.code_theory.specs.Balance.{integrate, withZero};
 ghost use Rattle.code_theory.specs.Walk.{shiftOf, complement, unwalked};
+ghost use Rattle.code_theory.specs.LineRule.{rule1, lineRuleOf, balancedBy};
 ghost use Rattle.profiles.specs.Row.{parameters, Valid};
 ghost use Rattle.encoder.specs.Symbols.{SymbolArray, PrefixSums, ZeroFirst, Walked, Chosen, Raised, riseAt};
 
@@ -73,7 +76,7 @@ pub(crate) struct Choice {
 }
 
 // The shift of a choice's s: s, or in edition 18 -2 - s mod q.
-fn shift_of(row: Row, s: u8) -> u8
+pub(crate) fn shift_of(row: Row, s: u8) -> u8
     requires { ⌜ Valid row × (s < row .q) ⌝ }
     ensures { λ r. ⌜ r ≡ shiftOf (parameters row) s ⌝ }
 {
@@ -89,7 +92,7 @@ fn shift_of(row: Row, s: u8) -> u8
 // In edition 18 v counts one more than 02's, which starts from 0; a complement is balanced where the word is.
 fn earliest(row: Row, d: &[u8; 97]) -> Choice
     requires { ⌜ Valid row × SymbolArray (row .q) 97 (now d) × Walked (parameters row) (take (row .balanced) (now d)) ⌝ }
-    ensures { λ c. ⌜ Chosen (parameters row) (take (row .balanced) (now (d .entry))) (c .shift) (c .v) ⌝ }
+    ensures { λ c. ⌜ Chosen rule1 (parameters row) (take (row .balanced) (now (d .entry))) (c .shift) (c .v) ⌝ }
 {
     let m = row.balanced;
     let mut s: u8 = 0;
@@ -141,16 +144,30 @@ fn word_of_shift(row: Row, w: [u8; 97]) -> [u8; 97]
     }
 }
 
-// 01: w of the choice used, of the components in x after a zero.
-pub(crate) fn balanced(row: Row, x: &[u8; 97]) -> [u8; 97]
+// The choice that a line rule takes, 2 or else 1.
+fn choose(row: Row, rule: usize, d: &[u8; 97]) -> Choice
     requires { ⌜
-        Valid row × SymbolArray (row .q) (row .balanced) (now x) × ZeroFirst (row .q) (take (row .balanced) (now x)) ⌝ }
+        Valid row × (row .q ≤ 8) × SymbolArray (row .q) 97 (now d) × Walked (parameters row) (take (row .balanced) (now d)) ⌝ }
+    ensures { λ c. ⌜ Chosen (lineRuleOf rule) (parameters row) (take (row .balanced) (now (d .entry))) (c .shift) (c .v) ⌝ }
+{
+    if rule == 2 {
+        return least_peak(row, d);
+    }
+    earliest(row, d)
+}
+
+// 01: w of the choice used, of the components in x after a zero.
+pub(crate) fn balanced(row: Row, rule: usize, x: &[u8; 97]) -> [u8; 97]
+    requires { ⌜
+        Valid row × (row .q ≤ 8) × SymbolArray (row .q) (row .balanced) (now x)
+        × ZeroFirst (row .q) (take (row .balanced) (now x)) ⌝ }
     ensures { λ w. ⌜
         take (row .balanced) w
-        ≡ balanced (parameters row) (withZero (parameters row) (drop 1 (take (row .balanced) (now (x .entry))))) ⌝ }
+        ≡ balancedBy (lineRuleOf rule) (parameters row)
+        (withZero (parameters row) (drop 1 (take (row .balanced) (now (x .entry))))) ⌝ }
 {
     let d = integrated(row.q, row.balanced, x);
-    let choice = earliest(row, &d);
+    let choice = choose(row, rule, &d);
     let w = raised(row.q, &d, choice.shift, (choice.v - 1) as u8);
     word_of_shift(row, w)
 }

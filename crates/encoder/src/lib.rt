@@ -1,5 +1,6 @@
 // Encoding (01: Write) of a pair of messages into the word that goes on the line. The pair's components are those of crate `components`.
 mod balance;
+mod least_peak;
 mod pair;
 mod word;
 
@@ -19,16 +20,17 @@ pub enum Encoded {
     Refused(u8),
 }
 
-// 01: Write. The word of two messages, in edition 13 or 18 (02, T-03) and a profile from 1 to 4.
+// 01: Write. The word of two messages, in edition 13 or 18 (02, T-03) and a profile from 1 to 4, by line rule 1 or 2 (02, T-06).
 pub fn encode(
     edition: usize,
     profile: usize,
+    rule: usize,
     first: &[u8],
     second: &[u8],
     out: &mut [u8],
 ) -> Encoded
     ensures { λ r. ⌜
-        EncodeAllows edition profile (now (first .entry)) (now (second .entry)) r (now (out .entry)) (now (out .exit)) ⌝ }
+        EncodeAllows edition profile rule (now (first .entry)) (now (second .entry)) r (now (out .entry)) (now (out .exit)) ⌝ }
 {
     let EditionLookup::Known(known) = edition_of(edition) else {
         return Encoded::Refused(12);
@@ -36,10 +38,10 @@ pub fn encode(
     let Lookup::Found(row) = row_in(known, profile) else {
         return Encoded::Refused(1);
     };
-    let number = encode_refusal(row, first, second, out.len());
+    let number = encode_refusal(row, rule, first, second, out.len());
     if number != 0 {
         return Encoded::Refused(number);
     }
-    put(word_of(row, profile, first, second), out);
+    put(word_of(row, profile, rule, first, second), out);
     Encoded::Done
 }

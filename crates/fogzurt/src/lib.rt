@@ -28,14 +28,17 @@ const FILLED: u8 = 3;
 pub extern "C" fn fogzurt_encode(
     edition: usize,
     profile: usize,
+    rule: usize,
     first: &[u8],
     second: &[u8],
     out: &mut [u8],
 ) -> u64
-    ensures { λ r. ⌜ r ≡ encodeRefusal edition profile (now (first .entry)) (now (second .entry)) (length (now (out .entry))) ⌝ }
-    ensures { λ r. ⌜ now (out .exit) ≡ encodeOutput edition profile (now (first .entry)) (now (second .entry)) (now (out .entry)) ⌝ }
+    ensures { λ r. ⌜
+        r ≡ encodeRefusal edition profile rule (now (first .entry)) (now (second .entry)) (length (now (out .entry))) ⌝ }
+    ensures { λ r. ⌜
+        now (out .exit) ≡ encodeOutput edition profile rule (now (first .entry)) (now (second .entry)) (now (out .entry)) ⌝ }
 {
-    outcome_number(encoder::encode(edition, profile, first, second, out))
+    outcome_number(encoder::encode(edition, profile, rule, first, second, out))
 }
 
 // The number of an answer to encode or convert; 0 is done.

@@ -82,7 +82,7 @@ passes {b} h = same-test b true (λ x. tt) (λ x. h)
 pub fails : {b : Bool} → (T b → ⊥) → b ≡ false
 fails {b} h = same-test b false h (λ x. absurd x)
 
-all-step : (b : Bool) (r : Bool) → T (elim b [ true ↦ r | false ↦ false ]) → T b × T r
+pub all-step : (b : Bool) (r : Bool) → T (elim b [ true ↦ r | false ↦ false ]) → T b × T r
 all-step true r h = (tt, h)
 all-step false r h = absurd h
 
@@ -92,7 +92,7 @@ all-at t zero h i k = absurd (not-suc-le-zero k)
 all-at t (suc n) h zero k = all-step (t 0) (allBelow (λ i. t (suc i)) n) h .0
 all-at t (suc n) h (suc i) k = all-at (λ j. t (suc j)) n (all-step (t 0) (allBelow (λ i. t (suc i)) n) h .1) i (le-of-suc-le-suc k)
 
-all-join : (b : Bool) (r : Bool) → T b → T r → T (elim b [ true ↦ r | false ↦ false ])
+pub all-join : (b : Bool) (r : Bool) → T b → T r → T (elim b [ true ↦ r | false ↦ false ])
 all-join true r h k = k
 all-join false r h k = h
 
@@ -101,6 +101,18 @@ all-of t zero f = tt
 all-of t (suc n) f =
     all-join (t 0) (allBelow (λ i. t (suc i)) n) (f 0 (suc-le-suc zero-le))
     (all-of (λ i. t (suc i)) n (λ i k. f (suc i) (suc-le-suc k)))
+
+-- where not all pass, one fails
+miss-first : (t : ℕ → Bool) (n : ℕ) → T (t 0) ⊎ (T (t 0) → ⊥)
+    → ((T (allBelow (λ i. t (suc i)) n) → ⊥) → (i : ℕ) × (i < n) × (T (t (suc i)) → ⊥))
+    → (T (allBelow t (suc n)) → ⊥) → (i : ℕ) × (i < suc n) × (T (t i) → ⊥)
+miss-first t n (inl y) f h =
+    let (i, l, k) = f (λ r. h (all-join (t 0) (allBelow (λ i. t (suc i)) n) y r)) in (suc i, suc-le-suc l, k)
+miss-first t n (inr y) f h = (0, suc-le-suc zero-le, y)
+
+pub all-miss : (t : ℕ → Bool) (n : ℕ) → (T (allBelow t n) → ⊥) → (i : ℕ) × (i < n) × (T (t i) → ⊥)
+all-miss t zero h = absurd (h tt)
+all-miss t (suc n) h = miss-first t n (decide (t 0)) (all-miss (λ i. t (suc i)) n) h
 
 -- the search's index is at most n
 step-le : (b : Bool) (m n : ℕ) → m ≤ n → elim b [ true ↦ 0 | false ↦ suc m ] ≤ suc n

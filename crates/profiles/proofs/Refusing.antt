@@ -1,6 +1,6 @@
--- By which of 01's numbers 1 to 3, and 02's 11 and 12, a call is refused: 12 where the number is no edition's, 1 where it is no profile's,
--- and by a profile's row 2 and 3, by a test of the lengths and one of the symbols, and then 11. And what is known of a call that none
--- refuses.
+-- By which of 01's numbers 1 to 3, and 02's 11, 12 and 14, a call is refused: 12 where the number is no edition's, 1 where it is no
+-- profile's, and by a profile's row 14 where it is no line rule's, 2 and 3, by a test of the lengths and one of the symbols, and then 11.
+-- And what is known of a call that none refuses.
 -- Assumes nothing.
 use mathlib.Core.Path.{_≡_, refl, sym, ap, ap₂, _∙_}
 use mathlib.Core.Logic.{_≢_}
@@ -14,6 +14,7 @@ use borrow.Author.Tests.{leb-true}
 use Rattle.modular_theory.proofs.Search.{eq-test, and-intro, and-left, and-right, passes}
 use Rattle.code_theory.specs.Parameters.{isEdition, editionOf, Parameters, messageLength, codewordLength}
 use Rattle.code_theory.specs.Component.{symbolsBelow, levelsOrErasures, isWord}
+use Rattle.code_theory.specs.LineRule.{isLineRule}
 use Rattle.code_theory.specs.Erasures.{erasures, mostErasures}
 use Rattle.code_theory.specs.Profiles.{isProfile, profile, profileIn}
 use Rattle.code_theory.specs.Reading.{Reading, receivedReading}
@@ -50,12 +51,26 @@ module _ {n : ℕ} {e s : Bool} {others : List Test} (h : Tested n e s others) w
   pub tests-others : e ≡ true → s ≡ true → firstRefusal others ≡ n
   tests-others f g = rw (h .is, f, g)
 
-pub encode-tests : (t : Row) (a b : List ℕ) (l : ℕ)
-    → Tested (encodeNumber t a b l) (eqb (length a) (t .message) && eqb (length b) (t .message) && eqb l (t .codeword))
-    (symbolsBelow (t .q) a && symbolsBelow (t .q) b)
-    []
-unfolding encodeNumber
-encode-tests t a b l = record { is = refl }
+module _ (t : Row) (r : ℕ) (a b : List ℕ) (l : ℕ) where
+  -- the number by the test of the line rule
+  abbrev ruleBy : Bool → ℕ
+  ruleBy d =
+      firstRefusal
+      (asks d 14
+      ∷ asks (eqb (length a) (t .message) && eqb (length b) (t .message) && eqb l (t .codeword)) 2
+      ∷ asks (symbolsBelow (t .q) a && symbolsBelow (t .q) b) 3
+      ∷ [])
+
+  pub rule-refused : isLineRule r ≡ false → 14 ≡ encodeNumber t r a b l
+  unfolding encodeNumber
+  rule-refused f = ap ruleBy (sym f)
+
+  pub encode-tests : isLineRule r ≡ true
+      → Tested (encodeNumber t r a b l) (eqb (length a) (t .message) && eqb (length b) (t .message) && eqb l (t .codeword))
+      (symbolsBelow (t .q) a && symbolsBelow (t .q) b)
+      []
+  unfolding encodeNumber
+  encode-tests f = record { is = ap ruleBy f }
 
 pub decode-tests : (t : Row) (u : List ℕ) (k l : ℕ)
     → Tested (decodeNumber t u k l) (eqb (length u) (t .codeword) && eqb k (t .message) && eqb l (t .message)) (levelsOrErasures (t .q) u)
@@ -85,22 +100,26 @@ pub record Accepted (i : ℕ) (a b : List ℕ) (l : ℕ) : Type 0 where
   pub second : T (isWord (profile i .q) (messageLength (profile i)) b)
   pub room : l ≡ codewordLength (profile i)
 
-module _ (e i : ℕ) (a b : List ℕ) (l : ℕ) where
+module _ (e i r : ℕ) (a b : List ℕ) (l : ℕ) where
   abbrev messages : Bool
   messages = eqb (length a) (messageLength (profile i)) && eqb (length b) (messageLength (profile i)) && eqb l (codewordLength (profile i))
 
   abbrev levels : Bool
   levels = symbolsBelow (profile i .q) a && symbolsBelow (profile i .q) b
 
+  -- the number by the tests that follow that of the profile
+  abbrev encodeRest : List Test
+  encodeRest = asks (isLineRule r) 14 ∷ asks messages 2 ∷ asks levels 3 ∷ []
+
   -- the number by the tests of the edition and of the profile
   abbrev encodeBy : Bool → Bool → ℕ
-  encodeBy d p = firstRefusal (asks d 12 ∷ asks p 1 ∷ asks messages 2 ∷ asks levels 3 ∷ [])
+  encodeBy d p = firstRefusal (asks d 12 ∷ asks p 1 ∷ encodeRest)
 
-  pub encode-edition-refused : isEdition e ≡ false → 12 ≡ encodeRefusal e i a b l
+  pub encode-edition-refused : isEdition e ≡ false → 12 ≡ encodeRefusal e i r a b l
   unfolding encodeRefusal
   encode-edition-refused f = ap (λ (d : Bool). encodeBy d (isProfile i)) (sym f)
 
-  pub encode-profile-refused : isEdition e ≡ true → isProfile i ≡ false → 1 ≡ encodeRefusal e i a b l
+  pub encode-profile-refused : isEdition e ≡ true → isProfile i ≡ false → 1 ≡ encodeRefusal e i r a b l
   unfolding encodeRefusal
   encode-profile-refused f g = ap₂ encodeBy (sym f) (sym g)
 
@@ -114,16 +133,20 @@ module _ (e i : ℕ) (a b : List ℕ) (l : ℕ) where
       }
 
   module _ {t : Row} (known : isEdition e ≡ true) (of : RowOf (editionOf e) i t) where
-    by-profile : encodeNumber t a b l ≡ numberBy messages levels []
+    by-profile : encodeNumber t r a b l ≡ firstRefusal encodeRest
     unfolding encodeNumber
     by-profile = rw (message-is of, codeword-is of, levels-are of)
 
-    pub encode-by-row : encodeNumber t a b l ≡ encodeRefusal e i a b l
+    pub encode-by-row : encodeNumber t r a b l ≡ encodeRefusal e i r a b l
     unfolding encodeRefusal
     encode-by-row = by-profile ∙ ap₂ encodeBy (sym known) (sym (passes {b = isProfile i} (of .known)))
 
-    pub accepted : encodeNumber t a b l ≡ 0 → Accepted i a b l
-    accepted z = let (fits, below, none) = all-pass messages levels [] (sym by-profile ∙ z) in accepted-by fits below
+    pub accepted : encodeNumber t r a b l ≡ 0 → Accepted i a b l
+    accepted z = go (isLineRule r) (sym by-profile ∙ z)
+      where
+        go : (d : Bool) → firstRefusal (asks d 14 ∷ asks messages 2 ∷ asks levels 3 ∷ []) ≡ 0 → Accepted i a b l
+        go true f = let (fits, below, none) = all-pass messages levels [] f in accepted-by fits below
+        go false f = absurd (omega arith)
 
 -- Decoding: the received word u, and outputs of k and l symbols.
 

@@ -181,10 +181,21 @@ short-profile : (i : ℕ) → T (isProfile i) → messageLength (profile i) ≤ 
 unfolding short
 short-profile i h = leb→le (messageLength (profile i)) 45 (every-profile short all-short i h)
 
+-- and a symbol has at most eight levels
+eight-levels : (i : ℕ) → T (isProfile i) → profile i .q ≤ 8
+unfolding profile
+eight-levels i h = leb→le (profile i .q) 8 (every-profile (λ i. leb (profile i .q) 8) all i h)
+  where
+    all : T (allBelow (λ j. leb (profile (suc j) .q) 8) (length profiles))
+    all = tt
+
 -- the numbers of a profile's row that are asked for alone
 module _ {o : Edition} {i : ℕ} {t : Row} (of : RowOf o i t) where
   pub levels-are : t .q ≡ profile i .q
   levels-are = ap (λ (p : Parameters). p .q) (of .same)
+
+  pub levels-eight : t .q ≤ 8
+  levels-eight = rw levels-are (eight-levels i (of .known))
 
   pub message-is : t .message ≡ messageLength (profile i)
   message-is = of .valid .message ∙ ap messageLength (of .same)

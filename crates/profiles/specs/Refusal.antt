@@ -1,5 +1,5 @@
 -- The numbers that refuse a call in a profile before a word is encoded or read, by a row's numbers (01: Write and Read, numbers 2 and 3;
--- 02, T-01: number 11), and what a received word is that none refuses.
+-- 02, T-06: number 14, T-01: number 11), and what a received word is that none refuses.
 -- Assumes nothing.
 use mathlib.Core.Path.{_≡_}
 use mathlib.Core.Bool.{_&&_}
@@ -9,17 +9,19 @@ use lib.Dec.{eqb, leb}
 use lib.ListN.{length, drop}
 use Rattle.code_theory.specs.Refusal.{asks, firstRefusal}
 use Rattle.code_theory.specs.Component.{symbolsBelow, levelsOrErasures}
+use Rattle.code_theory.specs.LineRule.{isLineRule}
 use Rattle.code_theory.specs.Erasures.{erasures, erasedIndices, mostErasures}
 use Rattle.profiles.specs.declared.row.Row.{Row}
 use Rattle.profiles.specs.declared.refusals.Screened.{Screened}
 use Rattle.profiles.specs.declared.refusals.Screened.the-variants.{Refused, Whole, One, Two}
 use Rattle.profiles.specs.Row.{parameters}
 
--- messages a and b, an output of l symbols
-unfoldable pub encodeNumber : Row → List ℕ → List ℕ → ℕ → ℕ
-encodeNumber t a b l =
+-- line rule r, messages a and b, an output of l symbols
+unfoldable pub encodeNumber : Row → ℕ → List ℕ → List ℕ → ℕ → ℕ
+encodeNumber t r a b l =
     firstRefusal
-    (asks (eqb (length a) (t .message) && eqb (length b) (t .message) && eqb l (t .codeword)) 2
+    (asks (isLineRule r) 14
+    ∷ asks (eqb (length a) (t .message) && eqb (length b) (t .message) && eqb l (t .codeword)) 2
     ∷ asks (symbolsBelow (t .q) a && symbolsBelow (t .q) b) 3
     ∷ [])
 

@@ -1,5 +1,5 @@
-// By which of 01's numbers 2 and 3, and 02's 11, a call in a profile is refused: the lengths, then the symbols, then the erasures. The
-// lengths are one test, as in the definitions. Number 1 is the lookup's.
+// By which of 01's numbers 2 and 3, and 02's 14 and 11, a call in a profile is refused: the line rule, the lengths, the symbols, then the
+// erasures. The lengths are one test, as in the definitions. Number 1 is the lookup's.
 use crate::erased::screen_erasures;
 use crate::levels::levels_or_erasures;
 use crate::levels::symbols_below;
@@ -20,10 +20,13 @@ pub enum Screened {
     Two(usize, usize),
 }
 
-// Of two messages, with an output of `len` symbols: the number, or 0.
-pub fn encode_refusal(row: Row, first: &[u8], second: &[u8], len: usize) -> u8
-    ensures { λ r. ⌜ r ≡ encodeNumber row (now (first .entry)) (now (second .entry)) len ⌝ }
+// Of two messages, by a line rule (02, T-06), with an output of `len` symbols: the number, or 0.
+pub fn encode_refusal(row: Row, rule: usize, first: &[u8], second: &[u8], len: usize) -> u8
+    ensures { λ r. ⌜ r ≡ encodeNumber row rule (now (first .entry)) (now (second .entry)) len ⌝ }
 {
+    if !((rule == 1) | (rule == 2)) {
+        return 14;
+    }
     if !((first.len() == row.message) & (second.len() == row.message) & (len == row.codeword)) {
         return 2;
     }

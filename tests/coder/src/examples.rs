@@ -1,6 +1,8 @@
 //! The cases of document 01, copied from it by hand, and others that were worked out by hand. Nothing here
 //! is computed by the coder: its tests compare it with these, and the vectors begin with them.
 
+pub mod line_rules;
+
 /// The example input of "The line program"; "the last line is empty but ended".
 pub const BOXLINES_INPUT: &str = "\
 1 1111111111111111102

@@ -2,10 +2,11 @@
 //! used to test: what 01 says exists is looked for by trying everything, and what 01 calls right
 //! is tested condition by condition. Clarity comes before speed throughout.
 //!
-//! Quoted sentences are document 01's or, of requests (T-01 to T-05, T-08), document 02's.
+//! Quoted sentences are document 01's or, of requests (T-01 to T-06, T-08), document 02's.
 //! Positions count from 1, as there.
 
 pub mod balance;
+pub mod calm_words;
 pub mod codeword;
 pub mod component;
 pub mod convert;
@@ -16,6 +17,8 @@ pub mod erased_words;
 pub mod erasure;
 pub mod examples;
 pub mod fillings;
+pub mod line_rule;
+pub mod line_rule_slip;
 pub mod lines;
 pub mod list;
 pub mod near_miss;
@@ -24,10 +27,14 @@ pub mod near_miss_conversion;
 pub mod near_miss_editions;
 mod near_miss_erasures;
 mod near_miss_errors;
+pub mod near_miss_pairs;
+pub mod near_miss_peaks;
+pub mod near_miss_rules;
 pub mod near_miss_sums;
 mod near_miss_tried;
 mod near_miss_words;
 pub mod near_misses;
+pub mod peak;
 pub mod profile;
 pub mod queue;
 pub mod random_words;

@@ -9,6 +9,7 @@ use crate::codeword::Messages;
 use crate::component::message_in;
 use crate::decode::{replaced, Answer, Decoded, Sent};
 use crate::encode::encoded_word;
+use crate::line_rule::LineRule;
 use crate::profile::Profile;
 use crate::refusal::Refusal;
 
@@ -23,7 +24,7 @@ pub fn decode(
     let decoder = Decoder { profile, slip };
     let is_taken = |(decoded, messages): &(Decoded, Messages)| {
         !decoder.slips(Slip::EncodedWordOnly)
-            || decoded.codeword(word) == encoded_word(profile, messages)
+            || decoded.codeword(word) == encoded_word(profile, LineRule::One, messages)
     };
     let found = decoder.find(word)?.filter(is_taken);
     let tried = decoder.tried(word, found.as_ref().map(|(decoded, _)| decoded));

@@ -8,10 +8,14 @@ use crate::decode::{Answer, Kind};
 use crate::edition::Edition;
 use crate::encode::encoded_word;
 use crate::erasure::{erased_positions, MOST_ERASURES};
+use crate::line_rule::LineRule;
 use crate::near_miss;
 use crate::profile::{Profile, PROFILES};
 use crate::refusal::{require, Refusal};
 use crate::slip::Slip;
+
+/// The slips that came with a second line rule (02, T-06). The conversions that were stored before tell them.
+pub const LINE_RULE_SLIPS: [Slip; 2] = [Slip::ConvertedByRuleTwo, Slip::RuleOfWordKept];
 
 /// What the converter answers with this slip, or with none.
 pub fn convert(
@@ -60,7 +64,7 @@ impl Converter<'_> {
         }
         self.require_unerased(word, output)?;
         let (answer, messages) = self.read(word)?;
-        let is_another = word != encoded_word(self.profile, &messages);
+        let is_another = word != by_rule_1(self.profile, &messages);
         self.refuse_if(Slip::AnotherChoiceNotClean, is_another)?;
         if !self.is_passed_on(&answer) {
             if self.slips(Slip::NotCleanWritten) {
@@ -137,27 +141,31 @@ impl Converter<'_> {
         }
     }
 
-    /// "the word the other edition's writer makes for the same pair".
+    /// "the word the other edition's writer makes for the same pair". T-06: "T-04 keeps to version 1."
     fn converted(&self, word: &[u8], messages: &Messages) -> Vec<u8> {
         let other = &self.profile.in_other_edition();
         let m = self.profile.m();
         match self.slip {
-            Some(Slip::OwnEditionWritten) => encoded_word(self.profile, messages),
+            Some(Slip::OwnEditionWritten) => by_rule_1(self.profile, messages),
             Some(Slip::WordCopied) => word.to_vec(),
             Some(Slip::WordOfBothCopied) if messages_of(other, word).is_some() => word.to_vec(),
             Some(Slip::Complemented) => complemented(self.profile, word),
             Some(Slip::EncodedWordComplemented) => {
-                complemented(self.profile, &encoded_word(self.profile, messages))
+                complemented(self.profile, &by_rule_1(self.profile, messages))
             }
-            Some(Slip::CheckSymbolsKept) => {
-                [&encoded_word(other, messages)[..m], &word[m..]].concat()
-            }
+            Some(Slip::CheckSymbolsKept) => [&by_rule_1(other, messages)[..m], &word[m..]].concat(),
             Some(Slip::ChoiceKept) => self.by_own_choice(word, messages),
             Some(Slip::MessagesExchanged) => {
                 let [first, second] = messages.clone();
-                encoded_word(other, &[second, first])
+                by_rule_1(other, &[second, first])
             }
-            _ => encoded_word(other, messages),
+            Some(Slip::ConvertedByRuleTwo) => encoded_word(other, LineRule::Two, messages),
+            Some(Slip::RuleOfWordKept) => {
+                let is_of_two = word == encoded_word(self.profile, LineRule::Two, messages);
+                let rule = if is_of_two { LineRule::Two } else { LineRule::One };
+                encoded_word(other, rule, messages)
+            }
+            _ => by_rule_1(other, messages),
         }
     }
 
@@ -171,6 +179,11 @@ impl Converter<'_> {
         let w = choice.apply(edition, self.profile.q, &interleave(edition, &components));
         with_check_symbols(self.profile, &w)
     }
+}
+
+/// The word of two messages by line rule 1.
+fn by_rule_1(profile: &Profile, messages: &Messages) -> Vec<u8> {
+    encoded_word(profile, LineRule::One, messages)
 }
 
 /// The word with every symbol of w taken from q−1, and its check symbols.

@@ -10,6 +10,7 @@ use crate::component::{encode_component, syndrome};
 use crate::decode::Sent;
 use crate::edition::Edition;
 use crate::encode::encoded_word;
+use crate::line_rule::LineRule;
 use crate::near_miss::Decoder;
 use crate::profile::Profile;
 use crate::refusal::Refusal;
@@ -164,10 +165,14 @@ fn reversed(w: &[u8]) -> Vec<u8> {
 /// choice.
 pub fn encode(profile: &Profile, messages: &Messages, slip: Option<Slip>) -> Option<Vec<u8>> {
     if profile.edition == Edition::Of2013 || slip == Some(Slip::EditionIgnored) {
-        return Some(encoded_word(&Profile { edition: Edition::Of2013, ..*profile }, messages));
+        return Some(encoded_word(
+            &Profile { edition: Edition::Of2013, ..*profile },
+            LineRule::One,
+            messages,
+        ));
     }
     if slip == Some(Slip::WordReversed) {
-        let word = encoded_word(&profile.in_other_edition(), messages);
+        let word = encoded_word(&profile.in_other_edition(), LineRule::One, messages);
         return Some(with_check_symbols(profile, &reversed(&word[..profile.m()])));
     }
     let encoder = Encoder { profile, slip };

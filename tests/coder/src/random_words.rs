@@ -5,6 +5,7 @@ use crate::codeword::{check_symbols, codewords, with_check_symbols};
 use crate::component::encode_component;
 use crate::decode::replaced;
 use crate::encode::encoded_word;
+use crate::line_rule::LineRule;
 use crate::profile::Profile;
 use crate::rng::Rng;
 
@@ -19,9 +20,9 @@ pub fn components(profile: &Profile, rng: &mut Rng) -> [Vec<u8>; 2] {
     rng.messages(profile).map(|message| encode_component(profile, &message))
 }
 
-/// The encoder's codeword of random messages.
+/// The encoder's codeword of random messages, by line rule 1.
 pub fn encoded(profile: &Profile, rng: &mut Rng) -> Vec<u8> {
-    encoded_word(profile, &rng.messages(profile))
+    encoded_word(profile, LineRule::One, &rng.messages(profile))
 }
 
 /// A codeword of random messages by another choice than the encoder's, if they have one.

@@ -7,7 +7,8 @@ pub const FILLER: u8 = 170;
 
 /// "1 profile; 2 length; 3 symbol; 4 unreadable; 5 sheet length; 6 unsound sheet; 7 box number;
 /// 8 no free cell; 9 line form; 10 no such record." T-01: "11, more than two marks". T-03: "12, edition
-/// neither 13 nor 18". T-04: "13, the word reads but as mended or filled".
+/// neither 13 nor 18". T-04: "13, the word reads but as mended or filled". T-06: "14, line rule neither 1 nor
+/// 2".
 #[derive(Debug, Clone, Copy, PartialEq, Eq)]
 pub enum Refusal {
     Profile,
@@ -28,6 +29,7 @@ pub enum Refusal {
     Edition,
     /// The word reads, but not as clean.
     NotClean,
+    LineRule,
 }
 
 impl Refusal {
@@ -47,6 +49,7 @@ impl Refusal {
             Refusal::Erasures => 11,
             Refusal::Edition => 12,
             Refusal::NotClean => 13,
+            Refusal::LineRule => 14,
         }
     }
 }

@@ -3,7 +3,8 @@
 
 /// One step got wrong: 01's "Wrong turns seen in drafts", and others of their kind; then those that
 /// the erasures of T-01, the error of T-02, the count of T-08, the eight-bit sums of T-05, the 2018 edition
-/// of T-03 and the converter of T-04 invite.
+/// of T-03 and the converter of T-04 invite, the last two of them where T-06 adds a line rule. Slips of an
+/// encoder by that rule stand in `line_rule_slip`.
 #[derive(Debug, Clone, Copy, PartialEq, Eq)]
 pub enum Slip {
     /// δ is 002's printed 2(q−1)(2−m).
@@ -247,4 +248,8 @@ pub enum Slip {
     EditionOfOutput,
     /// The second message is taken for the first, and the first for the second.
     MessagesExchanged,
+    /// T-06, here and below. The word is the one that line rule 2 chooses.
+    ConvertedByRuleTwo,
+    /// A word that line rule 2 chooses in its own edition is converted by that rule.
+    RuleOfWordKept,
 }

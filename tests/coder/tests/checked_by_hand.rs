@@ -1,6 +1,7 @@
 //! Every case of document 01, starred or not, against the coder, words with erasures (T-01), words
 //! with errors of both signs (T-02), words by how many positions are tried (T-08), words of the 2018
-//! edition (T-03) and words converted from one edition to the other (T-04).
+//! edition (T-03) and words converted from one edition to the other (T-04). Pairs by line rule 2 (T-06) are in
+//! `line_rules`.
 
 use coder::balance::{balanced_words, weight, BalancingChoice};
 use coder::codeword::codewords;
@@ -52,7 +53,7 @@ fn components_of_profile_1() {
 fn encoded_words() {
     for (profile, [first, second], word) in encoded() {
         let mut output = vec![0; word.len()];
-        encode(13, profile, &symbols(&first), &symbols(&second), &mut output).unwrap();
+        encode(13, profile, 1, &symbols(&first), &symbols(&second), &mut output).unwrap();
         assert_eq!(digits(&output), word);
     }
 }
@@ -73,7 +74,7 @@ fn encoded_words_of_2018() {
         let (choice, made) = &codewords(profile, &messages)[0];
         assert_eq!((*choice, digits(made)), (BalancingChoice { s, v }, word.clone()));
         let mut output = vec![0; word.len()];
-        encode(18, profile.number, &messages[0], &messages[1], &mut output).unwrap();
+        encode(18, profile.number, 1, &messages[0], &messages[1], &mut output).unwrap();
         assert_eq!(digits(&output), word);
     }
 }

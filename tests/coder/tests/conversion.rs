@@ -6,6 +6,7 @@ use coder::decode::{within_one, Kind};
 use coder::edition::profiles_of_both;
 use coder::encode::encoded_word;
 use coder::erasure::erased_at;
+use coder::line_rule::LineRule;
 use coder::near_miss_conversion::complemented;
 use coder::profile::Profile;
 use coder::random_words::codeword;
@@ -36,10 +37,10 @@ fn there_and_back_is_the_encoders_word() {
     for profile in profiles_of_both() {
         let other = &profile.in_other_edition();
         for messages in pairs(profile) {
-            let own = encoded_word(profile, &messages);
+            let own = encoded_word(profile, LineRule::One, &messages);
             for (_, word) in codewords(profile, &messages) {
                 let there = converted(profile, &word);
-                assert_eq!(there, Ok(encoded_word(other, &messages)));
+                assert_eq!(there, Ok(encoded_word(other, LineRule::One, &messages)));
                 assert_eq!(converted(other, &there.unwrap()).as_ref(), Ok(&own));
             }
         }
@@ -98,7 +99,7 @@ fn no_filled_word_is_passed_on() {
 fn the_complement_is_not_always_the_word() {
     for profile in profiles_of_both() {
         let is_complement = |messages: &Messages| {
-            let own = encoded_word(profile, messages);
+            let own = encoded_word(profile, LineRule::One, messages);
             converted(profile, &own) == Ok(complemented(profile, &own))
         };
         assert!(is_complement(&[(); 2].map(|()| vec![0; profile.k()])), "{profile:?}");

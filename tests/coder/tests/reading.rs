@@ -10,6 +10,7 @@ use coder::component::{
 use coder::decode::{decode, decode_word, search, within_one, Answer, Decoded, Kind, Sent};
 use coder::edition::profiles_of_both;
 use coder::encode::encoded_word;
+use coder::line_rule::LineRule;
 use coder::near_miss::{self, printed_delta, Slip};
 use coder::profile::PROFILES;
 use coder::random_words::{changed, encoded};
@@ -40,7 +41,7 @@ fn every_codeword_is_read_as_its_pair() {
     for profile in profiles_of_both().flat_map(|profile| [profile; 10]) {
         let messages = rng.messages(profile);
         let words = codewords(profile, &messages);
-        assert_eq!(words[0].1, encoded_word(profile, &messages));
+        assert_eq!(words[0].1, encoded_word(profile, LineRule::One, &messages));
         for (_, word) in &words {
             assert_eq!(messages_of(profile, word).as_ref(), Some(&messages));
         }

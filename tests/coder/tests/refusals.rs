@@ -1,4 +1,5 @@
-//! The order of refusals of each operation, and that "a refusal .. writes no buffer".
+//! The order of refusals of each operation, and that "a refusal .. writes no buffer". Where number 14 stands in
+//! that of encoding is in `line_rules`.
 
 use coder::convert::convert;
 use coder::decode::{decode, replaced};
@@ -48,14 +49,17 @@ fn encode_refuses_in_order() {
         (1, RIGHT_MESSAGE, &[255, 0, 0, 0, 0], 19, 3),
     ] {
         for (edition, expected) in by_edition(expected) {
-            let mut output = vec![FILLER; length];
-            assert_eq!(number(encode(edition, profile, first, second, &mut output)), expected);
-            assert!(is_untouched(&output));
+            for rule in [1, 2] {
+                let mut output = vec![FILLER; length];
+                let answer = encode(edition, profile, rule, first, second, &mut output);
+                assert_eq!(number(answer), expected);
+                assert!(is_untouched(&output));
+            }
         }
     }
     for edition in OTHER_EDITIONS {
         let mut output = vec![FILLER; 19];
-        let answer = encode(edition, 1, RIGHT_MESSAGE, RIGHT_MESSAGE, &mut output);
+        let answer = encode(edition, 1, 1, RIGHT_MESSAGE, RIGHT_MESSAGE, &mut output);
         assert_eq!(number(answer), 12);
         assert!(is_untouched(&output));
     }

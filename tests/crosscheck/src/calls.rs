@@ -2,14 +2,15 @@
 
 use coder::codeword::Messages;
 use coder::decode::{Answer, Decoded, Kind, Sent};
+use coder::line_rule::LineRule;
 use coder::profile::Profile;
 use coder::refusal::Refusal;
 use fogzurt::{EntryPoints, PackedAnswer, PositionAndSymbol};
 
 use crate::compare::{compare, Buffer, Checked, FILLER};
 
-/// The separate coder's editions, profiles and boxes are bytes. No number that is wider names one, and
-/// neither does 0.
+/// The separate coder's editions, profiles, line rules and boxes are bytes. No number that is wider names one,
+/// and neither does 0.
 pub fn narrow(number: u64) -> u8 {
     u8::try_from(number).unwrap_or(0)
 }
@@ -53,21 +54,52 @@ pub fn told(profile: &Profile) -> Told {
     [profile.edition.number(), profile.number].map(u64::from)
 }
 
-/// Encodes into an output of this length.
-pub fn encode(tried: &EntryPoints, told: Told, messages: [&[u8]; 2], length: usize) -> Checked {
-    let [edition, profile] = told;
+/// Encodes by a line rule, right or not, into an output of this length; what is right is found by the separate
+/// coder's search of all choices.
+pub fn encode(
+    tried: &EntryPoints,
+    told: Told,
+    rule: u64,
+    messages: [&[u8]; 2],
+    length: usize,
+) -> Checked {
+    let mut out = vec![FILLER; length];
+    let [edition, profile] = told.map(narrow);
+    let [first, second] = messages;
+    let expected = coder::encode::encode(edition, profile, narrow(rule), first, second, &mut out);
+    encode_to(tried, told, rule, messages, number_of(expected), &out)
+}
+
+/// Encodes a pair of a profile by a line rule, where the word is known.
+pub fn encode_word(
+    tried: &EntryPoints,
+    profile: &Profile,
+    rule: LineRule,
+    messages: &Messages,
+    word: &[u8],
+) -> Checked {
+    let messages = messages.each_ref().map(Vec::as_slice);
+    encode_to(tried, told(profile), rule.number().into(), messages, 0, word)
+}
+
+/// Encodes, where it is known what is right: the answer, and what the output then holds.
+fn encode_to(
+    tried: &EntryPoints,
+    [edition, profile]: Told,
+    rule: u64,
+    messages: [&[u8]; 2],
+    expected: u64,
+    output: &[u8],
+) -> Checked {
     let [first, second] = messages.map(Buffer::new);
-    let mut out = Buffer::output(length);
-    let mut expected_out = vec![FILLER; length];
-    let answer = (tried.encode)(edition, profile, first.lent(), second.lent(), out.lent_mut());
-    let [narrow_edition, narrow_profile] = told.map(narrow);
-    let [a, b] = messages;
-    let expected = coder::encode::encode(narrow_edition, narrow_profile, a, b, &mut expected_out);
-    let expected = number_of(expected);
+    let mut out = Buffer::output(output.len());
+    let (lent_first, lent_second) = (first.lent(), second.lent());
+    let answer = (tried.encode)(edition, profile, rule, lent_first, lent_second, out.lent_mut());
+    let ([a, b], length) = (messages, output.len());
     compare(
-        || format!("encode {edition}, {profile}, {a:?}, {b:?}, into {length} bytes"),
+        || format!("encode {edition}, {profile}, {rule}, {a:?}, {b:?}, into {length} bytes"),
         [answer, expected],
-        &[("first", &first, a), ("second", &second, b), ("out", &out, &expected_out)],
+        &[("first", &first, a), ("second", &second, b), ("out", &out, output)],
     )
 }
 

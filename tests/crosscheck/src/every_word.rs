@@ -8,6 +8,7 @@ use std::ops::Range;
 use coder::codeword::{all_messages, codewords, messages_of, with_check_symbols, Messages};
 use coder::edition::Edition;
 use coder::encode::encoded_word;
+use coder::line_rule::LineRule;
 use coder::profile::Profile;
 use coder::refusal::Refusal;
 use coder::tried::tried_up_to;
@@ -178,7 +179,7 @@ fn convert_marked(
     if mark != Mark::Codeword {
         return convert_word(tried, profile, received, Err(Refusal::NotClean));
     }
-    let converted = encoded_word(&profile.in_other_edition(), messages);
+    let converted = encoded_word(&profile.in_other_edition(), LineRule::One, messages);
     convert_word(tried, profile, received, Ok(&converted))
 }
 

@@ -1,9 +1,10 @@
 //! Pairs of heavy messages, all of the highest level but for a few symbols: their check row sums
 //! are the largest, with which sums in eight bits must not pass 255 (02, T-05: No wide multiply).
-//! They are of both editions by turns.
+//! They are of both editions by turns, and encoded by both line rules.
 
 use coder::codeword::Messages;
 use coder::edition::EDITIONS;
+use coder::line_rule::LINE_RULES;
 use coder::profile::{Profile, PROFILES};
 use coder::rng::Rng;
 use fogzurt::EntryPoints;
@@ -20,10 +21,16 @@ pub fn check(tried: &EntryPoints) -> Checked<String> {
         let edition = EDITIONS[job / PROFILES.len() % EDITIONS.len()];
         let profile = &edition.profiles()[job % PROFILES.len()];
         let messages = heavy_messages(profile, &mut Rng::new(job as u64));
-        encode(tried, told(profile), [&messages[0], &messages[1]], profile.word_length())?;
+        let messages = messages.each_ref().map(Vec::as_slice);
+        for rule in LINE_RULES {
+            let rule = rule.number().into();
+            encode(tried, told(profile), rule, messages, profile.word_length())?;
+        }
         Ok(1)
     })?;
-    Ok(format!("heavy pairs: {encoded} of four profiles and both editions encoded"))
+    Ok(format!(
+        "heavy pairs: {encoded} of four profiles and both editions encoded by both line rules"
+    ))
 }
 
 /// Each symbol is the highest level, but for up to three of each message.

@@ -2,6 +2,7 @@
 //! every answer, and every byte of every buffer after each call. The seeds are fixed.
 
 mod calls;
+mod calm;
 mod compare;
 mod every_word;
 mod heavy;
@@ -24,10 +25,11 @@ pub use compare::{Checked, Mismatch};
 pub type Section = fn(&EntryPoints) -> Checked<String>;
 
 /// The quick run; boxlines is the program, whatever the entry points are.
-pub const QUICK: [Section; 6] = [
+pub const QUICK: [Section; 7] = [
     refusals::check,
     pairs::check,
     heavy::check,
+    calm::check,
     sheets::check,
     |_| lines::check(),
     received::check,
@@ -40,5 +42,11 @@ pub const LONG: [Section; 2] = [
 ];
 
 /// What holds another coder to the separate one: the quick run's calls, with fewer received words.
-pub const YARDSTICK: [Section; 5] =
-    [refusals::check, pairs::check, heavy::check, sheets::check, received::check_fewer];
+pub const YARDSTICK: [Section; 6] = [
+    refusals::check,
+    pairs::check,
+    heavy::check,
+    calm::check,
+    sheets::check,
+    received::check_fewer,
+];

@@ -1,19 +1,21 @@
-//! Every pair of messages of profile 1, in both editions: its encoded word, as it is, with each symbol
-//! changed to each other level, with each symbol erased, and with two erased, is decoded and converted; and
-//! its codewords by every other choice are converted. What was sent is known, so nothing is searched for,
-//! and nothing is tried.
+//! Every pair of messages of profile 1, in both editions, encoded by both line rules (02, T-06), against the
+//! search of all choices: its encoded word by rule 1, as it is, with each symbol changed to each other level,
+//! with each symbol erased, and with two erased, is decoded and converted; that by rule 2 is decoded, too; and
+//! its codewords by every choice are converted. What was sent is known, so nothing is searched for, and nothing
+//! is tried.
 
 use coder::codeword::{all_messages, codewords, Messages};
 use coder::decode::{within_one, Answer, Decoded, Kind, Sent};
 use coder::edition::EDITIONS;
 use coder::encode::encoded_word;
 use coder::erasure::erased_at;
+use coder::line_rule::{taken, LineRule, LINE_RULES};
 use coder::profile::{Profile, PROFILES};
 use coder::refusal::Refusal;
 use coder::tried::tried_up_to;
 use fogzurt::EntryPoints;
 
-use crate::calls::{convert_word, decode_to, encode, packed, told};
+use crate::calls::{convert_word, decode_to, encode_word, packed, told};
 use crate::compare::Checked;
 use crate::parallel::sums_of_jobs;
 
@@ -33,8 +35,9 @@ pub fn check(tried: &EntryPoints) -> Checked<String> {
     })?;
     let [decoded, converted, not_clean] = counts;
     Ok(format!(
-        "pairs of profile 1, both editions: {calls} encoded, {decoded} received words decoded, \
-         {converted} codewords converted, {not_clean} words that are not clean refused with 13"
+        "pairs of profile 1, both editions: {calls} encoded by both line rules, {decoded} received \
+         words decoded, {converted} codewords converted, {not_clean} words that are not clean \
+         refused with 13"
     ))
 }
 
@@ -54,11 +57,15 @@ fn check_pair<'a>(
 ) -> Checked<[usize; 3]> {
     let [first, second] = messages.each_ref().map(Vec::as_slice);
     let told = told(profile);
-    encode(tried, told, [first, second], profile.word_length())?;
-    let codewords: Vec<Vec<u8>> =
-        codewords(profile, messages).into_iter().map(|(_, codeword)| codeword).collect();
+    let codewords = codewords(profile, messages);
+    let [(_, one), (_, two)] = LINE_RULES.map(|rule| taken(rule, profile.q, &codewords));
+    for (rule, word) in LINE_RULES.into_iter().zip([one, two]) {
+        encode_word(tried, profile, rule, messages, word)?;
+    }
     let [mut decoded, mut not_clean] = [0, 0];
-    for (expected, received) in received_words(profile, &codewords[0], erased) {
+    let clean = Answer { decoded: Decoded::CLEAN, tried: 0 };
+    let received = received_words(profile, one, erased).into_iter();
+    for (expected, received) in received.chain([(clean, two.clone())]) {
         decode_to(tried, told, &received, packed(Ok(expected)), [first, second])?;
         decoded += 1;
         if expected.decoded.kind != Kind::Clean {
@@ -66,8 +73,8 @@ fn check_pair<'a>(
             not_clean += 1;
         }
     }
-    let converted = encoded_word(&profile.in_other_edition(), messages);
-    for codeword in &codewords {
+    let converted = encoded_word(&profile.in_other_edition(), LineRule::One, messages);
+    for (_, codeword) in &codewords {
         convert_word(tried, profile, codeword, Ok(&converted))?;
     }
     Ok([decoded, codewords.len(), not_clean])

@@ -1,7 +1,7 @@
 //! Received words of every profile and of both editions, decoded and converted, against the separate coder's
 //! search of all neighbours and, where symbols are erased, of all fillings.
 
-use coder::balance::{balanced_words, difference, subtract, BalancingChoice};
+use coder::balance::{balanced_words, difference, subtract};
 use coder::codeword::{codewords, components_of, interleave, with_check_symbols, Messages};
 use coder::decode::{decode_word, Kind};
 use coder::edition::{profiles_of_both, Edition, EDITIONS};
@@ -11,13 +11,14 @@ use coder::erased_words::{
     one_of_w, spoiled_and_erased, Draw,
 };
 use coder::erasure::erased_at;
+use coder::line_rule::{taken, Choice, LineRule, LINE_RULES};
 use coder::profile::Profile;
 use coder::random_words::{changed, changed_at, off_by_q, Receive};
 use coder::refusal::{require, Refusal};
 use coder::rng::Rng;
 use fogzurt::EntryPoints;
 
-use crate::calls::{convert_word, decode_found, encode, told, Found};
+use crate::calls::{convert_word, decode_found, encode_word, Found};
 use crate::compare::Checked;
 use crate::parallel::sums_of_jobs;
 
@@ -69,17 +70,20 @@ fn check_pairs(tried: &EntryPoints, pairs: usize) -> Checked<String> {
     let [of_2013, of_2018, passed_on] = counts;
     Ok(format!(
         "received words: {of_2013} of edition 13 and {of_2018} of edition 18, of four profiles, \
-         decoded, and converted, of which {passed_on} are passed on; {pairs} pairs encoded, and \
-         converted back"
+         decoded, and converted, of which {passed_on} are passed on; {pairs} pairs encoded by both \
+         line rules, and converted back"
     ))
 }
 
 /// How many words were received, all of one random pair, and how many of them are passed on.
 fn check_pair(tried: &EntryPoints, profile: &Profile, rng: &mut Rng) -> Checked<[usize; 2]> {
     let pair = Pair::new(profile, rng.messages(profile));
-    let [first, second] = &pair.messages;
-    encode(tried, told(profile), [first, second], profile.word_length())?;
-    let words = received_words(profile, &pair.messages, rng);
+    let codewords = codewords(profile, &pair.messages);
+    for rule in LINE_RULES {
+        let (_, word) = taken(rule, profile.q, &codewords);
+        encode_word(tried, profile, rule, &pair.messages, word)?;
+    }
+    let words = received_words(profile, &codewords, rng);
     convert_word(tried, &profile.in_other_edition(), &pair.converted, Ok(&words[0]))?;
     let mut passed_on = 0;
     for word in &words {
@@ -92,7 +96,7 @@ fn check_pair(tried: &EntryPoints, profile: &Profile, rng: &mut Rng) -> Checked<
     Ok([words.len(), passed_on])
 }
 
-/// A pair of messages, and the word that the other edition's encoder makes of it.
+/// A pair of messages, and the word that the other edition's encoder makes of it by line rule 1.
 struct Pair<'a> {
     profile: &'a Profile,
     messages: Messages,
@@ -101,7 +105,7 @@ struct Pair<'a> {
 
 impl Pair<'_> {
     fn new(profile: &Profile, messages: Messages) -> Pair<'_> {
-        let converted = encoded_word(&profile.in_other_edition(), &messages);
+        let converted = encoded_word(&profile.in_other_edition(), LineRule::One, &messages);
         Pair { profile, messages, converted }
     }
 
@@ -114,18 +118,17 @@ impl Pair<'_> {
         Ok(if messages == self.messages {
             self.converted.clone()
         } else {
-            encoded_word(&self.profile.in_other_edition(), &messages)
+            encoded_word(&self.profile.in_other_edition(), LineRule::One, &messages)
         })
     }
 }
 
-/// The encoded word of a pair, and the words of every kind.
-fn received_words(profile: &Profile, messages: &Messages, rng: &mut Rng) -> Vec<Vec<u8>> {
-    let codewords = codewords(profile, messages);
-    let mut words = vec![codewords[0].1.clone()];
+/// The encoded words of a pair, by line rule 1 and by line rule 2, and the words of every kind.
+fn received_words(profile: &Profile, codewords: &[Choice], rng: &mut Rng) -> Vec<Vec<u8>> {
+    let mut words = LINE_RULES.map(|rule| taken(rule, profile.q, codewords).1.clone()).to_vec();
     for (count, receive) in KINDS {
         for _ in 0..count {
-            let (_, codeword) = rng.pick(&codewords);
+            let (_, codeword) = rng.pick(codewords);
             words.push(receive(profile, codeword, rng));
         }
     }
@@ -181,11 +184,7 @@ fn of_other_edition(profile: &Profile, codeword: &[u8], rng: &mut Rng) -> Vec<u8
 
 /// Words with right components and check symbols whose weight is off by q, with one symbol of w and
 /// with both check symbols erased.
-fn off_balance(
-    profile: &Profile,
-    (choice, codeword): &(BalancingChoice, Vec<u8>),
-    rng: &mut Rng,
-) -> Vec<Vec<u8>> {
+fn off_balance(profile: &Profile, (choice, codeword): &Choice, rng: &mut Rng) -> Vec<Vec<u8>> {
     let mut x = difference(profile.edition, profile.q, &codeword[..profile.m()]);
     if choice.v != 0 {
         x[choice.v - 1] = subtract(profile.q, x[choice.v - 1], 1);

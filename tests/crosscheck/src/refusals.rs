@@ -1,10 +1,11 @@
 //! Encoding, decoding and converting with every fault of their arguments, alone and together.
 
-use coder::codeword::codewords;
+use coder::codeword::{codewords, Messages};
 use coder::decode::replaced;
 use coder::edition::Edition;
 use coder::erased_words::erased;
 use coder::erasure::{erased_at, ERASURE};
+use coder::line_rule::LINE_RULES;
 use coder::profile::{Profile, PROFILES};
 use coder::random_words::changed;
 use coder::rng::Rng;
@@ -32,6 +33,14 @@ const EDITION_NUMBERS: [u64; 25] = [
     (1 << 32) + 13, (1 << 32) + 18, 1 << 63, (1 << 63) + 13, (1 << 63) + 18, u64::MAX,
 ];
 
+/// The line rules, and numbers that name none: near them, the number of the refusal, editions, and others that would
+/// if they were cut to 8, 16 or 32 bits.
+#[rustfmt::skip]
+const RULE_NUMBERS: [u64; 22] = [
+    1, 2, 0, 3, 4, 5, 13, 14, 18, 129, 130, 255, 256 + 1, 256 + 2, (1 << 16) + 1, (1 << 16) + 2,
+    (1 << 32) + 1, (1 << 32) + 2, 1 << 63, (1 << 63) + 1, (1 << 63) + 2, u64::MAX,
+];
+
 /// An oversize buffer.
 const OVERSIZE: usize = 1000;
 
@@ -49,7 +58,7 @@ pub fn check(tried: &EntryPoints) -> Checked<String> {
     let [encoded, decoded, converted] = calls;
     Ok(format!(
         "refusals: {encoded} calls of encode, {decoded} of decode and {converted} of convert, with \
-         editions, profiles, lengths and symbols of every kind"
+         editions, profiles, line rules, lengths and symbols of every kind"
     ))
 }
 
@@ -89,17 +98,44 @@ fn check_encode(
     profile: &Profile,
     rng: &mut Rng,
 ) -> Checked<usize> {
-    let [first, second] = rng.messages(profile).map(|message| faulty(profile.q, &message));
+    let messages = rng.messages(profile);
+    let [firsts, seconds] = messages.each_ref().map(|message| faulty(profile.q, message));
     let mut calls = 0;
-    for first in &first {
-        for second in &second {
+    for first in &firsts {
+        for second in &seconds {
             for length in lengths(profile.word_length()) {
-                encode(tried, told, [first, second], length)?;
-                calls += 1;
+                for rule in LINE_RULES {
+                    encode(tried, told, rule.number().into(), [first, second], length)?;
+                    calls += 1;
+                }
             }
         }
     }
+    for rule in RULE_NUMBERS {
+        for ([first, second], length) in few_faults(profile, &messages) {
+            encode(tried, told, rule, [&first, &second], length)?;
+            calls += 1;
+        }
+    }
     Ok(calls)
+}
+
+/// A pair with an output of the right length; with a message or the output too long; with a symbol out of range; and
+/// with both.
+fn few_faults(profile: &Profile, messages: &Messages) -> [(Messages, usize); 7] {
+    let [first, second] = messages;
+    let (k, length) = (profile.k(), profile.word_length());
+    let long = |message: &[u8]| [message, &[0]].concat();
+    let spoiled = |message: &[u8]| replaced(message, k, profile.q);
+    [
+        (messages.clone(), length),
+        ([long(first), second.clone()], length),
+        ([first.clone(), long(second)], length),
+        (messages.clone(), length + 1),
+        ([spoiled(first), second.clone()], length),
+        ([first.clone(), spoiled(second)], length),
+        ([long(&spoiled(first)), second.clone()], 0),
+    ]
 }
 
 fn check_decode(
@@ -150,31 +186,4 @@ fn faulty_or_doubtful(profile: &Profile, rng: &mut Rng) -> Vec<Vec<u8>> {
 }
 
 #[cfg(test)]
-mod tests {
-    use coder::near_miss_calls::Call;
-
-    use crate::wrong_converters::{retain_untold, OF_ARGUMENTS};
-
-    use super::*;
-
-    /// The calls with words of each profile tell each converter with a slip of its arguments from the right
-    /// one.
-    #[test]
-    fn every_slip_of_a_converters_arguments_is_told() {
-        for of_words in 0..PROFILES.len() {
-            let mut untold = OF_ARGUMENTS.to_vec();
-            for job in (of_words..JOBS).step_by(PROFILES.len()) {
-                let (told, profile) = numbers_of(job);
-                let [edition, number] = told.map(narrow);
-                for word in faulty_or_doubtful(profile, &mut Rng::new(job as u64)) {
-                    for length in lengths(profile.word_length()) {
-                        let word = word.clone();
-                        let call = Call { edition, profile: number, word, length };
-                        retain_untold(&mut untold, &call);
-                    }
-                }
-            }
-            assert!(untold.is_empty(), "{untold:?}");
-        }
-    }
-}
+mod tests;

@@ -1,7 +1,8 @@
-//! Converters with a slip (02, T-04), for tests that the calls of a section tell them from the right one.
+//! Converters with a slip (02, T-04 and T-06), for tests that the calls of a section tell them from the right one.
 
 use coder::near_miss::Slip;
 use coder::near_miss_calls::{Call, CONVERTER_NEAR_MISSES, NUMBER_NEAR_MISSES};
+use coder::near_miss_conversion::LINE_RULE_SLIPS;
 
 /// Slips that show only with an edition, a profile or an output length that is wrong.
 pub const OF_ARGUMENTS: [Slip; 10] = [
@@ -31,7 +32,8 @@ pub const OF_UNREAD_WORDS: [Slip; 7] = [
 /// Every slip of a converter but these.
 pub fn every_slip_but(others: &[Slip]) -> Vec<Slip> {
     let near_misses = CONVERTER_NEAR_MISSES.iter().chain(&NUMBER_NEAR_MISSES);
-    near_misses.map(|near_miss| near_miss.slip).filter(|slip| !others.contains(slip)).collect()
+    let slips = near_misses.map(|near_miss| near_miss.slip).chain(LINE_RULE_SLIPS);
+    slips.filter(|slip| !others.contains(slip)).collect()
 }
 
 /// Drops the slips with which the call is answered, or its output left, otherwise than it should be.

@@ -11,9 +11,9 @@ use std::path::PathBuf;
 pub use answer::{PackedAnswer, PositionAndSymbol};
 
 /// The seven functions of a coder: the library's, or those of another that answers in the same way. Encode,
-/// decode and convert are told the edition first, and then the profile.
+/// decode and convert are told the edition first, and then the profile; encode is then told the line rule.
 pub struct EntryPoints {
-    pub encode: fn(u64, u64, &[u8], &[u8], &mut [u8]) -> u64,
+    pub encode: fn(u64, u64, u64, &[u8], &[u8], &mut [u8]) -> u64,
     pub decode: fn(u64, u64, &[u8], &mut [u8], &mut [u8]) -> PackedAnswer,
     pub convert: fn(u64, u64, &[u8], &mut [u8]) -> u64,
     pub format: fn(&mut [u8]) -> u64,
@@ -38,7 +38,7 @@ pub fn boxlines() -> Option<PathBuf> {
 #[rustfmt::skip]
 extern "C" {
     fn fogzurt_encode(
-        edition: u64, profile: u64, first: *const u8, first_len: usize,
+        edition: u64, profile: u64, rule: u64, first: *const u8, first_len: usize,
         second: *const u8, second_len: usize, out: *mut u8, out_len: usize,
     ) -> u64;
     fn fogzurt_decode(
@@ -62,12 +62,19 @@ extern "C" {
     ) -> u64;
 }
 
-/// 01: write. 0, or the number of the refusal.
-fn encode(edition: u64, profile: u64, first: &[u8], second: &[u8], out: &mut [u8]) -> u64 {
+/// 01: write, by a line rule of 02, T-06. 0, or the number of the refusal.
+fn encode(
+    edition: u64,
+    profile: u64,
+    rule: u64,
+    first: &[u8],
+    second: &[u8],
+    out: &mut [u8],
+) -> u64 {
     let ((a, a_len), (b, b_len)) = (lent(first), lent(second));
     let (out, length) = (out.as_mut_ptr(), out.len());
     // SAFETY: here and below every pointer comes with the length of its own slice.
-    unsafe { fogzurt_encode(edition, profile, a, a_len, b, b_len, out, length) }
+    unsafe { fogzurt_encode(edition, profile, rule, a, a_len, b, b_len, out, length) }
 }
 
 /// 01: read.

@@ -51,12 +51,18 @@ field-requires-5 c κs = search needs
 parse-number-requires-3 : tie.Need-parse-number-requires-3
 parse-number-requires-3 c κs = search needs
 
+field-requires-6 : tie.Need-field-requires-6
+field-requires-6 c κs = search needs
+
+parse-number-requires-4 : tie.Need-parse-number-requires-4
+parse-number-requires-4 c κs = search needs
+
 array-share-prefix-first : tie.Need-array-share-prefix-first
 array-share-prefix-first c = search needs
 
 slice-aggregate-encode-and-print : tie.Need-slice-aggregate-encode-and-print
 slice-aggregate-encode-and-print c =
-    let measured = c .before .before .before .before .before .before .before .before .before .before .before .before .before in
+    let measured = c .before .before .before .before .before .before .before .before .before .before .before .before .before .before .before in
     let parsed = measured .before .before in
     sym (length-take-le _ _ (rw (parsed .parse-symbols .kept .1 .0) (measured .smaller .ensures .1)))
 
@@ -65,7 +71,7 @@ array-share-prefix-second c = search needs
 
 slice-aggregate-encode-and-print-2 : tie.Need-slice-aggregate-encode-and-print-2
 slice-aggregate-encode-and-print-2 c =
-    let measured = c .before .before .before .before .before .before .before .before .before in
+    let measured = c .before .before .before .before .before .before .before .before .before .before .before in
     let parsed = measured .before .before in
     sym (length-take-le _ _ (rw (parsed .parse-symbols2 .kept .1 .0) (measured .smaller2 .ensures .1)))
 
@@ -74,7 +80,7 @@ array-borrow-prefix-out c = search needs
 
 slice-aggregate-encode-and-print-3 : tie.Need-slice-aggregate-encode-and-print-3
 slice-aggregate-encode-and-print-3 c =
-    let measured = c .before .before .before .before .before .before .before in
+    let measured = c .before .before .before .before .before .before .before .before .before in
     sym (length-take-le _ _ (measured .smaller3 .ensures .1))
 
 encode-and-print-requires : tie.Need-encode-and-print-requires
@@ -88,6 +94,7 @@ answer-pair-spec =
     tie.close
     (tie.spec field-requires slice-aggregate-parse-symbols parse-symbols-requires smaller-requires field-requires-2
     slice-aggregate-parse-symbols-2 parse-symbols-requires-2 smaller-requires-2 field-requires-3 parse-number-requires smaller-requires-3
-    field-requires-4 parse-number-requires-2 field-requires-5 parse-number-requires-3 array-share-prefix-first
+    field-requires-4 parse-number-requires-2 field-requires-5 parse-number-requires-3 field-requires-6 parse-number-requires-4
+    array-share-prefix-first
     slice-aggregate-encode-and-print array-share-prefix-second
     slice-aggregate-encode-and-print-2 array-borrow-prefix-out slice-aggregate-encode-and-print-3 encode-and-print-requires returns)

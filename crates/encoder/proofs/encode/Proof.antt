@@ -58,14 +58,14 @@ module _ (c : tie.After-known-told2) where
   room = length (now (start .args .out))
 
   abbrev refusal : ℕ
-  refusal = encodeRefusal (start .args .edition) (start .args .profile) first second room
+  refusal = encodeRefusal (start .args .edition) (start .args .profile) (start .args .rule) first second room
 
   of : RowOf (editionOf (start .args .edition)) (start .args .profile) row
   of = rw (← edition-same edition) (row-found _ _ (c .before .before .before .row-in .ensures) (c .before .row .given .1))
 
 -- the number by the row is the definition's
 number-is : (c : tie.After-encode-refusal) → c .encode-refusal .result ≡ refusal (c .before)
-number-is c = c .encode-refusal .ensures ∙ encode-by-row _ _ _ _ _ (is-edition (edition (c .before))) (of (c .before))
+number-is c = c .encode-refusal .ensures ∙ encode-by-row _ _ _ _ _ _ (is-edition (edition (c .before))) (of (c .before))
 
 -- past the refusals
 module _ (c : tie.Else1) where
@@ -74,7 +74,7 @@ module _ (c : tie.Else1) where
 
   accept : Accepted (start found .args .profile) (first found) (second found) (room found)
   accept =
-      accepted (number (edition found)) _ _ _ _ (is-edition (edition found)) (of found)
+      accepted (number (edition found)) _ _ _ _ _ (is-edition (edition found)) (of found)
       (sym (c .before .encode-refusal .ensures) ∙ c .if1 .left)
 
   none : 0 ≡ refusal found
@@ -91,8 +91,8 @@ enum-told c = search needs
 
 returns : tie.Need-returns
 returns c =
-    let e = encode-edition-refused _ _ _ _ _ (edition-none _ (c .before .before .edition-of .ensures) (c .enum-told .given .1)) in
-    record { answer = ap outcome e; output = output-kept _ _ _ _ _ e (omega arith) }
+    let e = encode-edition-refused _ _ _ _ _ _ (edition-none _ (c .before .before .edition-of .ensures) (c .enum-told .given .1)) in
+    record { answer = ap outcome e; output = output-kept _ _ _ _ _ _ e (omega arith) }
 
 row-in-requires : tie.Need-row-in-requires
 row-in-requires c κs = search needs
@@ -107,8 +107,8 @@ returns-2 : tie.Need-returns-2
 returns-2 c =
     let looked = c .before .before in
     let none = none-found _ _ (looked .row-in .ensures) (c .enum-told2 .given .1) in
-    let e = encode-profile-refused _ _ _ _ _ (is-edition (looked .before)) none in
-    record { answer = ap outcome e; output = output-kept _ _ _ _ _ e (omega arith) }
+    let e = encode-profile-refused _ _ _ _ _ _ (is-edition (looked .before)) none in
+    record { answer = ap outcome e; output = output-kept _ _ _ _ _ _ e (omega arith) }
 
 encode-refusal-requires : tie.Need-encode-refusal-requires
 encode-refusal-requires c κs = search needs
@@ -116,7 +116,7 @@ encode-refusal-requires c κs = search needs
 returns-3 : tie.Need-returns-3
 returns-3 c =
     let is = number-is (c .before) in
-    record { answer = refused-outcome is (c .if1 .taken); output = output-kept _ _ _ _ _ is (c .if1 .taken) }
+    record { answer = refused-outcome is (c .if1 .taken); output = output-kept _ _ _ _ _ _ is (c .if1 .taken) }
 
 word-of-requires : tie.Need-word-of-requires
 word-of-requires c κs = (of-own (of (found c)), accept c .first, accept c .second)
@@ -135,8 +135,8 @@ returns-4 c =
     let written = c .before .before in
     let made = written .before .before in
     let passed = made .before in
-    let word = written .put .ensures ∙ made .word-of .ensures .0 ∙ encoded-in (of (found passed)) _ _ in
-    record { answer = ap outcome (none passed); output = word ∙ output-done _ _ _ _ _ (none passed) }
+    let word = written .put .ensures ∙ made .word-of .ensures .0 ∙ encoded-in (of (found passed)) _ _ _ in
+    record { answer = ap outcome (none passed); output = word ∙ output-done _ _ _ _ _ _ (none passed) }
 
 pub encode-spec : {M : Type 1} → statement M
 encode-spec =

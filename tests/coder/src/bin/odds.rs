@@ -4,7 +4,8 @@
 //! word of one edition (02, T-03) is read as one of the other.
 //! Bad and erased symbols are at positions, and bad ones arrive as levels, that are drawn evenly. For
 //! profile 1 every change of the stated words is tried; elsewhere words and changes are drawn, from
-//! a fixed seed. `odds --erasures` and `odds --editions` print the last two tables alone.
+//! a fixed seed. `odds --erasures` and `odds --editions` print the last two tables alone. The words are
+//! those of line rule 1 (02, T-06), and with `--rule-2`, alone or beside one of these, those of line rule 2.
 
 use std::process::ExitCode;
 
@@ -15,6 +16,7 @@ use coder::edition::profiles_of_both;
 use coder::encode::encoded_word;
 use coder::erased_words::erased_and_changed;
 use coder::erasure::ERASURE;
+use coder::line_rule::LineRule;
 use coder::profile::{Profile, PROFILES};
 use coder::rng::Rng;
 
@@ -75,17 +77,23 @@ fn every_erasure(sent: &[u8], word: &[u8], count: usize, after: usize, see: &mut
 /// One word's counts of outcomes.
 type Counts = [u64; OUTCOMES.len()];
 
-/// The profile that a word is of, and the one that it is read as: the same, but for the edition.
-type Profiles<'a> = [&'a Profile; 2];
+/// The profile that a word is of, the line rule that it is made by, and the profile that it is read as: the
+/// same, but for the edition.
+#[derive(Clone, Copy)]
+struct Way<'a> {
+    profile: &'a Profile,
+    rule: LineRule,
+    reader: &'a Profile,
+}
 
 fn counts(
-    [profile, reader]: Profiles,
+    Way { profile, rule, reader }: Way,
     sent: &Messages,
     Damage { erased, bad }: Damage,
     plan: &Plan,
     rng: &mut Rng,
 ) -> Counts {
-    let word = encoded_word(profile, sent);
+    let word = encoded_word(profile, rule, sent);
     let mut counts = Counts::default();
     let mut see = |received: &[u8]| counts[outcome(reader, sent, received)] += 1;
     match plan {
@@ -114,14 +122,14 @@ fn share(words: &[Counts], outcome: usize) -> (f64, f64) {
 
 /// A row of a table: the profile, how many symbols are erased, where some are, and how many are bad,
 /// what was tried, and the outcomes in 100, with the standard error where changes were drawn.
-fn print_odds(profile: &Profile, damage: Damage, plan: &Plan) {
+fn print_odds(profile: &Profile, rule: LineRule, damage: Damage, plan: &Plan) {
     print!("| {} |", profile.number);
-    print_row([profile; 2], damage, plan);
+    print_row(Way { profile, rule, reader: profile }, damage, plan);
 }
 
 /// The rest of a row.
-fn print_row(profiles: Profiles, damage: Damage, plan: &Plan) {
-    let [profile, _] = profiles;
+fn print_row(way: Way, damage: Damage, plan: &Plan) {
+    let profile = way.profile;
     let rng = &mut Rng::new(20);
     let (sent, how): (Vec<Messages>, &str) = match plan {
         Plan::Every { step } => (all_messages(profile).step_by(*step).collect(), "every change of"),
@@ -129,8 +137,7 @@ fn print_row(profiles: Profiles, damage: Damage, plan: &Plan) {
             ((0..*words).map(|_| rng.messages(profile)).collect(), "drawn changes of")
         }
     };
-    let words: Vec<Counts> =
-        sent.iter().map(|sent| counts(profiles, sent, damage, plan, rng)).collect();
+    let words: Vec<Counts> = sent.iter().map(|sent| counts(way, sent, damage, plan, rng)).collect();
     let received: u64 = words.iter().flatten().sum();
     let (symbols, outcomes) = match damage {
         Damage { erased: 0, bad } => (bad.to_string(), OUTCOMES.len()),
@@ -149,14 +156,14 @@ fn print_row(profiles: Profiles, damage: Damage, plan: &Plan) {
 
 /// The sum of all symbols, and the remainders of the odd and of the even positions, α and β among
 /// them; they are the same for every codeword of random pairs, by any balancing choice.
-fn print_sums(profile: &Profile, words: usize) {
+fn print_sums(profile: &Profile, rule: LineRule, words: usize) {
     let rng = &mut Rng::new(21);
     let sums = |word: &[u8]| {
         let odd: u32 = word.iter().step_by(2).map(|&symbol| u32::from(symbol)).sum();
         let q = u32::from(profile.q);
         [weight(word), odd % q, (weight(word) - odd) % q]
     };
-    let expected = sums(&encoded_word(profile, &rng.messages(profile)));
+    let expected = sums(&encoded_word(profile, rule, &rng.messages(profile)));
     let mut tried = 0;
     while tried < words {
         for (_, word) in codewords(profile, &rng.messages(profile)) {
@@ -170,34 +177,34 @@ fn print_sums(profile: &Profile, words: usize) {
 }
 
 /// What is answered when two or three symbols are bad.
-fn print_bad() {
+fn print_bad(rule: LineRule) {
     println!("| profile | bad symbols | tried | {} |", OUTCOMES.join(" | "));
     let bad = |bad: usize| Damage { erased: 0, bad };
-    print_odds(&PROFILES[0], bad(2), &Plan::Every { step: 1 });
-    print_odds(&PROFILES[0], bad(3), &Plan::Every { step: 59 });
+    print_odds(&PROFILES[0], rule, bad(2), &Plan::Every { step: 1 });
+    print_odds(&PROFILES[0], rule, bad(3), &Plan::Every { step: 59 });
     for profile in &PROFILES[1..] {
         for count in [2, 3] {
-            print_odds(profile, bad(count), &Plan::Drawn { words: 1000, changes: 200 });
+            print_odds(profile, rule, bad(count), &Plan::Drawn { words: 1000, changes: 200 });
         }
     }
 }
 
 /// What is answered when one symbol is bad and one or two others are erased.
-fn print_erased() {
+fn print_erased(rule: LineRule) {
     println!("| profile | erased | bad | tried | {} |", ERASED_OUTCOMES.join(" | "));
     let erased = |erased: usize| Damage { erased, bad: 1 };
-    print_odds(&PROFILES[0], erased(1), &Plan::Every { step: 1 });
-    print_odds(&PROFILES[0], erased(2), &Plan::Every { step: 59 });
+    print_odds(&PROFILES[0], rule, erased(1), &Plan::Every { step: 1 });
+    print_odds(&PROFILES[0], rule, erased(2), &Plan::Every { step: 59 });
     for profile in &PROFILES[1..] {
         for count in [1, 2] {
-            print_odds(profile, erased(count), &Plan::Drawn { words: 1000, changes: 1000 });
+            print_odds(profile, rule, erased(count), &Plan::Drawn { words: 1000, changes: 1000 });
         }
     }
 }
 
 /// What is answered when a word of one edition is read as one of the other, as sent and with one bad
 /// symbol.
-fn print_editions() {
+fn print_editions(rule: LineRule) {
     println!("| profile | sent | read as | bad symbols | tried | {} |", OUTCOMES.join(" | "));
     for profile in profiles_of_both() {
         let reader = profile.in_other_edition();
@@ -208,25 +215,28 @@ fn print_editions() {
                 _ => Plan::Drawn { words, changes },
             };
             print!("| {} | {sent} | {read} |", profile.number);
-            print_row([profile, &reader], Damage { erased: 0, bad }, &plan);
+            print_row(Way { profile, rule, reader: &reader }, Damage { erased: 0, bad }, &plan);
         }
     }
 }
 
 fn main() -> ExitCode {
     let arguments: Vec<String> = std::env::args().skip(1).collect();
-    match arguments.iter().map(String::as_str).collect::<Vec<_>>()[..] {
+    let (rules, tables): (Vec<&str>, Vec<&str>) =
+        arguments.iter().map(String::as_str).partition(|&argument| argument == "--rule-2");
+    let rule = if rules.is_empty() { LineRule::One } else { LineRule::Two };
+    match tables[..] {
         [] => {
             println!("| profile | ms a word | total | odd places | even places | words tried |");
-            PROFILES.iter().for_each(|profile| print_sums(profile, 10_000));
-            print_bad();
-            print_erased();
-            print_editions();
+            PROFILES.iter().for_each(|profile| print_sums(profile, rule, 10_000));
+            print_bad(rule);
+            print_erased(rule);
+            print_editions(rule);
         }
-        ["--erasures"] => print_erased(),
-        ["--editions"] => print_editions(),
+        ["--erasures"] => print_erased(rule),
+        ["--editions"] => print_editions(rule),
         _ => {
-            eprintln!("usage: odds [--erasures | --editions]");
+            eprintln!("usage: odds [--erasures | --editions] [--rule-2]");
             return ExitCode::FAILURE;
         }
     }

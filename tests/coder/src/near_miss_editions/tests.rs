@@ -21,7 +21,7 @@ fn pairs(profile: &Profile) -> Vec<Messages> {
 fn without_a_slip_the_word_is_the_first_that_is_found() {
     for profile in profiles_of_both() {
         for messages in pairs(profile) {
-            let found = Some(encoded_word(profile, &messages));
+            let found = Some(encoded_word(profile, LineRule::One, &messages));
             assert_eq!(encode(profile, &messages, None), found);
         }
     }

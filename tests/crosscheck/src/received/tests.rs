@@ -16,8 +16,8 @@ fn every_slip_of_a_converter_is_told() {
         let rng = &mut Rng::new(1);
         let mut untold = every_slip_but(&OF_ARGUMENTS);
         for _ in 0..PAIRS / 50 {
-            let messages = rng.messages(profile);
-            for word in received_words(profile, &messages, rng) {
+            let codewords = codewords(profile, &rng.messages(profile));
+            for word in received_words(profile, &codewords, rng) {
                 retain_untold(&mut untold, &Call::of(profile, word));
             }
         }
@@ -32,7 +32,8 @@ fn a_word_is_converted_as_the_separate_coder_does() {
         let rng = &mut Rng::new(2);
         for _ in 0..PAIRS / 100 {
             let pair = Pair::new(profile, rng.messages(profile));
-            for word in received_words(profile, &pair.messages, rng) {
+            let codewords = codewords(profile, &pair.messages);
+            for word in received_words(profile, &codewords, rng) {
                 let mut out = vec![0; profile.word_length()];
                 let [edition, number] = [profile.edition.number(), profile.number];
                 let answer = coder::convert::convert(edition, number, &word, &mut out);
@@ -51,8 +52,8 @@ fn every_slip_of_a_decoder_is_told() {
         let near_misses = every_near_miss(profile.edition);
         let mut untold: Vec<Slip> = near_misses.map(|near_miss| near_miss.slip).collect();
         for _ in 0..PAIRS / 50 {
-            let messages = rng.messages(profile);
-            for word in received_words(profile, &messages, rng) {
+            let codewords = codewords(profile, &rng.messages(profile));
+            for word in received_words(profile, &codewords, rng) {
                 let right = near_miss::decode(profile, &word, None);
                 untold.retain(|&slip| near_miss::decode(profile, &word, Some(slip)) == right);
             }

@@ -1,4 +1,4 @@
--- `encoder::balance::balanced` meets its contract: the choices of both editions shift the integral, the choice is the earliest, and its
+-- `encoder::balance::balanced` meets its contract: the choices of both editions shift the integral, the choice is the line rule's, and its
 -- shift gives its word.
 -- Assumes nothing.
 use mathlib.Core.Path.{_≡_, sym, ap, _∙_}
@@ -28,23 +28,23 @@ zeroPut a = withZero (parameters (a .args .row)) (drop 1 (word a))
 
 walks : (a : tie.Start) → walked (parameters (a .args .row)) (zeroPut a) ≡ integrate (a .args .row .q) 0 (word a)
 walks a =
-    walked-zero-first (parameters (a .args .row)) (a .pre .1 .some) (drop 1 (word a)) (a .pre .2 .sum)
-    ∙ ap (integrate (a .args .row .q) 0) (sym (a .pre .2 .zero))
+    walked-zero-first (parameters (a .args .row)) (a .pre .2 .some) (drop 1 (word a)) (a .pre .3 .sum)
+    ∙ ap (integrate (a .args .row .q) 0) (sym (a .pre .3 .zero))
 
-abbrev start : tie.After-earliest → tie.Start
+abbrev start : tie.After-choose → tie.Start
 start e = e .before .before .before
 
 integrated-requires : tie.Need-integrated-requires
-integrated-requires c κs = c .pre .1
+integrated-requires c κs = c .pre .2
 
-earliest-requires : tie.Need-earliest-requires
-earliest-requires c κs =
+choose-requires : tie.Need-choose-requires
+choose-requires c κs =
     let integral = c .before .integrated .ensures in
     let a = c .before .before in
-    (a .pre .0, integral .1, record { of = zeroPut a; is = integral .0 ∙ sym (walks a) })
+    (a .pre .0, a .pre .1, integral .1, record { of = zeroPut a; is = integral .0 ∙ sym (walks a) })
 
 sub-raised : tie.Need-sub-raised
-sub-raised c = c .before .before .earliest .ensures .from
+sub-raised c = c .before .before .choose .ensures .from
 
 cast-raised : tie.Need-cast-raised
 cast-raised c =
@@ -52,12 +52,12 @@ cast-raised c =
     let integral = chosen .before .before .integrated in
     let a = start chosen in
     let size = row-size (a .args .row) (a .pre .0) (integral .result) (integral .ensures .1 .size) in
-    omega (arith, chosen .earliest .ensures .upto, size, a .pre .1 .room)
+    omega (arith, chosen .choose .ensures .upto, size, a .pre .2 .room)
 
 raised-requires : tie.Need-raised-requires
 raised-requires c κs =
     let chosen = c .before .before in
-    (chosen .before .before .integrated .ensures .1, chosen .earliest .ensures .below)
+    (chosen .before .before .integrated .ensures .1, chosen .choose .ensures .below)
 
 word-of-shift-requires : tie.Need-word-of-shift-requires
 word-of-shift-requires c κs =
@@ -72,12 +72,12 @@ returns c =
     let a = start chosen in
     let p = parameters (a .args .row) in
     let m = a .args .row .balanced in
-    let shifted = raised-is m (integral .1) (a .pre .1 .room) (raising .raised .ensures) (search needs) in
+    let shifted = raised-is m (integral .1) (a .pre .2 .room) (raising .raised .ensures) (search needs) in
     ap (take m) (c .word-of-shift .ensures)
     ∙ take-unwalked p m (raising .raised .result)
     ∙ ap (unwalked p) shifted
-    ∙ chosen .earliest .ensures .word (zeroPut a) (integral .0 ∙ sym (walks a))
+    ∙ chosen .choose .ensures .word (zeroPut a) (integral .0 ∙ sym (walks a))
 
 pub balanced-spec : {M : Type 1} → statement M
 balanced-spec =
-    tie.close (tie.spec integrated-requires earliest-requires sub-raised cast-raised raised-requires word-of-shift-requires returns)
+    tie.close (tie.spec integrated-requires choose-requires sub-raised cast-raised raised-requires word-of-shift-requires returns)

@@ -6,6 +6,7 @@ use lib.ListN.{take}
 use borrow.Author.Needs.{needs}
 use Rattle.code_theory.specs.Profiles.{profile}
 use denote.Ref.{now}
+use Rattle.profiles.proofs.Table.{levels-eight}
 use Rattle.encoder.specs.Symbols.{SymbolArray, ZeroFirst}
 use Rattle.encoder.proofs.Pairing.{IsMessage, pair-symbols, pair-zero-first, pair-encoded, pair-length}
 use Rattle.encoder.proofs.pair.word_of.Statement.{statement}
@@ -32,7 +33,7 @@ components-requires : tie.Need-components-requires
 components-requires c κs = search needs
 
 balanced-requires : tie.Need-balanced-requires
-balanced-requires c κs = (start (c .before) .pre .0 .valid, symbols (c .before), zero-first (c .before))
+balanced-requires c κs = (start (c .before) .pre .0 .valid, levels-eight (start (c .before) .pre .0), symbols (c .before), zero-first (c .before))
 
 with-checks-requires : tie.Need-with-checks-requires
 with-checks-requires c κs = (start (c .before .before .before) .pre .0 .valid, search needs)
@@ -44,7 +45,7 @@ returns c =
     let first = now (a .args .first) in
     let second = now (a .args .second) in
     let w = c .before .before .balanced .ensures in (
-      pair-encoded (a .pre .0) first second (pair m) (m .components .ensures) w (c .with-checks .ensures .0),
+      pair-encoded (a .pre .0) first second (pair m) (m .components .ensures) _ w (c .with-checks .ensures .0),
       pair-length (a .pre .0) first second (pair m) (m .components .ensures) (c .with-checks .ensures .1),
     )
 

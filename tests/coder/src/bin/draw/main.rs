@@ -1,8 +1,10 @@
 //! Draws the pictures of docs/SERVICE-BOOK.md from real words of profile 1, and the card for the
-//! wall: the walk of the weight, the parts of a word, a codeword beside another as near as any.
+//! wall: the walk of the weight, the parts of a word, a codeword beside another as near as any. The swing by
+//! both line rules is that of a pair of profile 3.
 
 mod card;
 mod picture;
+mod swing;
 mod walk;
 mod words;
 
@@ -23,6 +25,7 @@ fn main() -> io::Result<()> {
         ("balance.svg", walk::draw(profile, &messages)),
         ("anatomy.svg", words::draw_anatomy(profile, &messages)),
         ("neighbours.svg", words::draw_neighbours(profile, &messages)),
+        ("swing.svg", swing::draw(&PROFILES[2], &swing::messages())),
         ("card.svg", card::draw()),
     ] {
         fs::write(Path::new(&folder).join(name), picture.svg())?;

@@ -4,6 +4,7 @@ use coder::codeword::{all_messages, codewords, components_of, Messages};
 use coder::component::{message_positions, syndrome};
 use coder::decode::{decode_word, replaced, Answer};
 use coder::encode::encoded_word;
+use coder::line_rule::LineRule;
 use coder::profile::Profile;
 use coder::text::digits;
 
@@ -145,7 +146,7 @@ fn answer(profile: &Profile, word: &[u8], sent: &Messages) -> String {
 }
 
 pub fn draw_neighbours(profile: &Profile, messages: &Messages) -> Picture {
-    let sent = encoded_word(profile, messages);
+    let sent = encoded_word(profile, LineRule::One, messages);
     let nearest = all_messages(profile)
         .flat_map(|messages| codewords(profile, &messages))
         .map(|(_, word)| word)

@@ -1,6 +1,7 @@
 //! pairs: messages of all profiles, and the word that encoding makes.
 
 mod editions;
+mod line_rules;
 
 use std::iter::repeat_with;
 
@@ -9,6 +10,8 @@ use coder::edition::Edition;
 use coder::encode::encode;
 use coder::erasure::{erased_at, ERASURE};
 use coder::examples;
+use coder::line_rule::LineRule;
+use coder::near_miss_rules::Told;
 use coder::profile::Profile;
 use coder::refusal::FILLER;
 use coder::rng::Rng;
@@ -29,34 +32,32 @@ pub fn make() -> CaseFile {
     let rng = &mut Rng::new(SEED);
     let edition = Edition::Of2013;
     cases_of_01(&mut file);
-    constant_messages(&mut file, edition);
+    constant_messages(&mut file, edition, LineRule::One);
     unit_messages(&mut file, edition);
     order_of_choices(&mut file, edition, rng);
-    random(&mut file, edition, RANDOM, rng);
+    random(&mut file, edition, LineRule::One, RANDOM, rng);
     order_of_refusals(&mut file, edition, rng);
     erasures(&mut file, rng);
     editions::add_groups(&mut file);
+    line_rules::add_groups(&mut file);
     file
 }
 
-/// The edition and the profile that a call is told, right or not.
-type Told = [u8; 2];
-
 /// Adds the case of two messages, with an output buffer of this length.
 fn add(file: &mut CaseFile, told: Told, [first, second]: &Messages, length: usize) {
-    let [edition, profile] = told;
+    let [edition, profile, rule] = told;
     let mut output = vec![FILLER; length];
-    let expected = match encode(edition, profile, first, second, &mut output) {
+    let expected = match encode(edition, profile, rule, first, second, &mut output) {
         Ok(()) => digits(&output),
         Err(refusal) => refusal.to_string(),
     };
     let messages = format!("{} {}", digits(first), digits(second));
-    file.case(format!("{edition} {profile} {messages} {length}"), &expected);
+    file.case(format!("{edition} {profile} {rule} {messages} {length}"), &expected);
 }
 
 /// Adds the case of two messages with an output of the right length.
-fn add_pair(file: &mut CaseFile, profile: &Profile, messages: &Messages) {
-    let told = [profile.edition.number(), profile.number];
+fn add_pair(file: &mut CaseFile, profile: &Profile, rule: LineRule, messages: &Messages) {
+    let told = [profile.edition.number(), profile.number, rule.number()];
     add(file, told, messages, profile.word_length());
 }
 
@@ -64,18 +65,18 @@ fn add_pair(file: &mut CaseFile, profile: &Profile, messages: &Messages) {
 fn cases_of_01(file: &mut CaseFile) {
     file.group("cases of 01");
     for (profile, [first, second], word) in examples::encoded() {
-        file.case(format!("13 {profile} {first} {second} {}", word.len()), &word);
+        file.case(format!("13 {profile} 1 {first} {second} {}", word.len()), &word);
     }
 }
 
 /// Every pair of messages of one level each: the zero pair first, then up to all q−1.
-fn constant_messages(file: &mut CaseFile, edition: Edition) {
+fn constant_messages(file: &mut CaseFile, edition: Edition, rule: LineRule) {
     file.group("the zero pair of each profile, then every other pair of constant messages");
     for profile in edition.profiles() {
         for first in 0..profile.q {
             for second in 0..profile.q {
                 let pair = [first, second].map(|symbol| vec![symbol; profile.k()]);
-                add_pair(file, profile, &pair);
+                add_pair(file, profile, rule, &pair);
             }
         }
     }
@@ -93,7 +94,7 @@ fn single_symbols<const COUNT: usize>(
             for index in 0..2 * k {
                 let mut pair = [vec![0; k], vec![0; k]];
                 pair[index / k][index % k] = symbol;
-                add_pair(file, profile, &pair);
+                add_pair(file, profile, LineRule::One, &pair);
             }
         }
     }
@@ -121,17 +122,17 @@ fn order_of_choices(file: &mut CaseFile, edition: Edition, rng: &mut Rng) {
         let pairs = repeat_with(|| rng.messages(profile));
         let told = pairs.filter(|pair| depends_on_order(profile, pair));
         for pair in told.take(OF_EACH_ORDER) {
-            add_pair(file, profile, &pair);
+            add_pair(file, profile, LineRule::One, &pair);
         }
     }
 }
 
 /// So many random pairs of every profile.
-fn random(file: &mut CaseFile, edition: Edition, count: usize, rng: &mut Rng) {
+fn random(file: &mut CaseFile, edition: Edition, rule: LineRule, count: usize, rng: &mut Rng) {
     file.group("random pairs");
     for profile in edition.profiles() {
         for _ in 0..count {
-            add_pair(file, profile, &rng.messages(profile));
+            add_pair(file, profile, rule, &rng.messages(profile));
         }
     }
 }
@@ -154,7 +155,7 @@ fn every_fault(file: &mut CaseFile, edition: Edition, variants: Variants, rng: &
             for second in &seconds {
                 let length = profile.word_length();
                 for length in [length, length - 1, length + 1, 0] {
-                    let told = [edition.number(), number];
+                    let told = [edition.number(), number, LineRule::One.number()];
                     add(file, told, &[first.clone(), second.clone()], length);
                 }
             }

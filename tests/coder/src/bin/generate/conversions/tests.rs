@@ -2,6 +2,7 @@
 
 use coder::edition::profiles_of_both;
 use coder::near_miss::Slip;
+use coder::near_miss_conversion::LINE_RULE_SLIPS;
 
 use super::*;
 
@@ -38,8 +39,9 @@ fn every_slip_is_told() {
         assert_eq!(&call.slipped_answer(None), expected, "{call:?}");
     }
     for profile in profiles_of_both() {
-        for CallNearMiss { slip, .. } in &CONVERTER_NEAR_MISSES {
-            assert!(is_told(*slip, of_profile(&stored, profile)), "{slip:?}, {profile:?}");
+        let slips = CONVERTER_NEAR_MISSES.iter().map(|near_miss| near_miss.slip);
+        for slip in slips.chain(LINE_RULE_SLIPS) {
+            assert!(is_told(slip, of_profile(&stored, profile)), "{slip:?}, {profile:?}");
         }
     }
     for CallNearMiss { slip, .. } in &NUMBER_NEAR_MISSES {

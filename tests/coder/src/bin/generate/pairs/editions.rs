@@ -5,11 +5,13 @@ use coder::balance::BalancingChoice;
 use coder::codeword::{codewords, Messages};
 use coder::edition::Edition;
 use coder::examples::{encoded_2018, Encoded2018};
+use coder::line_rule::LineRule;
+use coder::near_miss_rules::Told;
 use coder::profile::{Profile, PROFILES_2018};
 use coder::rng::Rng;
 
+use super::unit_messages;
 use super::{add, add_pair, constant_messages, order_of_choices, order_of_refusals, random};
-use super::{unit_messages, Told};
 use crate::case_file::{row_for, CaseFile, EDITION_NUMBERS, PROFILE_NUMBERS};
 
 const SEED: u64 = 0x6564_6974;
@@ -30,13 +32,13 @@ pub fn add_groups(file: &mut CaseFile) {
     file.name_groups("T-03, edition 18: ");
     file.group("cases by hand");
     for Encoded2018 { profile, messages: [first, second], word, .. } in encoded_2018() {
-        file.case(format!("18 {profile} {first} {second} {}", word.len()), &word);
+        file.case(format!("18 {profile} 1 {first} {second} {}", word.len()), &word);
     }
-    constant_messages(file, edition);
+    constant_messages(file, edition, LineRule::One);
     unit_messages(file, edition);
     order_of_choices(file, edition, rng);
     by_choice(file, rng);
-    random(file, edition, RANDOM, rng);
+    random(file, edition, LineRule::One, RANDOM, rng);
     order_of_refusals(file, edition, rng);
     file.name_groups("T-03, every edition: ");
     order_of_editions(file, rng);
@@ -66,7 +68,7 @@ fn by_choice(file: &mut CaseFile, rng: &mut Rng) {
     let add_those = |file: &mut CaseFile, profile: &Profile, has: &dyn Fn(&Chosen) -> bool| {
         let pairs = chosen[usize::from(profile.number) - 1].iter().filter(|pair| has(pair));
         for (pair, _) in pairs.take(OF_EACH_CHOICE) {
-            add_pair(file, profile, pair);
+            add_pair(file, profile, LineRule::One, pair);
         }
     };
     file.group("1 is added nowhere: v = 0, and s = (q-1)/2");
@@ -94,7 +96,8 @@ fn order_of_editions(file: &mut CaseFile, rng: &mut Rng) {
             let [first, second] = rng.messages(profile);
             let spoiled = [&first[1..], &[9]].concat();
             let short = second[1..].to_vec();
-            let (told, length): (Told, usize) = ([edition, number], profile.word_length());
+            let told: Told = [edition, number, LineRule::One.number()];
+            let length = profile.word_length();
             add(file, told, &[first.clone(), second.clone()], length);
             add(file, told, &[first, short.clone()], length);
             add(file, told, &[spoiled.clone(), second.clone()], length);

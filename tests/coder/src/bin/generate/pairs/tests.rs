@@ -1,12 +1,58 @@
 //! That the pairs tell encoders with a slip from the right one.
 
+use std::sync::LazyLock;
+
 use coder::edition::profiles_of_both;
 use coder::near_miss_editions::{self, CALL_SLIPS, ENCODER_SLIPS, HARMLESS_SLIPS};
 use coder::near_miss_sums::{self, SUM_SLIPS};
 use coder::profile::{PROFILES, PROFILES_2018};
+use coder::refusal::Refusal;
 use coder::text::symbols;
 
 use super::*;
+
+/// A call, and the line that answers it.
+pub struct Stored {
+    pub told: Told,
+    pub messages: Messages,
+    length: usize,
+    pub expected: String,
+}
+
+impl Stored {
+    /// What the call answers if it is told this.
+    pub fn answer(&self, [edition, profile, rule]: Told) -> Result<String, Refusal> {
+        let [first, second] = &self.messages;
+        let mut output = vec![FILLER; self.length];
+        encode(edition, profile, rule, first, second, &mut output).map(|()| digits(&output))
+    }
+}
+
+/// Every call that is stored.
+pub static STORED: LazyLock<Vec<Stored>> = LazyLock::new(|| {
+    let file = make();
+    let [input, expected] =
+        [&file.input, &file.expected].map(|bytes| std::str::from_utf8(bytes).unwrap());
+    let cases = input.lines().zip(expected.lines());
+    cases.map(|(case, expected)| stored(case, expected)).collect()
+});
+
+fn stored(case: &str, expected: &str) -> Stored {
+    let fields: Vec<&str> = case.split(' ').collect();
+    Stored {
+        told: [fields[0], fields[1], fields[2]].map(|field| field.parse().unwrap()),
+        messages: [fields[3], fields[4]].map(symbols),
+        length: fields[5].parse().unwrap(),
+        expected: expected.to_string(),
+    }
+}
+
+/// The pairs of a profile that are encoded by a line rule, each with its word.
+pub fn encoded(profile: &Profile, rule: LineRule) -> Vec<(&'static Messages, Vec<u8>)> {
+    let told = [profile.edition.number(), profile.number, rule.number()];
+    let calls = STORED.iter().filter(|call| call.told == told && !call.expected.starts_with('R'));
+    calls.map(|call| (&call.messages, symbols(&call.expected))).collect()
+}
 
 /// The zero pair is balanced by s = 0 and v = 1, which both orders try first.
 #[test]
@@ -16,28 +62,12 @@ fn the_order_of_trying_matters_to_some_pairs() {
     assert!(depends(["20000", "12002"]));
 }
 
-/// The pairs of a profile that are encoded, each with its word.
-fn encoded(profile: &Profile, input: &str, expected: &str) -> Vec<(Messages, Vec<u8>)> {
-    let of_profile = format!("{} {} ", profile.edition.number(), profile.number);
-    let cases = input.lines().zip(expected.lines());
-    cases
-        .filter(|(case, word)| case.starts_with(&of_profile) && !word.starts_with('R'))
-        .map(|(case, word)| {
-            let fields: Vec<&str> = case.split(' ').collect();
-            ([fields[2], fields[3]].map(symbols), symbols(word))
-        })
-        .collect()
-}
-
 /// The pairs tell an encoder with a slip of T-05 from the right one, in every profile in which the
 /// slip does harm. Without a slip its sums make every word that the search makes.
 #[test]
 fn every_slip_of_the_sums_is_told() {
-    let file = make();
-    let [input, expected] =
-        [&file.input, &file.expected].map(|bytes| std::str::from_utf8(bytes).unwrap());
     for profile in profiles_of_both() {
-        let pairs = encoded(profile, input, expected);
+        let pairs = encoded(profile, LineRule::One);
         let is_told = |slip| {
             let mut pairs = pairs.iter();
             pairs.any(|(pair, word)| near_miss_sums::encode(profile, pair, slip) != *word)
@@ -54,11 +84,8 @@ fn every_slip_of_the_sums_is_told() {
 /// do no harm.
 #[test]
 fn every_slip_of_the_edition_is_told() {
-    let file = make();
-    let [input, expected] =
-        [&file.input, &file.expected].map(|bytes| std::str::from_utf8(bytes).unwrap());
     for profile in &PROFILES_2018 {
-        let pairs = encoded(profile, input, expected);
+        let pairs = encoded(profile, LineRule::One);
         let is_told = |slip| {
             let makes = |pair| near_miss_editions::encode(profile, pair, slip);
             pairs.iter().any(|(pair, word)| makes(pair).as_ref() != Some(word))
@@ -76,20 +103,12 @@ fn every_slip_of_the_edition_is_told() {
 /// The pairs tell every order of refusals in which the edition stands at another place.
 #[test]
 fn every_slip_of_a_call_is_told() {
-    let file = make();
-    let [input, expected] =
-        [&file.input, &file.expected].map(|bytes| std::str::from_utf8(bytes).unwrap());
     for slip in CALL_SLIPS {
-        let is_told = input.lines().zip(expected.lines()).any(|(case, expected)| {
-            let fields: Vec<&str> = case.split(' ').collect();
-            let [edition, profile] = [fields[0], fields[1]].map(|field| field.parse().unwrap());
-            let [first, second] = [fields[2], fields[3]].map(symbols);
-            let right = |edition| {
-                let mut output = vec![FILLER; fields[4].parse().unwrap()];
-                encode(edition, profile, &first, &second, &mut output).map(|()| digits(&output))
-            };
+        let is_told = STORED.iter().any(|call| {
+            let [edition, profile, rule] = call.told;
+            let right = |edition| call.answer([edition, profile, rule]);
             let answer = near_miss_editions::call(slip, edition, profile, right);
-            answer.unwrap_or_else(|refusal| refusal.to_string()) != expected
+            answer.unwrap_or_else(|refusal| refusal.to_string()) != call.expected
         });
         assert!(is_told, "{slip:?}");
     }

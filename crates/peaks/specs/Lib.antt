@@ -1,0 +1,4 @@
+pub mod Lanes
+pub mod Sums
+pub mod Steps
+pub mod LeastPeaks
