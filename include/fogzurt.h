@@ -97,8 +97,8 @@ enum {
  * by rule 2 one whose running digital sum on the line stays closest to 0. That sum (the request's "swing") is,
  * after each symbol, twice the sum of the symbols so far less q - 1 for each of them; its largest size over a
  * whole word, check symbols included, is the word's peak, and rule 2 makes a word with the least peak. Both
- * are codewords of the same messages: fogzurt_decode reads either and is told no rule, and no word tells by
- * which it was made. */
+ * are codewords of the same messages: fogzurt_decode reads either, is told no rule, and does not say by which
+ * a word was made; where both rules make the same word for two messages, it cannot be told. */
 #define FOGZURT_RULE_1 1
 #define FOGZURT_RULE_2 2
 

@@ -14,7 +14,7 @@ use Rattle.code_theory.specs.Refusal.{Test, asks}
 use Rattle.code_theory.specs.Operations.{outcome, encodeTests, encodeRefusal}
 use Rattle.code_theory.specs.Claims.{Encodes}
 use Rattle.code_theory.proofs.Pair.{balance-of-pair}
-use Rattle.code_theory.proofs.LineRule.{least-peak-of-pair}
+use Rattle.code_theory.proofs.LineRule.{least-peak-of-pair, balanced-by-one}
 use Rattle.code_theory.proofs.Encoded.{encoded-carries}
 use Rattle.code_theory.proofs.Profiles.{profiles-fit}
 use Rattle.code_theory.proofs.Refusal.{past, stops}
@@ -31,7 +31,7 @@ module _ {o i l : ℕ} {a b : List ℕ} {r : Encoded} {out out′ : List ℕ} (h
 
 -- by either rule a choice is found
 takes : (r : LineRule) (p : Parameters) → Sized p → (a b : List ℕ) → Takes r p (interleaved p a b)
-takes rule1 p s a b = balance-of-pair p s a b .1
+takes rule1 p s a b = (balance-of-pair p s a b .1, balanced-by-one p (interleaved p a b))
 takes rule2 p s a b = least-peak-of-pair p s a b
 
 -- the word of a call that no number refuses

@@ -8,6 +8,7 @@ use lib.Dec.{T, eqb}
 use lib.ListN.{length}
 use Rattle.code_theory.specs.Parameters.{isEdition, Parameters, messageLength, codewordLength}
 use Rattle.code_theory.specs.Component.{symbolsBelow}
+use Rattle.code_theory.specs.Balance.{balanced}
 use Rattle.code_theory.specs.Codeword.{interleaved, withChecks, codeword, carried}
 use Rattle.code_theory.specs.LineRule.{LineRule, rule1, rule2, isLineRule, lineRuleOf, balancedBy}
 use Rattle.code_theory.specs.Profiles.{isProfile, profile, profileIn}
@@ -25,9 +26,10 @@ encodeLengthsFit i a b l =
 abbrev pub levelsFit : ℕ → List ℕ → List ℕ → Bool
 levelsFit i a b = symbolsBelow (profile i .q) a && symbolsBelow (profile i .q) b
 
--- a choice balances x, and the earliest is taken (01); 02: under rule 2 the earliest of those with the least peak
+-- a choice balances x, and the earliest is taken (01), so that rule 1's w is that one's; 02: under rule 2 the earliest of those with the
+-- least peak
 abbrev pub Takes : LineRule → Parameters → List ℕ → Type 0
-Takes rule1 p x = Balanced p x
+Takes rule1 p x = Balanced p x × (balancedBy rule1 p x ≡ balanced p x)
 Takes rule2 p x = LeastPeak p x
 
 -- u is the word that 01 asks for, by line rule l (02, T-06)
