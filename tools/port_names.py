@@ -91,7 +91,7 @@ def library(root):
 
 
 def is_function_proof(p):
-    return os.path.basename(p) in ("Proof.antt", "Invariants.antt", "Answers.antt", "Needs.antt")
+    return os.path.basename(p) in ("Proof.antt", "Invariants.antt", "Answers.antt") and os.path.basename(os.path.dirname(p)) != "proofs"
 
 
 def main(argv):
@@ -142,12 +142,12 @@ def main(argv):
     for p in texts(inside, (".rt",)):
         functions |= set(re.findall(r"\bfn (\w+)", read(p)))
 
-    def turn(text, local={}):
+    def turn(text, local={}, steps=False):
         def one(m):
             w = m[0]
             core = w.strip("◌")
             # a step of a function's proof, named after the function that is called
-            if m.start() and text[m.start() - 1] == "." and core.replace("-", "_") in functions:
+            if steps and m.start() and text[m.start() - 1] == "." and core.replace("-", "_") in functions:
                 return w.replace("-", "_")
             if core in local:
                 return w.replace(core, local[core])
@@ -155,15 +155,15 @@ def main(argv):
 
         return WORD.sub(one, text)
 
-    def turn_lines(text, comment, local={}):
+    def turn_lines(text, comment, local={}, steps=False):
         out = []
         for line in text.split("\n"):
             k = line.find(comment)
             if k < 0:
-                out.append(turn(line, local))
+                out.append(turn(line, local, steps))
             else:
                 # in a comment only what can be no English word
-                out.append(turn(line[:k], local) + turn_page(line[k:]))
+                out.append(turn(line[:k], local, steps) + turn_page(line[k:]))
         return "\n".join(out)
 
     def turn_page(text):
@@ -185,7 +185,7 @@ def main(argv):
                 line = re.search(r"(?m)^(?:pub |abbrev |unfoldable )*" + re.escape(n) + r" :(.*)$", t)
                 if line and not re.search(r"\b(tie|goal|statement)\b", line[1]) and wanted(n) != n and not n.endswith("-spec"):
                     local[n] = wanted(n)
-        u = turn_lines(t, "--", local)
+        u = turn_lines(t, "--", local, is_function_proof(p))
         if u != t:
             changed += 1
             with open(p, "w", encoding="utf-8") as f:

@@ -33,13 +33,13 @@ module _ (i : ℕ) (u a b a' b' : List ℕ) (r : Report) (tells : r ≡ uncounte
   abbrev d : Answer
   d = decode_answer line_edition i u (length a) (length b)
 
-  pub small-shown : Small r a' b'
-  small-shown = rw (tells, first, second) (small_report d a b (decode_small line_edition i u (length a) (length b)))
+  pub small_shown : Small r a' b'
+  small_shown = rw (tells, first, second) (small_report d a b (decode_small line_edition i u (length a) (length b)))
 
-  pub shown-answer : length a ≡ message_length (profile i) → length b ≡ message_length (profile i)
+  pub shown_answer : length a ≡ message_length (profile i) → length b ≡ message_length (profile i)
       → shown_line i r a' b' ≡ answer_line i (read_answer i u)
   unfolding read_answer
-  shown-answer e f = rw (tells, first, second) (line_shown i d a b ∙ rw (e, f))
+  shown_answer e f = rw (tells, first, second) (line_shown i d a b ∙ rw (e, f))
 
 -- a number that is no profile's has messages of no symbols
 pub message_none : (i : ℕ) → is_profile i ≡ false → (0 ≡ message_length (profile i)) × (0 ≤ 45)

@@ -38,7 +38,8 @@ offset_first q x s =
 integrate_shifted : {q n : ℕ} (m s : ℕ) (x : List ℕ) → Congruent q n (m + s)
     → n % q ∷ integrate q (n % q) x ≡ shifted q s (m % q ∷ integrate q (m % q) x)
 integrate_shifted m s [] h = ap (λ (a : ℕ). a ∷ []) (offset m s h).same
-integrate_shifted {q} m s (x ∷ xs) h = ap₂ ◌∷◌ (offset m s h).same (integrate_shifted (m % q + x) s xs (offset_next m s x h))
+integrate_shifted {q} {n} m s (x ∷ xs) h =
+    ap₂ ◌∷◌ (offset m s h).same (integrate_shifted {n = n % q + x} (m % q + x) s xs (offset_next m s x h))
 
 -- and are s + 1 apart from the index on at which 1 is added
 integrate_shifted_from : {q n : ℕ} (m s : ℕ) (x : List ℕ) (i : ℕ) → i < length x → Congruent q n (m + s)
@@ -46,8 +47,8 @@ integrate_shifted_from : {q n : ℕ} (m s : ℕ) (x : List ℕ) (i : ℕ) → i 
 integrate_shifted_from m s [] i l h = absurd (not-suc-le-zero l)
 integrate_shifted_from {q} {n} m s (x ∷ xs) zero l h =
     ap₂ ◌∷◌ (offset m s h).same (integrate_shifted (m % q + x) (suc s) xs (offset_one (m % q + x) (n % q) s x (offset_next m s x h)))
-integrate_shifted_from {q} m s (x ∷ xs) (suc i) l h =
-    ap₂ ◌∷◌ (offset m s h).same (integrate_shifted_from (m % q + x) s xs i (le_of_suc-le-suc l) (offset_next m s x h))
+integrate_shifted_from {q} {n} m s (x ∷ xs) (suc i) l h =
+    ap₂ ◌∷◌ (offset m s h).same (integrate_shifted_from {n = n % q + x} (m % q + x) s xs i (le_of_suc-le-suc l) (offset_next m s x h))
 
 pub chosen_shifted : (p : Parameters) (x : List ℕ) (s i : ℕ) → i < length x
     → chosen (in_edition edition13 p) x s (suc i) ≡ shifted_from p.q s i (integrate p.q 0 x)

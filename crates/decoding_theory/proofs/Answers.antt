@@ -29,9 +29,9 @@ pub record Tests (p : Parameters) (u : List ℕ) : Type 0 where
   pub near : T (has_components p u)
 
 module _ (p : Parameters) (u : List ℕ) where
-  pub codeword-tests : T (codeword p u) → Tests p u
+  pub codeword_tests : T (codeword p u) → Tests p u
   unfolding codeword is_balanced check_sum_agrees has_checks
-  codeword-tests h =
+  codeword_tests h =
       let (a, b, c, d) = and_parts (is_word p.q (codeword_length p) u) (is_balanced p u) (has_checks p u) (has_components p u) h in
       record { word = a; weighs = eqb→eq _ _ b; checks = checks c; near = d }
     where
@@ -40,9 +40,9 @@ module _ (p : Parameters) (u : List ℕ) where
       checks c true = sym (eqb→eq _ _ (and_left (check_sum_agrees p true u) (check_sum_agrees p false u) c))
       checks c false = sym (eqb→eq _ _ (and_right (check_sum_agrees p true u) (check_sum_agrees p false u) c))
 
-  pub tests-codeword : Tests p u → T (codeword p u)
+  pub tests_codeword : Tests p u → T (codeword p u)
   unfolding codeword is_balanced check_sum_agrees has_checks
-  tests-codeword t =
+  tests_codeword t =
       and_four (is_word p.q (codeword_length p) u) (is_balanced p u) (has_checks p u) (has_components p u) t.word (eq_test t.weighs)
       (and_intro (check_sum_agrees p true u) (check_sum_agrees p false u) (eq_test (sym (t.checks true))) (eq_test (sym (t.checks false))))
       t.near
@@ -54,12 +54,12 @@ module _ (p : Parameters) (s : Sized p) (one : OneNear p) (v : List ℕ) (w : T 
   long : length v ≡ codeword_length p
   long = word_length p.q (codeword_length p) v w
 
-  pub reads-sent : T (codeword p v) → reading p v ≡ read_as p clean v
-  reads-sent h = law.sent v (near_self p s one v w h) ∙ ap (λ (f : Finding). read_as p f v) (found_clean v)
+  pub reads_sent : T (codeword p v) → reading p v ≡ read_as p clean v
+  reads_sent h = law.sent v (near_self p s one v w h) ∙ ap (λ (f : Finding). read_as p f v) (found_clean v)
 
-  pub reads-changed : (i y : ℕ) → i < codeword_length p → y ≢ get_or v i 0 → T (mends p v i y)
+  pub reads_changed : (i y : ℕ) → i < codeword_length p → y ≢ get_or v i 0 → T (mends p v i y)
       → reading p v ≡ read_as p (corrected (correction_at i (get_or v i 0) y)) (set v i y)
-  reads-changed i y l ne h =
+  reads_changed i y l ne h =
       law.sent (set v i y) (near_mends p s one v w i y h)
       ∙ ap (λ (f : Finding). read_as p f (set v i y)) (found_sent v i y (subst (λ (k : ℕ). i < k) (sym long) l) ne)
 
@@ -69,7 +69,7 @@ module _ (p : Parameters) (s : Sized p) (one : OneNear p) (v : List ℕ) (w : T 
     where
       near : (u : List ℕ) → NearCodeword p v u → ⊥
       near u n =
-          let word : T (is_word p.q (codeword_length p) u) = (codeword-tests p u n.is_codeword).word in
+          let word : T (is_word p.q (codeword_length p) u) = (codeword_tests p u n.is_codeword).word in
           let size : length u ≡ codeword_length p = word_length p.q (codeword_length p) u word in
           ⊎_elim (λ (e : u ≡ v). f (subst (λ (x : List ℕ). T (codeword p x)) e n.is_codeword))
           (λ (c : OneApart u v).

@@ -79,8 +79,8 @@ module _ (p : Parameters) (s : Sized p) (k : ℕ) (law : Fills p k) (v : List �
       let h : T (fillable p d t) = holds _ e in
       let ys : List ℕ = wanted p.q d t ∷ [] in
       rw (e, fill_one)
-      (wanted_read p s word m at o.is_zero h (filled (changes_by (i ∷ []) ys))
-      ∙ sym (filled_reading_lem (i ∷ []) o.found ys refl (wanted_codeword p s word m at o.is_zero h))))
+      (wanted_read p s word m at o.is_zero_lem h (filled (changes_by (i ∷ []) ys))
+      ∙ sym (filled_reading_lem (i ∷ []) o.found ys refl (wanted_codeword p s word m at o.is_zero_lem h))))
       (λ e. rw (e, fill_one) (sym (none_reading (i ∷ []) o.found (none e))))
     where
       d : Erased
@@ -92,7 +92,7 @@ module _ (p : Parameters) (s : Sized p) (k : ℕ) (law : Fills p k) (v : List �
       none : fillable p d t ≡ false → (ys : List ℕ) → length ys ≡ 1 → Below p.q ys
           → T (codeword p (set_all (i ∷ []) ys u)) → ⊥
       none e [] l b h = omega arith
-      none e (y ∷ []) l b h = false_test e (codeword_fillable p s word m at o.is_zero y (b 0) h)
+      none e (y ∷ []) l b h = false_test e (codeword_fillable p s word m at o.is_zero_lem y (b 0) h)
       none e (y ∷ z ∷ ys) l b h = omega arith
 
   two_reading : (i j : ℕ) → TwoAt v i j

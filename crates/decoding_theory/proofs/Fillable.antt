@@ -21,7 +21,7 @@ use Rattle.decoding_theory.specs.Decoded.{Sums, read_by, agrees}
 use Rattle.decoding_theory.specs.Filled.{Erased, in_body, as_check, sums_with, consistent, codeword_sums, wanted, fillable}
 use Rattle.decoding_theory.proofs.Tests.{and_three, three_parts, for_both}
 use Rattle.decoding_theory.proofs.Components.{read_by_lem}
-use Rattle.decoding_theory.proofs.Answers.{Tests, codeword-tests, tests-codeword}
+use Rattle.decoding_theory.proofs.Answers.{Tests, codeword_tests, tests_codeword}
 use Rattle.decoding_theory.proofs.Changed.{Summed, weighs_target, no_excess, update_here}
 use Rattle.decoding_theory.proofs.Fits.{word_set}
 use Rattle.decoding_theory.proofs.Nearby.{near_is}
@@ -56,7 +56,7 @@ codeword_sums_test p t c =
 module _ (p : Parameters) (s : Sized p) {v : List ℕ} (w : T (is_word p.q (codeword_length p) v)) {t : Sums} (m : Summed p v t) where
   sums_codeword : CodewordSums p t → T (codeword p v)
   sums_codeword c =
-      tests-codeword p v
+      tests_codeword p v
       (record {
         word = w;
         weighs = weighs_target m c.balanced;
@@ -66,7 +66,7 @@ module _ (p : Parameters) (s : Sized p) {v : List ℕ} (w : T (is_word p.q (code
 
   codeword_has_sums : T (codeword p v) → CodewordSums p t
   codeword_has_sums h =
-      let c : Tests p v = codeword-tests p v h in
+      let c : Tests p v = codeword_tests p v h in
       record {
         balanced = no_excess m c.weighs;
         checks = λ b. m.asked b ∙ c.checks b ∙ sym (m.arrived b);

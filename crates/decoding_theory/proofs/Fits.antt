@@ -25,7 +25,7 @@ use Rattle.decoding_theory.specs.Syndromes.{index}
 use Rattle.decoding_theory.specs.Decoded.{check_symbol, check_index, Sums, target, lack, balancing_symbol}
 use Rattle.decoding_theory.specs.Decoded.{in_range, off_by_lack, near_after, fits, position_count}
 use Rattle.decoding_theory.proofs.Tests.{and_three, three_parts, for_both}
-use Rattle.decoding_theory.proofs.Answers.{Tests, codeword-tests, tests-codeword}
+use Rattle.decoding_theory.proofs.Answers.{Tests, codeword_tests, tests_codeword}
 use Rattle.decoding_theory.proofs.Changed.{index_within, weight_body_set, checks_kept, Summed}
 use Rattle.decoding_theory.proofs.Changed.{weighs_target, lack_gained, changed, changed_check, kept_check, changed_near}
 
@@ -67,7 +67,7 @@ module _ (p : Parameters) (s : Sized p) {v : List ℕ} (w : T (is_word p.q (code
 
   pub fit_codeword : Fit p t b k (get_or v (index b k) 0) y → t.asked (not b) ≡ t.arrived (not b) → T (codeword p (set v (index b k) y))
   fit_codeword f a =
-      tests-codeword p (set v (index b k) y)
+      tests_codeword p (set v (index b k) y)
       (record {
         word = word_set p v (index b k) y w f.below;
         weighs = weighs_target (changed p s long m b k y l f.balances) refl;
@@ -81,7 +81,7 @@ module _ (p : Parameters) (s : Sized p) {v : List ℕ} (w : T (is_word p.q (code
   -- and back, where y is another symbol than the one that arrived
   module _ (h : T (codeword p (set v (index b k) y))) (below : y < p.q) (ne : y ≢ get_or v (index b k) 0) where
     tests : Tests p (set v (index b k) y)
-    tests = codeword-tests p (set v (index b k) y) h
+    tests = codeword_tests p (set v (index b k) y) h
 
     pub balances : pos (get_or v (index b k) 0) -ℤ t.excess ≡ pos y
     balances =

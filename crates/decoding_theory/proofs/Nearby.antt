@@ -18,7 +18,7 @@ use Rattle.code_theory.proofs.Merge.{word_length}
 use Rattle.decoding_theory.specs.Syndromes.{near_syndromes, index}
 use Rattle.decoding_theory.specs.Decoded.{check_symbol, check_index, Sums, fits, position_count}
 use Rattle.decoding_theory.proofs.Components.{components_test}
-use Rattle.decoding_theory.proofs.Answers.{Tests, codeword-tests, reads_none}
+use Rattle.decoding_theory.proofs.Answers.{Tests, codeword_tests, reads_none}
 use Rattle.decoding_theory.proofs.Changed.{OfParity, of_parity, in_parity, index_cases, body_kept, other_kept, Summed, no_excess}
 use Rattle.decoding_theory.proofs.Fits.{unbalanced, other_agrees, own_disagrees, codeword_fit}
 
@@ -46,12 +46,12 @@ module _ (p : Parameters) (s : Sized p) {v : List ℕ} (w : T (is_word p.q (code
 
   sent_nearby : T (codeword p v) → Nearby p t v
   sent_nearby h =
-      let c : Tests p v = codeword-tests p v h in
+      let c : Tests p v = codeword_tests p v h in
       as_sent (no_excess m c.weighs) (subst T (sym near_is) c.near) (λ b. m.asked b ∙ c.checks b ∙ sym (m.arrived b))
 
   check_nearby : (b : Bool) (y : ℕ) → T (codeword p (set v (check_index p b) y)) → Nearby p t v
   check_nearby b y h =
-      let c : Tests p (set v (check_index p b) y) = codeword-tests p (set v (check_index p b) y) h in
+      let c : Tests p (set v (check_index p b) y) = codeword_tests p (set v (check_index p b) y) h in
       let e : body p v ≡ body p (set v (check_index p b) y) = sym (body_kept p v b y) in
       check_changed b (no_excess m (ap weight e ∙ c.weighs)) (subst T (components_kept p v b y ∙ sym near_is) c.near)
       (m.asked (not b) ∙ ap (check_symbol p.q (not b)) e ∙ c.checks (not b) ∙ other_kept p v b y ∙ sym (m.arrived (not b)))

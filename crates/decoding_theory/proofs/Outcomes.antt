@@ -26,7 +26,7 @@ use Rattle.decoding_theory.specs.Decoded.{check_symbol, check_index, Sums, balan
 use Rattle.decoding_theory.specs.Decoded.{fits, position_count, read_by, read_fit, decoded_check, moved_sums, lack}
 use Rattle.decoding_theory.proofs.Tests.{for_both}
 use Rattle.decoding_theory.proofs.Components.{read_by_lem}
-use Rattle.decoding_theory.proofs.Answers.{Tests, tests-codeword, reads-sent, reads-changed}
+use Rattle.decoding_theory.proofs.Answers.{Tests, tests_codeword, reads_sent, reads_changed}
 use Rattle.decoding_theory.proofs.Changed.{index_within, check_within, body_kept, other_kept, Summed, weighs_target, changed}
 use Rattle.decoding_theory.proofs.Fits.{Fit, fit, word_set, fit_codeword}
 use Rattle.decoding_theory.proofs.Nearby.{Nearby, as_sent, check_changed, body_changed}
@@ -56,8 +56,8 @@ module _ (p : Parameters) (s : Sized p) (one : OneNear p) {v : List ℕ} (w : T 
   pub clean_reading : t.excess ≡ pos 0 → T (near_syndromes p t.first t.second) → ((b : Bool) → t.asked b ≡ t.arrived b)
       → reading p v ≡ read_by p clean v t.first t.second
   clean_reading a n r =
-      reads-sent p s one v w
-      (tests-codeword p v
+      reads_sent p s one v w
+      (tests_codeword p v
       (record {
         word = w;
         weighs = weighs_target m a;
@@ -71,7 +71,7 @@ module _ (p : Parameters) (s : Sized p) (one : OneNear p) {v : List ℕ} (w : T 
       → t.asked b ≢ t.arrived b → reading p v ≡ decoded_check p t b v
   unfolding decoded_check mends
   check_reading b a n r ne =
-      reads-changed p s one v w i y (check_within p b) (λ e. ne (e ∙ sym (m.arrived b))) (tests-codeword p u tests)
+      reads_changed p s one v w i y (check_within p b) (λ e. ne (e ∙ sym (m.arrived b))) (tests_codeword p u tests)
       ∙ ap₂ (read (corrected (correction_at i (get_or v i 0) y))) (carried_kept p v b y true) (carried_kept p v b y false)
       ∙ ap (λ (x : ℕ). read_as p (corrected (correction_at i x y)) v) (sym (m.arrived b))
       ∙ sym (read_here (corrected (correction_at i (t.arrived b) y)) n)
@@ -106,7 +106,7 @@ module _ (p : Parameters) (s : Sized p) (one : OneNear p) {v : List ℕ} (w : T 
       → T (fits p t b k (get_or v (index b k) 0)) → reading p v ≡ read_fit p t b k v
   unfolding read_fit near_after mends
   fit_reading b k l a r f =
-      reads-changed p s one v w i y inside differs (fit_codeword p s w m b k y l g r)
+      reads_changed p s one v w i y inside differs (fit_codeword p s w m b k y l g r)
       ∙ sym (read_by_lem p s (set v i y) (length-set v i y ∙ long) moved.first moved.second found g.near)
     where
       i : ℕ

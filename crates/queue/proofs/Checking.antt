@@ -19,7 +19,7 @@ use Rattle.queue_theory.specs.Chains.{used, last_used}
 use Rattle.queue_theory.specs.Sound.{Queue}
 use Rattle.queue_theory.specs.Operations.{sound_tests, cell_of}
 use Rattle.queue_theory.proofs.Lists.{lists_of, fill}
-use Rattle.queue_theory.proofs.Answers.{queue-by}
+use Rattle.queue_theory.proofs.Answers.{queue_by}
 use Rattle.queue_theory.proofs.Laws.{length_records}
 use Rattle.queue_theory.proofs.Rule.{found_same}
 use Rattle.soundness.specs.declared.Checked.{Checked}
@@ -58,7 +58,7 @@ module _ (s : List ℕ) (k : ℕ) where
   either = go (first_refusal (sound_tests s)) refl
     where
       go : (n : ℕ) → first_refusal (sound_tests s) ≡ n → (Queue s × (check_answer s k ≡ found)) ⊎ Refused s (check_answer s k).number
-      go zero e = inl (queue-by s e, ap report_by e)
+      go zero e = inl (queue_by s e, ap report_by e)
       go (suc n) e =
           let refuses : first_refusal (sound_tests s) ≢ 0 = λ z. suc-ne-zero n (sym e ∙ z) in
           inr (record { nonzero = refuses; answer = λ own. sym (refused_first (sound_tests s) own refuses) })

@@ -23,7 +23,7 @@ use Rattle.queue_theory.specs.Model.{Call, enqueue, peek, dequeue, reply, queue_
 use Rattle.queue_theory.specs.Model.{list_reply, list_after}
 use Rattle.queue_theory.specs.Claims.{AnswersAsList, ListRule, ListRuleFrom}
 use Rattle.queue_theory.proofs.Lists.{Lists, lists_of, fill}
-use Rattle.queue_theory.proofs.Answers.{nonzero, on-sound, showing}
+use Rattle.queue_theory.proofs.Answers.{nonzero, on_sound, showing}
 use Rattle.queue_theory.proofs.Laws.{starts_at, empty, length_records, get_d_within, enqueue_law, shown_record_lem, dequeue_law}
 use Rattle.queue_theory.proofs.Format.{format_law}
 
@@ -61,7 +61,7 @@ module _ (s : List ℕ) (q : Queue s) where
       → enqueue_answer s b p w ≡ first_refusal (enqueue_tests (ltb (length (records s)) (capacity s)) b p w)
   unfolding enqueue_answer
   enqueue_answer_lem b p w =
-      on-sound s (enqueue_tests (not (eqb (first_free s) 0)) b p w) q
+      on_sound s (enqueue_tests (not (eqb (first_free s) 0)) b p w) q
       ∙ ap (λ (room : Bool). first_refusal (enqueue_tests room b p w)) room_same
 
   enqueue_step : (b p : ℕ) (w : List ℕ) (n : ℕ) → enqueue_answer s b p w ≡ n
@@ -98,7 +98,7 @@ module _ (s : List ℕ) (q : Queue s) where
   peek_answer_lem : (k : ℕ) (out : List ℕ) → peek_answer s k out ≡ first_refusal (show_tests (has_record (records s) k) out)
   unfolding peek_answer
   peek_answer_lem k out =
-      on-sound s (show_tests (not (eqb (cell_of s k) 0)) out) q
+      on_sound s (show_tests (not (eqb (cell_of s k) 0)) out) q
       ∙ ap (λ (found : Bool). first_refusal (show_tests found out)) (found_same k)
 
   peek_output_lem : (k : ℕ) (out : List ℕ) (n : ℕ) → peek_answer s k out ≡ n

@@ -15,7 +15,7 @@ use Rattle.queue_theory.specs.Layout.{first_free}
 use Rattle.queue_theory.specs.Sound.{record_of}
 use Rattle.queue_theory.specs.Operations.{record_tests, room_tests, enqueue_tests, enqueued, enqueue_answer, enqueue_queue}
 use Rattle.queue_theory.proofs.Lists.{size_of}
-use Rattle.queue_theory.proofs.Answers.{Entering, on-sound, entering}
+use Rattle.queue_theory.proofs.Answers.{Entering, on_sound, entering}
 use Rattle.soundness.specs.Checked.{checked_report}
 use Rattle.queue.specs.declared.Answer.{Answer}
 use Rattle.queue.specs.declared.Answer.TheVariants.{Full}
@@ -85,7 +85,7 @@ refused s b p w a d e = record { answer = e; queue = kept _ _ s (λ z. d (e ∙ 
 -- the answer of a sound queue
 answer : (c : tie.After-known-told) → first_refusal (own (begin c)) ≡ answer_of_lem (begin c)
 unfolding enqueue_answer
-answer c = sym (on-sound (S (begin c)) (own (begin c)) (told c).queue)
+answer c = sym (on_sound (S (begin c)) (own (begin c)) (told c).queue)
 
 abbrev asked : tie.After-slice-known2 → tie.After-known-told
 asked c = c.before.before.before.before

@@ -13,7 +13,7 @@ use Rattle.modular_theory.proofs.Search.{eq_test, and_right, holds}
 use Rattle.code_theory.specs.Refusal.{Test, asks, first_refusal}
 use Rattle.code_theory.proofs.Refusal.{past, stops, kept, wrote}
 use Rattle.queue_theory.specs.Operations.{show_tests, cell_of, peek_answer, peek_output}
-use Rattle.queue_theory.proofs.Answers.{on-sound, showing}
+use Rattle.queue_theory.proofs.Answers.{on_sound, showing}
 use Rattle.cells.specs.Cells.{shown_at}
 use Rattle.cells.proofs.Cells.{shows}
 use Rattle.soundness.specs.Checked.{checked_report}
@@ -83,7 +83,7 @@ unfolding peek_answer
 answer c =
     let a = begin c in
     ap (λ (found : Bool). first_refusal (show_tests found (O a))) (found_is (S a) (K a) (cell_of_lem c) (count_of c) (told c))
-    ∙ sym (on-sound (S a) (own a) (told c).queue)
+    ∙ sym (on_sound (S a) (own a) (told c).queue)
 
 -- the moment at which a record is there to show
 abbrev hitting : tie.Then2 → tie.After-known-told

@@ -2,7 +2,7 @@
 -- Assumes nothing.
 use Rattle.std.proofs.Common.{rules}
 use Rattle.profiles.proofs.Table.{row_found, none_found, message_is, message_short}
-use Rattle.answers.proofs.Answers.{message-none}
+use Rattle.answers.proofs.Answers.{message_none}
 use Rattle.answers.proofs.respond.message_length.Statement.{statement}
 use Rattle.answers.proofs.respond.message_length.Tie as tie
 
@@ -16,7 +16,7 @@ enum_told : tie.Need-enum-told
 enum_told c = search rules
 
 returns : tie.Need-returns
-returns c = message-none _ (none_found _ _ c.before.before.row_of.ensures c.enum_told.given.1)
+returns c = message_none _ (none_found _ _ c.before.before.row_of.ensures c.enum_told.given.1)
 
 returns-2 : tie.Need-returns-2
 returns-2 c =

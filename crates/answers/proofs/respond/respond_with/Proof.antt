@@ -2,7 +2,7 @@
 -- the line.
 -- Assumes nothing.
 use Rattle.std.proofs.Common.{arith, rules}
-use Rattle.answers.proofs.Answers.{small-shown, shown-answer}
+use Rattle.answers.proofs.Answers.{small_shown, shown_answer}
 use Rattle.answers.proofs.respond.respond_with.Statement.{statement}
 use Rattle.answers.proofs.respond.respond_with.Tie as tie
 
@@ -23,7 +23,7 @@ write-decoded-requires c κs =
     let e = d.syndrome_decode.ensures in
     let kept = d.syndrome_decode.kept.1.1.1 in (
       (small.0, small.1, omega (arith, kept.0, small.2, first_long), omega (arith, kept.1.0, small.2, second_long)),
-      small-shown a.profile a.word.now a.first.now a.second.now _ _ _ e.answer e.first_out e.second_out,
+      small_shown a.profile a.word.now a.first.now a.second.now _ _ _ e.answer e.first_out e.second_out,
     )
 
 same_length : tie.Need-same-length
@@ -43,7 +43,7 @@ returns c =
     let a = (start d).args in
     let e = d.syndrome_decode.ensures in
     let shown =
-    shown-answer a.profile a.word.now a.first.now a.second.now _ _ _ e.answer e.first_out e.second_out
+    shown_answer a.profile a.word.now a.first.now a.second.now _ _ _ e.answer e.first_out e.second_out
     first_long second_long in
     rw shown at written.write_decoded.ensures
 

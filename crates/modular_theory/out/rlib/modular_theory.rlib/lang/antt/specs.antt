@@ -1,5 +1,0 @@
-pub mod Search
-pub mod Sum
-pub mod Residue
-pub mod Level
-pub mod Digits
