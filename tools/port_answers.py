@@ -167,7 +167,15 @@ def turn(p, text, rel, crate, it):
     inv_names = set(inv)
 
     def steps_in(s):
-        s = re.sub(r"(?<=\.)(" + T + ")", lambda m: steps.get(norm(m[1]), m[1]), s)
+        # a step follows a place: a variable, a call of a helper, or `before`
+        def step(m):
+            above = m[1].rsplit(".", 1)
+            if len(above) == 2 and above[1] != "before":
+                return m[0]
+            return m[1] + "." + steps.get(norm(m[2]), m[2])
+
+        s = re.sub(r"((?<![^\s(){}\[\];,:`])(?:[^\s(){}\[\];,.:λ`]+|(?<=\)))(?:\.before)*)\.(" + T + ")", step, s)
+        s = re.sub(r"(\)(?:\.before)*)\.(" + T + ")", lambda m: m[1] + "." + steps.get(norm(m[2]), m[2]), s)
 
         # a step is a field of each later place
         def flat(m):
@@ -197,6 +205,9 @@ def turn(p, text, rel, crate, it):
                 return f".{m[1]}.ensures.{f[int(m[2])]}" if int(m[2]) < len(f) else m[0]
             return f".{m[1]}.ensures.{f[0]}" if len(f) == 1 else m[0]
 
+        # a condition `!x` says now what x is
+        s = re.sub(r"\bnot[-_](true|false) _ \(?((?:[^\s(){}\[\];,]+\.)?if-not-[^.\s()]+\.(?:true|false))", lambda m: m[2], s)
+        s = re.sub(r"\bnot[-_](true|false) _ ([^\s(){}\[\];,]+\.if-not-[^.\s()]+\.(?:true|false))", lambda m: m[2], s)
         s = re.sub(r"\.pre(?![\w'-])", ".requires", s)
         s = re.sub(r"\.inv(?![\w'-])", ".invariant", s)
         s = re.sub(r"\.fits\.(?!sfits)", ".ranges.", s)
@@ -208,6 +219,103 @@ def turn(p, text, rel, crate, it):
                 s = re.sub(r"(?<![\w.'-])" + re.escape(m[1]) + r"\.ensures(?!\.[a-z0-9])", f"{m[1]}.ensures.{f[0]}", s)
         s = re.sub(r"\.(" + T + r")\.ensures(?:\.(\d)\b)?(?!\.[a-z])", clause, s)
         return s
+
+    # helpers over a place: by name the place that they take first and the place that they give
+    PLACE = r"tie\.(" + T + r")(?:[ \n]+[\w-]+)*?"
+    takes, gives = {}, {}
+
+    def place_of(w):
+        return places.get(norm(w))
+
+    def learn(sig_name, sig, outer=None):
+        q = re.match(r"\s*\((" + T + r") : " + PLACE + r"\)", sig) or re.match(r"\s*()" + PLACE + r"\s*→", sig)
+        if outer:
+            takes.setdefault(sig_name, outer)
+        elif q and place_of(q[2]):
+            takes.setdefault(sig_name, place_of(q[2]))
+        r = re.search(r"(?:→|^)\s*" + PLACE + r"\s*$", sig)
+        if r and place_of(r[1]):
+            gives.setdefault(sig_name, place_of(r[1]))
+
+    def signatures(text, indent):
+        for m in re.finditer(r"(?m)^" + indent + r"(?:abbrev |pub |unfoldable )*(" + T + r") : ((?:.|\n" + indent + r"\s)*?)$(?!\n" + indent + r"\s)", text):
+            yield m[1], m[2]
+
+    for d in joined:
+        if d["text"].startswith("module "):
+            q = re.match(r"module _ \((" + T + r") : " + PLACE + r"\)", d["text"])
+            for nm, sig in signatures(d["text"], "  "):
+                learn(nm, sig, place_of(q[2]) if q else None)
+        elif d["name"] not in inv and d["name"] not in goal_of:
+            for nm, sig in signatures(d["text"], ""):
+                learn(nm, sig)
+
+    def placed(text, roots):
+        """Writes each place by its name: what a helper is given, and what one gives back."""
+        roots = dict(roots)
+        for m in re.finditer(r"\blet (" + T + r") = (" + T + r")((?:\.before)*) in", text):
+            if m[2] in roots and m[1] not in roots:
+                roots[m[1]] = roots[m[2]]
+
+        def at(var, want):
+            kind, where_, v = roots[var]
+            if kind == "place" and where_ == want and v == var:
+                return v
+            used_places.add(want)
+            if kind == "place":
+                used_places.add(where_)
+            return f"(goal.at.{where_} {v}).{want}"
+
+        for nm, want in takes.items():
+            def one(m):
+                if m[2] not in roots:
+                    return m[0]
+                kind, where_, v = roots[m[2]]
+                if kind == "place" and where_ == want and v == m[2] and not m[3]:
+                    return m[0]
+                return m[1] + at(m[2], want)
+
+            text = re.sub(r"((?<![\w.'-])" + re.escape(nm) + r"[ \n]+)(" + T + r")((?:\.before)*)(?![\w.'-])", one, text)
+        return text
+
+    def helper(text):
+        """A helper's or a module's text, with its places by name."""
+        if text.startswith("module "):
+            q = re.match(r"module _ \((" + T + r") : " + PLACE + r"\)", text)
+            if not q or not place_of(q[2]):
+                return text
+            root = {q[1]: ("place", place_of(q[2]), q[1])}
+            out_, last = [], None
+            for line in text.split("\n"):
+                m = re.match(r"  (?:abbrev |pub )*(" + T + r") : " + PLACE + r"\s*$", line)
+                if m and place_of(m[2]):
+                    last = (m[1], place_of(m[2]))
+                m = re.match(r"  (" + T + r") = (" + T + r")((?:\.before)*)\s*$", line)
+                if m and last and m[1] == last[0] and m[2] == q[1]:
+                    want = last[1]
+                    if want != root[q[1]][1] or m[3]:
+                        used_places.update((want, root[q[1]][1]))
+                        line = f"  {m[1]} = (goal.at.{root[q[1]][1]} {q[1]}).{want}"
+                out_.append(line)
+            return placed("\n".join(out_), root)
+        roots = {}
+        sig = next(iter(signatures(text, "")), None)
+        if sig:
+            binders = re.findall(r"\((" + T + r") : " + PLACE + r"\)", sig[1])
+            for v, w in binders:
+                if place_of(w):
+                    roots[v] = ("place", place_of(w), v)
+            if not binders:
+                m = re.match(r"\s*" + PLACE + r"\s*→", sig[1])
+                c = re.search(r"(?m)^" + re.escape(sig[0]) + r" (" + T + r")\b.*=", text)
+                if m and c and place_of(m[1]):
+                    roots[c[1]] = ("place", place_of(m[1]), c[1])
+            want = gives.get(sig[0])
+            m = re.search(r"(?m)^" + re.escape(sig[0]) + r" (" + T + r") = (" + T + r")((?:\.before)*)\s*$", text)
+            if want and m and m[1] == m[2] and m[2] in roots and (roots[m[2]][1] != want or m[3]):
+                used_places.update((want, roots[m[2]][1]))
+                text = text[: m.start()] + f"{sig[0]} {m[1]} = (goal.at.{roots[m[2]][1]} {m[2]}).{want}" + text[m.end():]
+        return placed(text, roots)
 
     answers, helpers = [], []
     bodies_of_all = [d["text"] for d in joined]
@@ -237,9 +345,11 @@ def turn(p, text, rel, crate, it):
             # the heads of its clauses are the goal's name by now
             k = re.split(r"(?m)^(" + re.escape(g) + r")(?=\s)", rest)
             rest = k[0] + "".join(k[i] + cited(k[i + 1]) for i in range(1, len(k), 2))
+            v = re.search(r"(?m)^" + re.escape(g) + r"\s+(" + T + r")\s", rest)
+            rest = placed(rest, {v[1]: ("goal", g, v[1])} if v else {})
             answers.append((d["comments"], f"pub {g} : goal.{g}\n" + steps_in(rest)))
         else:
-            answers.append((d["comments"], steps_in(cited(d["text"]))))
+            answers.append((d["comments"], steps_in(helper(cited(d["text"])))))
     out = answers
     # invariants
     inv_out = []

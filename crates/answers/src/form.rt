@@ -6,7 +6,7 @@ ghost use Rattle.answers.specs.Forms.{Valued, SymbolRead, Higher, SymbolValues, 
 use profiles::ERASURE;
 
 // 01: "A line not of this form gives 9". Of the form: its profile.
-#[derive(Drop)]
+#[derive(Clone, Copy)]
 pub(crate) enum Form {
     Good(usize),
     Bad,
@@ -30,7 +30,7 @@ fn digit_value(byte: u8) -> u8
 }
 
 // The symbol that a byte stands for. Its height is past 9 where it stands for none.
-#[derive(Drop)]
+#[derive(Clone, Copy)]
 struct Symbol {
     value: u8,
     height: u8,

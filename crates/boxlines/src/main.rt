@@ -9,7 +9,7 @@ use libc::{STDERR_FILENO, STDIN_FILENO, STDOUT_FILENO};
 use lines::State;
 
 // Whether to go on, or how the program ends.
-#[derive(Drop)]
+#[derive(Clone, Copy)]
 enum Status {
     More,
     Ended,

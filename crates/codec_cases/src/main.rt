@@ -21,7 +21,7 @@ use print::{FILL, is_untouched, print_refusal, print_word};
 use text::{field, parse_number, parse_symbols, smaller, until};
 
 // The operation that a file has cases of.
-#[derive(Drop)]
+#[derive(Clone, Copy)]
 enum Operation {
     Encode,
     Decode,

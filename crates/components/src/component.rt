@@ -12,7 +12,7 @@ use profiles::Row;
 use symbols::{Body, Syndrome};
 
 // The check symbols of a component: of position 2, and of 1, q and q².
-#[derive(Drop)]
+#[derive(Clone, Copy)]
 pub(crate) struct CheckSymbols {
     pub(crate) two: u8,
     pub(crate) one: u8,

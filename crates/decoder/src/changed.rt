@@ -16,7 +16,7 @@ use symbols::Syndromes;
 
 // Its index among the positions of the parity, how many were tried, and the syndromes once it is corrected; or that there is none, and how
 // many were tried.
-#[derive(Drop)]
+#[derive(Clone, Copy)]
 pub(crate) enum ChangedSymbol {
     At(usize, usize, Syndromes),
     Nowhere(usize),

@@ -15,7 +15,7 @@ use profiles::Row;
 use symbols::Syndromes;
 
 // How often the column comes in, in the first component and in the second.
-#[derive(Drop)]
+#[derive(Clone, Copy)]
 pub(crate) struct Factors {
     pub(crate) first: u8,
     pub(crate) second: u8,

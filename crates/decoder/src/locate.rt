@@ -18,7 +18,7 @@ use syndromes::near;
 
 // What the search for the changed symbol goes by: the sums over the word, and the parity whose check symbol disagrees, 0 for the odd
 // positions and 1 for the even ones.
-#[derive(Drop)]
+#[derive(Clone, Copy)]
 pub(crate) struct Search {
     pub(crate) row: Row,
     pub(crate) s: Totals,
@@ -26,7 +26,7 @@ pub(crate) struct Search {
 }
 
 // What is found among the positions of one parity: an index among them, or nothing; and how many were tried.
-#[derive(Drop)]
+#[derive(Clone, Copy)]
 pub(crate) enum Fit {
     At(usize, usize),
     Nothing(usize),

@@ -7,7 +7,7 @@ use crate::method::Method;
 use crate::word::{Changes, Decoded, decode_by};
 
 // What is said of a corrected symbol: its position, from 1, the symbol sent there, and the error, received minus sent.
-#[derive(Drop)]
+#[derive(Clone, Copy)]
 pub struct SymbolError {
     pub position: usize,
     pub symbol: u8,
@@ -15,7 +15,7 @@ pub struct SymbolError {
 }
 
 // What a received word is read as; the outputs hold its messages where it is clean, corrected or filled.
-#[derive(Drop)]
+#[derive(Clone, Copy)]
 pub enum SyndromeDecoded {
     Clean,
     Corrected(SymbolError),

@@ -11,7 +11,7 @@ use modular::negative;
 use profiles::Row;
 use symbols::{Checks, Syndrome, checks_of, syndromes_of, weigh};
 
-#[derive(Drop)]
+#[derive(Clone, Copy)]
 pub(crate) struct Totals {
     // The weight of the body less its balancing value.
     pub(crate) excess: i32,

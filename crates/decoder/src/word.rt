@@ -27,21 +27,21 @@ use symbols::{Syndromes, columns};
 use syndromes::{Correction, Judgement, corrected, judge_balanced};
 
 // What is said of an erased symbol that was filled: its position, from 1, and the symbol sent there.
-#[derive(Drop)]
+#[derive(Clone, Copy)]
 pub struct Change {
     pub position: usize,
     pub symbol: u8,
 }
 
 // What is said of one or two, in rising order.
-#[derive(Drop)]
+#[derive(Clone, Copy)]
 pub enum Changes {
     One(Change),
     Two(Change, Change),
 }
 
 // What a received word is read as; the outputs hold its messages where it is clean, corrected or filled.
-#[derive(Drop)]
+#[derive(Clone, Copy)]
 pub enum Decoded {
     Clean,
     Corrected(Correction),

@@ -64,7 +64,7 @@ fn raised(q: u8, d: &[u8; 97], s: u8, from: u8) -> [u8; 97]
 }
 
 // A choice by what it makes of the integral: `shift` is added to every symbol, and 1 more from position v on.
-#[derive(Drop)]
+#[derive(Clone, Copy)]
 pub(crate) struct Choice {
     pub(crate) shift: u8,
     pub(crate) v: usize,

@@ -27,7 +27,7 @@ fn check_offset(row: Row) -> usize
 }
 
 // Alpha mod q of the integral raised by 1, and what each further shift adds to it.
-#[derive(Drop)]
+#[derive(Clone, Copy)]
 struct Alphas {
     first: u8,
     step: u8,

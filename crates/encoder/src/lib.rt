@@ -12,7 +12,7 @@ use word::put;
 
 // The answer to encode, and to convert (02, T-04): the output holds the word, or the call is refused by that number and the output is as it
 // was.
-#[derive(Drop)]
+#[derive(Clone, Copy)]
 pub enum Encoded {
     Done,
     Refused(u8),

@@ -10,7 +10,7 @@ use symbols::Syndromes;
 use syndromes::near;
 
 // What erased symbols are filled with, and the syndromes then.
-#[derive(Drop)]
+#[derive(Clone, Copy)]
 pub enum Filling {
     One(u8, Syndromes),
     Two(u8, u8, Syndromes),

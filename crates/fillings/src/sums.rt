@@ -9,7 +9,7 @@ use syndromes::{plus_multiple, syndrome_plus};
 
 // What is summed over a word: what its body exceeds the balancing value by, its check symbols as the body asks for them and as received,
 // and the syndromes of its components.
-#[derive(Drop)]
+#[derive(Clone, Copy)]
 pub struct Sums {
     pub excess: i16,
     pub asked: Checks,
@@ -18,7 +18,7 @@ pub struct Sums {
 }
 
 // An erased symbol: one of the body, at an odd or an even position, with what one more of it adds to the syndromes; or a check symbol.
-#[derive(Drop)]
+#[derive(Clone, Copy)]
 pub enum Erased {
     Odd(Syndromes),
     Even(Syndromes),
@@ -27,7 +27,7 @@ pub enum Erased {
 }
 
 // The sums that are looked at before the syndromes. The excess is wide enough for two symbols more.
-#[derive(Drop)]
+#[derive(Clone, Copy)]
 pub(crate) struct Numbers {
     pub(crate) excess: i32,
     pub(crate) asked: Checks,

@@ -17,7 +17,7 @@ use symbols::Syndrome;
 use syndromes::{plus_multiple, syndrome_plus};
 
 // A position of w, from 1, or none.
-#[derive(Drop)]
+#[derive(Clone, Copy)]
 pub enum Location {
     At(usize),
     Nowhere,

@@ -14,7 +14,7 @@ use symbols::Body;
 
 // What a lane carries: the sum and the peak up to an index, the sum of the whole word, and the least cost of an index passed, with that
 // index.
-#[derive(Drop)]
+#[derive(Clone, Copy)]
 pub(crate) struct Lane {
     pub(crate) sum: u16,
     pub(crate) head: u16,

@@ -2,14 +2,14 @@
 ghost use Rattle.std.specs.Prelude.{◌≡◌};
 ghost use Rattle.profiles.specs.Edition.{looked_up_edition, edition_at};
 
-#[derive(Drop)]
+#[derive(Clone, Copy)]
 pub enum Edition {
     Of2013,
     Of2018,
 }
 
 // What a number is looked up as.
-#[derive(Drop)]
+#[derive(Clone, Copy)]
 pub enum EditionLookup {
     Known(Edition),
     // 02: number 12.

@@ -9,7 +9,7 @@ use crate::levels::{levels_or_erasures, symbols_below};
 use crate::row::Row;
 
 // What a received word is, before it is decoded.
-#[derive(Drop)]
+#[derive(Clone, Copy)]
 pub enum Screened {
     // 01: number 2 or 3; 02: number 11.
     Refused(u8),

@@ -6,7 +6,7 @@ ghost use Rattle.profiles.specs.Row.{numbers, entries, Widened, looked_up, table
 
 use crate::edition::Edition;
 
-#[derive(Drop)]
+#[derive(Clone, Copy)]
 pub struct Row {
     pub q: u8,
     pub r: usize,
@@ -26,7 +26,7 @@ pub struct Row {
 }
 
 // What a number is looked up as.
-#[derive(Drop)]
+#[derive(Clone, Copy)]
 pub enum Lookup {
     Found(Row),
     // 01: number 1.
@@ -34,7 +34,7 @@ pub enum Lookup {
 }
 
 // A row as the table has it. The table is put on the stack at each lookup, so its numbers are as small as they can be.
-#[derive(Drop)]
+#[derive(Clone, Copy)]
 pub(crate) struct Entry {
     pub(crate) q: u8,
     pub(crate) r: u8,

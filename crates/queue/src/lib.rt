@@ -11,7 +11,7 @@ use cells::CELL_SIZE;
 use soundness::{Checked, check};
 
 // What an operation answers. A refusal has changed no byte.
-#[derive(Drop)]
+#[derive(Clone, Copy)]
 pub enum Answer {
     Done,
     // 1: the profile is not 1 to 4

@@ -4,7 +4,7 @@ mod calls;
 mod text;
 
 // Where the run stands: the bytes of the line so far, the size of the queue, and whether there may be more input.
-#[derive(Drop)]
+#[derive(Clone, Copy)]
 struct Session {
     held: usize,
     size: usize,

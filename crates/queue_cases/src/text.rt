@@ -4,7 +4,7 @@ ghost use Rattle.std.specs.Prelude.{◌<◌};
 use modular::{wide, wide64};
 
 // A number, and the index after it.
-#[derive(Drop)]
+#[derive(Clone, Copy)]
 pub(crate) struct Field {
     pub(crate) value: usize,
     pub(crate) next: usize,

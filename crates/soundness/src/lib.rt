@@ -7,7 +7,7 @@ ghost use Rattle.soundness.specs.Checked.{checked_report, check_answer};
 
 use cells::is_length;
 
-#[derive(Drop)]
+#[derive(Clone, Copy)]
 pub enum Checked {
     // 01, number 5: the length is not a queue's
     WrongLength,

@@ -9,7 +9,7 @@ use crate::cell::{is_cell, is_header};
 use cells::{CELL_SIZE, capacity};
 
 // What a walk found: whether the list is good and, if so, the cell that was asked for or the last one, and how many cells there are.
-#[derive(Drop)]
+#[derive(Clone, Copy)]
 pub(crate) struct Walked {
     pub(crate) good: bool,
     pub(crate) cell: usize,

@@ -6,7 +6,7 @@ use crate::weight::Weight;
 use modular::{remainder, wide};
 
 // 01: α and β.
-#[derive(Drop)]
+#[derive(Clone, Copy)]
 pub struct Checks {
     pub alpha: u8,
     pub beta: u8,

@@ -7,7 +7,7 @@ ghost use Rattle.symbols.specs.Columns.{counted, positions, columns_of};
 pub type Matrix = [[u8; 3]; 48];
 
 // Three digits of a number, the lowest first.
-#[derive(Drop)]
+#[derive(Clone, Copy)]
 pub(crate) struct Count {
     pub(crate) first: u8,
     pub(crate) second: u8,

@@ -8,7 +8,7 @@ use crate::weight::Body;
 use modular::{remainder, wide32};
 
 // The row sums of one component: three digit rows, and the row of ones.
-#[derive(Drop)]
+#[derive(Clone, Copy)]
 pub struct Syndrome {
     pub low: u8,
     pub mid: u8,
@@ -16,14 +16,14 @@ pub struct Syndrome {
     pub ones: u8,
 }
 
-#[derive(Drop)]
+#[derive(Clone, Copy)]
 pub struct Syndromes {
     pub first: Syndrome,
     pub second: Syndrome,
 }
 
 // Row sums not yet reduced mod q.
-#[derive(Drop)]
+#[derive(Clone, Copy)]
 pub(crate) struct Unreduced {
     pub(crate) low: u32,
     pub(crate) mid: u32,

@@ -10,7 +10,7 @@ use modular::wide;
 use symbols::{Checks, Syndrome};
 
 // Clean, or one check symbol is corrected.
-#[derive(Drop)]
+#[derive(Clone, Copy)]
 pub enum Judgement {
     Clean,
     Corrected(Correction),

@@ -4,7 +4,7 @@ ghost use Rattle.syndromes.specs.Correction.{correction_of};
 
 // Its position, from 1, the symbol sent there, the error, which is the symbol received minus the symbol sent, from -(q - 1) to q - 1, and
 // how many positions were tried, this one the last; 0 for a check symbol, where none is.
-#[derive(Drop)]
+#[derive(Clone, Copy)]
 pub struct Correction {
     pub position: usize,
     pub symbol: u8,

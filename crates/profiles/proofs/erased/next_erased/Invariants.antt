@@ -1,0 +1,11 @@
+-- `profiles::erased::next_erased` meets its contract. The invariant: the symbols passed are not erased. The measure is what is left.
+-- Assumes nothing.
+use Rattle.std.proofs.Common.{◌≡◌, ◌-◌, length}
+use Rattle.profiles.specs.Refusal.{erased_from}
+use Rattle.profiles.proofs.erased.next_erased.Given as goal
+
+abbrev pub invariant-loop-i : goal.invariant-loop-i
+invariant-loop-i l = erased_from l.from l.word ≡ erased_from l.i l.word
+
+abbrev pub decreases-loop-i : goal.decreases-loop-i
+decreases-loop-i l = length l.word - l.i
