@@ -19,7 +19,7 @@ T = r"[^\s(){}\[\];,.:λ`\"«»]+"
 
 
 def norm(s):
-    return s.replace("-", "_")
+    return s.replace("-", "_").lower()
 
 
 def blocks(text):

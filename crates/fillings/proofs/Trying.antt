@@ -7,8 +7,6 @@ use Prim.Native.Nat.{ℕ, ◌<◌}
 use native.Mathlib.Omega.{arith}
 use lib.Dec.{ltb}
 use borrow.Author.Tests.{lt-ltb, le-ltb}
-use types.Run.{OneOf, miss}
-use denote.Enum.Declared.{tag_of}
 use Rattle.modular_theory.proofs.Search.{holds, le_of_not_lt, least_hit, least_is}
 use Rattle.code_theory.specs.Parameters.{Parameters}
 use Rattle.decoding_theory.specs.Decoded.{Sums}
@@ -16,19 +14,19 @@ use Rattle.decoding_theory.specs.Filled.{Erased, sums_with, fillable, Filling, f
 use Rattle.decoding_theory.proofs.Tests.{false_test}
 use Rattle.fillings.specs.declared.fill.Filling as declared
 use Rattle.fillings.specs.declared.fill.Filling.TheVariants.{One, Two, Nothing}
+use Rattle.symbols.specs.declared.sums.Syndromes.{Syndromes}
 use Rattle.fillings.specs.Filling.{filling_of}
-use Rattle.fillings.specs.contracts.fill.Filling.{the_type}
 
 -- an answer that is not one symbol
-not_one : (r : declared.Filling) → OneOf (1 ∷ 2 ∷ []) (tag_of the_type r)
+not_one : (r : declared.Filling) → ((y : ℕ) (s : Syndromes) → r ≡ One y s → ⊥)
     → {y : ℕ} {S S' : List ℕ} → filling_of r ≡ fills (y ∷ []) S S' → ⊥
-not_one (One z s) h e = miss (1 ∷ 2 ∷ []) 0 tt h
+not_one (One z s) h e = h z s refl
 not_one (Two z x s) h e = let no : ◌≡◌ {A = ℕ} 0 1 = cc in omega arith
 not_one Nothing h e = let no : ◌≡◌ {A = ℕ} 0 1 = cc in omega arith
 
 module _ (p : Parameters) (d : Erased) (t : Sums) where
   -- so the symbol that d wants does not fill it
-  pub unfilled : (r : declared.Filling) → OneOf (1 ∷ 2 ∷ []) (tag_of the_type r)
+  pub unfilled : (r : declared.Filling) → ((y : ℕ) (s : Syndromes) → r ≡ One y s → ⊥)
       → filling_of r ≡ fill_one p d t → fillable p d t ≡ false
   unfolding fill_one
   unfilled r h e = at (fillable p d t) refl
