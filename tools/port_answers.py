@@ -155,6 +155,21 @@ def turn(p, text, rel, crate, it):
     places = {}
     for (place, *_), new in zip(it["places"], it["places_by_name"]):
         places[norm(place)] = new
+    # what an arm binds, by the step that read it; of an arm's places only the last has a name that can be used
+    arms, last = {}, {}
+    for (place, parent, (old, new), *_), name, arm in zip(it["places"], it["places_by_name"], it["arms"]):
+        if arm:
+            last.setdefault((arm[0], norm(place).split("keys")[0] if "keys" in place else None), name)
+            for field, step, path in arm[2]:
+                if path and path[0] == "given" and not field.endswith("-own"):
+                    arms.setdefault((norm(step), tuple(path[1:])), f"{arm[0]}.{field}")
+    ends = {}
+    for name, arm in zip(it["places_by_name"], it["arms"]):
+        if arm:
+            stem = re.sub(r"-\d+$", "", name) if re.search(r"-\d+$", name) else name
+            ends.setdefault(name, stem if stem in it["places_by_name"] else name)
+    for k, v in places.items():
+        places[k] = ends.get(v, v)
     # the clauses of what a step calls, by their names now
     clauses = {}
     for (place, parent, (old, new), *_), c in zip(it["places"], it["clauses"]):
@@ -166,7 +181,16 @@ def turn(p, text, rel, crate, it):
         steps.setdefault(norm(old), new)
     inv_names = set(inv)
 
+    def bound(m):
+        parts = m[2].strip(".").split(".")
+        for n in range(len(parts), 0, -1):
+            w = arms.get((norm(m[1]), tuple(parts[:n])))
+            if w:
+                return "." + w + "".join("." + x for x in parts[n:])
+        return m[0]
+
     def steps_in(s):
+        s = re.sub(r"\.(" + T + r")\.given((?:\.\d)+)", bound, s)
         # a step follows a place: a variable, a call of a helper, or `before`
         def step(m):
             above = m[1].rsplit(".", 1)

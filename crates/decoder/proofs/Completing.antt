@@ -9,8 +9,6 @@ use native.Mathlib.Omega.{arith}
 use lib.Dec.{T, ltb}
 use lib.ListN.{length, get_or, set}
 use borrow.Author.Tests.{ltb-true}
-use types.Run.{OneOf}
-use denote.Enum.Declared.{tag_of}
 use Rattle.modular_theory.proofs.Search.{holds, least_hit}
 use Rattle.code_theory.specs.Parameters.{Parameters}
 use Rattle.code_theory.specs.Reading.{change, filled, unreadable}
@@ -27,7 +25,6 @@ use Rattle.symbols.specs.Syndromes.{rows}
 use Rattle.fillings.specs.declared.fill.Filling as found
 use Rattle.fillings.specs.declared.fill.Filling.TheVariants.{One, Two, Nothing}
 use Rattle.fillings.specs.Filling.{filling_of}
-use Rattle.fillings.specs.contracts.fill.Filling.{the_type}
 use Rattle.syndromes.specs.Rows.{FourRows, rows_of}
 use Rattle.decoder.specs.Rows.{NearFourRows}
 use Rattle.decoder.specs.Erased.{SameRows, SameFilling, FilledBy, completed}
@@ -160,13 +157,9 @@ module _ (t : Row) (u : List ℕ) where
         completed_by s (λ zs S S'. one_usable p (erased_at p i) (sums p u))
         (subst (λ (z : found.Filling). SameFilling t (filling_of z) (fill_at p (i ∷ []) (sums p u))) e f.filling)
 
-    pub one_none : {x : List ℕ} (r : found.Filling) → FilledBy t u (i ∷ []) x r → OneOf (1 ∷ 2 ∷ []) (tag_of the_type r)
+    pub one_none : {x : List ℕ} (r : found.Filling) → FilledBy t u (i ∷ []) x r → ((y : ℕ) (s : Syndromes) → r ≡ One y s → ⊥)
         → completed p u (i ∷ []) ≡ unreadable
-    one_none (One y s) f o = absurd (never o)
-      where
-        never : ◌≡◌ {A = ℕ} 0 1 ⊎ ◌≡◌ {A = ℕ} 0 2 → ⊥
-        never (inl e) = omega arith
-        never (inr e) = omega arith
+    one_none (One y s) f o = absurd (o y s refl)
     one_none (Two y z s) f o =
         let (F, F', e, w, w') = same_fills t _ (fill_at p (i ∷ []) (sums p u)) f.filling refl in
         let n : length (y ∷ z ∷ []) ≡ 1 = (one_usable p (erased_at p i) (sums p u) e).long in
@@ -180,17 +173,13 @@ module _ (t : Row) (u : List ℕ) where
         completed_by s (λ zs S S'. two_usable p (erased_at p i) (erased_at p j) (sums p u))
         (subst (λ (z : found.Filling). SameFilling t (filling_of z) (fill_at p (i ∷ j ∷ []) (sums p u))) e f.filling)
 
-    pub two_none : {x : List ℕ} (r : found.Filling) → FilledBy t u (i ∷ j ∷ []) x r → OneOf (0 ∷ 2 ∷ []) (tag_of the_type r)
+    pub two_none : {x : List ℕ} (r : found.Filling) → FilledBy t u (i ∷ j ∷ []) x r → ((y z : ℕ) (s : Syndromes) → r ≡ Two y z s → ⊥)
         → completed p u (i ∷ j ∷ []) ≡ unreadable
     two_none (One y s) f o =
         let (F, F', e, w, w') = same_fills t _ (fill_at p (i ∷ j ∷ []) (sums p u)) f.filling refl in
         let n : length (y ∷ []) ≡ 2 = (two_usable p (erased_at p i) (erased_at p j) (sums p u) e).long in
         absurd (omega arith)
-    two_none (Two y z s) f o = absurd (never o)
-      where
-        never : ◌≡◌ {A = ℕ} 1 0 ⊎ ◌≡◌ {A = ℕ} 1 2 → ⊥
-        never (inl e) = omega arith
-        never (inr e) = omega arith
+    two_none (Two y z s) f o = absurd (o y z s refl)
     two_none Nothing f o = rw (same_none t nothing (fill_at p (i ∷ j ∷ []) (sums p u)) f.filling refl)
 
 -- the reading of a word so completed
