@@ -2,7 +2,7 @@
 -- Assumes nothing.
 use Rattle.std.specs.Prelude.{◌≡◌, List, ℕ, ◌<◌, length, get_or}
 use Rattle.profiles.specs.declared.row.Row.{Row}
-use Rattle.profiles.specs.Row.{parameters, Valid}
+use Rattle.profiles.specs.Row.{Valid}
 
 -- an array of 97 that begins with m symbols below q, as a body does and its differences do
 pub record BodyArray (t : Row) (w : List ℕ) : Type 0 where

@@ -1,6 +1,8 @@
 // Decoding (01: Read): the pair of messages that a received word carries, with at most one symbol corrected, or with one or two erased
 // symbols filled; the position of a changed symbol is looked for, or worked out from the syndromes (02, T-09). Its steps are this crate's
 // own and those of crates `symbols`, `syndromes`, `differences`, `locator` and `fillings`.
+#![tactic(auto)]
+
 mod changed;
 mod column;
 mod differenced;

@@ -1,6 +1,8 @@
 // The differences of a word (01: differencing w mod q), forward or backward: each symbol less the one before it, or the one before it less
 // the symbol (02: edition 18). They are put into an array at the indices of the symbols. Each function is total: it answers for any
 // arguments, and says what.
+#![tactic(auto)]
+
 ghost use Rattle.std.specs.Prelude.{◌≡◌, min, set, ltb};
 ghost use Rattle.differences.specs.Overlaid.{difference_of, differences_at, changed_by};
 

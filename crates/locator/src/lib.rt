@@ -1,5 +1,7 @@
 // The position of an error from the two syndromes, the error and the check sum that disagrees (02, T-09), with no symbol of the word: two
 // candidates, each tested by what taking the error out there does to the syndromes.
+#![tactic(auto)]
+
 mod candidate;
 mod column;
 mod error;

@@ -1,5 +1,7 @@
 // What the two syndromes of a received word say: whether they are those of near components, and with the check symbols what a balanced word
 // is, and what is said of a corrected symbol; and a multiple added to one. Each function is total.
+#![tactic(auto)]
+
 mod balanced;
 mod correction;
 mod plus;

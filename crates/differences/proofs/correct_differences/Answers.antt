@@ -26,10 +26,11 @@ module _ (c : Joined-i-gt0) where
   own =
       let inside : (start begun).args.i < length (start begun).args.word.now = omega (arith, c.if-end-i.false, (room begun).1) in
       elim c.if-i-gt0.branch [
-          then-i-gt0 w ↦
-              subst (OwnCorrected _ _ _ _ _ _) (sym w.x-is)
-              (own_corrected _ _ _ _ _ _ w.if-i-gt0.true inside w.neighbour_difference.ensures)
-          | else-i-gt0 w ↦ subst (OwnCorrected _ _ _ _ _ _) (sym w.x-is) (own_none _ _ _ _ _ _ w.if-i-gt0.false) ]
+        | then-i-gt0 w ↦
+            subst (OwnCorrected _ _ _ _ _ _) (sym w.x-is)
+            (own_corrected _ _ _ _ _ _ w.if-i-gt0.true inside w.neighbour_difference.ensures)
+        | else-i-gt0 w ↦ subst (OwnCorrected _ _ _ _ _ _) (sym w.x-is) (own_none _ _ _ _ _ _ w.if-i-gt0.false)
+      ]
 
 pub returns-then-end-i : goal.returns-then-end-i
 returns-then-end-i c =

@@ -1,7 +1,6 @@
 -- `differences::difference_body` meets its contract. The invariant: the symbols passed have their differences in the array.
 -- The measure is what is left.
 -- Assumes nothing.
-use Prim.Native.Nat.{◌-◌}
 use native.Mathlib.Omega.{arith}
 use Rattle.symbols.proofs.Capped.{there}
 use Rattle.differences.proofs.OneByOne.{differenced_none, differenced_more, differenced_all}

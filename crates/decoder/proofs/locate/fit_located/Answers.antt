@@ -1,6 +1,5 @@
 -- `decoder::locate::fit_located` meets its contract: an index that fits explains the syndromes, and at most one does, the one located.
 -- Assumes nothing.
-use borrow.Author.Tests.{not-false}
 use mathlib.Core.Path.{◌≡◌, refl, sym, ap, ◌∙◌}
 use mathlib.Core.List.{List}
 use Prim.Native.Nat.{ℕ, ◌-◌, ◌≤◌, ◌<◌}

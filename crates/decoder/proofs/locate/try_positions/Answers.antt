@@ -2,11 +2,8 @@
 -- Assumes nothing.
 use borrow.Author.Rules.{rules}
 use mathlib.Core.Path.{sym, ◌∙◌}
-use mathlib.Core.Bool.{false}
-use Prim.Native.Nat.{◌-◌}
 use native.Mathlib.Omega.{arith}
 use borrow.Author.Count.{below_none, below_more}
-use Rattle.decoding_theory.specs.Decoded.{fits}
 use Rattle.decoder.proofs.Fitting.{first_found, none_found}
 use Rattle.decoder.proofs.locate.try_positions.Goals as goal
 

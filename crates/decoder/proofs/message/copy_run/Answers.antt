@@ -1,6 +1,5 @@
 -- `decoder::message::copy_run` meets its contract. The invariant: the symbols passed stand in both outputs. The measure is what is left.
 -- Assumes nothing.
-use Prim.Native.Nat.{◌-◌}
 use mathlib.Core.Path.{refl}
 use Rattle.decoder.proofs.Running.{running_none, running_more, running_all}
 use Rattle.decoder.proofs.message.copy_run.Goals as goal

@@ -2,7 +2,6 @@
 -- power lacks of n.
 -- Assumes nothing.
 use native.Mathlib.Omega.{arith}
-use Prim.Native.Nat.{◌-◌}
 use Rattle.decoder.proofs.Messaging.{Given, passed_two, run_requires, last_requires, power_grows, power_small}
 use Rattle.decoder.proofs.Messaging.{passed_run, passed_all}
 use Rattle.decoder.proofs.message.extract.Goals as goal

@@ -1,6 +1,5 @@
 -- `decoder::multiples::multiples` meets its contract. The invariant: the entries passed are multiples. The measure is what is left.
 -- Assumes nothing.
-use Prim.Native.Nat.{◌-◌}
 use native.Mathlib.Omega.{arith}
 use mathlib.Core.Path.{refl}
 use lib.ListN.{replicate}

@@ -1,16 +1,9 @@
 -- `decoder::word::decode_balanced` meets its contract: what is judged readable is written.
 -- Assumes nothing.
-use mathlib.Core.Path.{◌≡◌, subst}
-use mathlib.Core.Logic.{◌⊎◌, inl, inr}
+use mathlib.Core.Path.{◌≡◌}
 use mathlib.Core.Bool.{true, false}
-use mathlib.Core.List.{[], ◌∷◌}
 use Prim.Native.Nat.{ℕ}
-use native.Mathlib.Omega.{arith}
-use types.Run.{OneOf}
-use denote.Enum.Declared.{tag_of}
-use Rattle.decoder.specs.declared.word.Decoded.{Decoded}
 use Rattle.decoder.specs.declared.word.Decoded.TheVariants.{Unreadable}
-use Rattle.decoder.specs.contracts.word.Decoded.{the_type}
 use Rattle.decoder.proofs.Answering.{messages_of, judged_near, judged_none, judged_read}
 use Rattle.decoder.proofs.word.decode_balanced.Goals as goal
 use Rattle.decoder.proofs.word.decode_balanced.Goals.{In_default}

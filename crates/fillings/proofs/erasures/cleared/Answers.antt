@@ -2,7 +2,6 @@
 -- Assumes nothing.
 use mathlib.Core.Path.{◌≡◌, ◌∙◌}
 use mathlib.Core.Logic.{inl, inr}
-use Prim.Native.Nat.{◌-◌}
 use native.Mathlib.Omega.{arith}
 use Rattle.symbols.proofs.Capped.{capped}
 use Rattle.fillings.proofs.Clearing.{cleared_none, cleared_more, cleared_all}
@@ -10,9 +9,14 @@ use Rattle.fillings.proofs.erasures.cleared.Goals as goal
 use Rattle.fillings.proofs.erasures.cleared.Goals.{then-end-gt99, else-end-gt99}
 
 pub loop-i-init : goal.loop-i-init
-loop-i-init c =
-    (cleared_none _, omega arith, capped (elim c.if-end-gt99.branch [
-        then-end-gt99 w ↦ inl (w.if-end-gt99.true, w.end-is) | else-end-gt99 w ↦ inr (w.if-end-gt99.false, w.end-is) ]))
+loop-i-init c = (
+  cleared_none _,
+  omega arith,
+  capped (elim c.if-end-gt99.branch [
+    | then-end-gt99 w ↦ inl (w.if-end-gt99.true, w.end-is)
+    | else-end-gt99 w ↦ inr (w.if-end-gt99.false, w.end-is)
+  ]),
+)
 
 pub bounds-word-i : goal.bounds-word-i
 bounds-word-i c = omega arith

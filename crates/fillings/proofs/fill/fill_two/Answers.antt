@@ -1,10 +1,7 @@
 -- `fillings::fill::fill_two` meets its contract. The invariant: at no level passed can the second be filled. The measure is what is left.
 -- Assumes nothing.
-use mathlib.Core.Bool.{false}
-use Prim.Native.Nat.{◌-◌}
 use native.Mathlib.Omega.{arith}
 use borrow.Author.Count.{below_none, below_more}
-use borrow.Author.Rules.{rules}
 use Rattle.fillings.proofs.Trying.{unfilled, two_none, two_found}
 use Rattle.fillings.proofs.fill.fill_two.Goals as goal
 

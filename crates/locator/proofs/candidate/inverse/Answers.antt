@@ -1,7 +1,6 @@
 -- `locator::candidate::inverse` meets its contract. The invariant: the product is the multiple by i, and none before it is 1. The measure
 -- is what is left.
 -- Assumes nothing.
-use Prim.Native.Nat.{◌-◌}
 use Rattle.locator.proofs.Inverting.{first_multiple, next_multiple, inverse_found, none_inverts}
 use Rattle.locator.proofs.candidate.inverse.Goals as goal
 

@@ -5,7 +5,6 @@ use mathlib.Core.Path.{◌≡◌, refl}
 use mir.Syntax.{w32}
 use mir.Val.{to_z, of_z}
 use Rattle.modular.proofs.Signed.{value, read}
-use Rattle.profiles.specs.declared.row.Row.{Row}
 use Rattle.profiles.specs.Edition.{edition_is}
 use Rattle.profiles.specs.Row.{RowOf}
 use Rattle.profiles.proofs.Table.{row_found, none_found}

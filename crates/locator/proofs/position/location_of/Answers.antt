@@ -12,7 +12,7 @@ use Rattle.locator.proofs.position.location_of.Goals.{Else-position_count-k}
 pub returns-then-position_count-k : goal.returns-then-position_count-k
 returns-then-position_count-k c =
     let counted : position_count (parameters c.args.row) c.args.odd ≤ c.args.k =
-        omega (arith, c.position_count.ensures, c.if-position_count-k.true) in
+    omega (arith, c.position_count.ensures, c.if-position_count-k.true) in
     past (parameters c.args.row) _ c.args.odd counted
 
 -- an index of the parity
