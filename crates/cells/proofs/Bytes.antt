@@ -2,18 +2,17 @@
 -- Assumes nothing.
 use mathlib.Core.Path.{◌≡◌, refl, sym, ap, ap₂, ◌∙◌}
 use mathlib.Core.Logic.{⊎_elim}
-use mathlib.Core.Bool.{Bool, true, false, ◌&&◌, and-true, and-false, and_assoc}
+use mathlib.Core.Bool.{Bool, true, false, ◌&&◌}
 use mathlib.Core.List.{List, [], ◌∷◌, ◌++◌, append-nil}
 use Prim.Native.Nat.{ℕ, zero, suc, ◌+◌, ◌-◌, ◌≤◌, ◌<◌}
 use native.Mathlib.Nat.{not-suc-le-zero, le_of_suc-le-suc}
 use native.Mathlib.Numerals.{add-one}
 use native.Mathlib.Omega.{arith}
-use lib.Dec.{T, ltb, eqb, eqb-suc-zero}
-use lib.ListN.{length, get_or, take, drop, set, replicate, length-drop, drop_of_length-le}
-use lib.Seq.{take_all, drop-length}
-use borrow.Author.Tests.{ltb-false, lt-ltb, ne_eqb}
+use lib.Dec.{T, ltb}
+use lib.ListN.{length, get_or, take, drop, set, length-drop, drop_of_length-le}
+use lib.Seq.{take_all}
+use borrow.Author.Tests.{ltb-false, lt-ltb}
 use Rattle.modular_theory.proofs.Search.{holds, and_left, and_right, le_or_lt}
-use Rattle.queue_theory.specs.Lists.{all_zero, zeros}
 use Rattle.cells.specs.Bytes.{copied}
 
 -- a part of n bytes from a on, as a range lends it
@@ -62,29 +61,3 @@ unfolding copied
 copied_same to from e =
     let m : length to ≤ length from = omega arith in
     ap₂ (λ (a b : List ℕ). a ++ b) (take_all (length to) from (omega arith)) (drop_of_length-le to m) ∙ append-nil from
-
--- a fill of all bytes
-pub fill_all : (s : List ℕ) (i : ℕ) → i ≡ length s → replicate i 0 ++ drop i s ≡ zeros (length s)
-fill_all s i e = rw (e, drop-length s, append-nil (zeros (length s)))
-
--- one byte more, tested for zero
-zero_more : (s : List ℕ) (i : ℕ) → i < length s → all_zero (take (suc i) s) ≡ (all_zero (take i s) && eqb (get_or s i 0) 0)
-zero_more [] i h = absurd (not-suc-le-zero h)
-zero_more (x ∷ s) zero h = and-true (eqb x 0)
-zero_more (x ∷ s) (suc i) h =
-    ap (λ (b : Bool). eqb x 0 && b) (zero_more s i (le_of_suc-le-suc h))
-    ∙ sym (and_assoc (eqb x 0) (all_zero (take i s)) (eqb (get_or s i 0) 0))
-
--- The highest of the first i bytes is 0 exactly where they all are.
-module _ (s : List ℕ) (i highest : ℕ) (h : i < length s) (e : eqb highest 0 ≡ all_zero (take i s)) where
-  pub zero_risen : highest < get_or s i 0 → eqb (get_or s i 0) 0 ≡ all_zero (take (i + 1) s)
-  zero_risen k =
-      let n : eqb (get_or s i 0) 0 ≡ false = ne_eqb (get_or s i 0) 0 (omega arith) in
-      rw (add-one i, zero_more s i h, n) (sym (and-false (all_zero (take i s))))
-
-  pub zero_kept : get_or s i 0 ≤ highest → eqb highest 0 ≡ all_zero (take (i + 1) s)
-  zero_kept k = rw (add-one i, zero_more s i h, sym e) (go highest k)
-    where
-      go : (n : ℕ) → get_or s i 0 ≤ n → eqb n 0 ≡ (eqb n 0 && eqb (get_or s i 0) 0)
-      go zero l = let n : get_or s i 0 ≡ 0 = omega arith in rw n
-      go (suc n) l = rw (eqb-suc-zero n)

@@ -58,9 +58,6 @@ link_on s i n h =
     let f : suc i ≡ i + 1 = omega arith in
     ap (linked s i) e ∙ ap (λ (j : ℕ). linked (set s (i * cell_size) j) j (n - (i + 1))) f
 
-pub link_over : (s : List ℕ) (i n : ℕ) → n ≤ i → linked s i (n - i) ≡ s
-link_over s i n h = let e : n - i ≡ 0 = omega arith in ap (linked s i) e
-
 -- a cell with byte 0 as zero
 pub cell_shown : (s : List ℕ) (i : ℕ) → (i + 1) * cell_size ≤ length s → set (take cell_size (drop (i * cell_size) s)) 0 0 ≡ 0 ∷ cell_body s i
 cell_shown s i h =

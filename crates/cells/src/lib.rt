@@ -1,4 +1,6 @@
 // Writes to the cells of a queue (01: the sheet), each exact for any bytes: what does not lie in them is not written.
+#![tactic(auto)]
+
 mod measure;
 mod slices;
 

@@ -10,8 +10,6 @@ use native.Mathlib.Omega.{arith}
 use lib.Dec.{eqb, leb}
 use lib.ListN.{length, get_or, take}
 use lib.Seq.{take_all}
-use types.Run.{OneOf, miss}
-use denote.Enum.Declared.{tag_of}
 use Rattle.code_theory.specs.Refusal.{Test, first_refusal, on_success}
 use Rattle.code_theory.proofs.Refusal.{refused_first}
 use Rattle.queue_theory.specs.Lists.{last_of}
@@ -25,7 +23,6 @@ use Rattle.queue_theory.proofs.Rule.{found_same}
 use Rattle.soundness.specs.declared.Checked.{Checked}
 use Rattle.soundness.specs.declared.Checked.TheVariants.{WrongLength, Unsound, Sound}
 use Rattle.soundness.specs.Checked.{reached, CheckReport, check_report, checked_report, check_answer}
-use Rattle.soundness.specs.contracts.Checked.{the_type}
 
 -- a sound queue with the cell and the number of records that the check gave
 pub record SoundAnswer (s : List ℕ) (k cell n : ℕ) : Type 0 where
@@ -39,10 +36,10 @@ pub record Refused (s : List ℕ) (n : ℕ) : Type 0 where
   pub answer : (own : List Test) → n ≡ first_refusal (sound_tests s ++ own)
 
 -- a check that is not `Sound` has a number that is not 0
-unsound_number : (x : Checked) → OneOf (0 ∷ 1 ∷ []) (tag_of the_type x) → (checked_report x).number ≢ 0
+unsound_number : (x : Checked) → ((cell n : ℕ) → x ≢ Sound cell n) → (checked_report x).number ≢ 0
 unsound_number WrongLength h = omega arith
 unsound_number Unsound h = omega arith
-unsound_number (Sound cell n) h = absurd (miss (0 ∷ 1 ∷ []) 2 tt h)
+unsound_number (Sound cell n) h = absurd (h cell n refl)
 
 module _ (s : List ℕ) (k : ℕ) where
   -- the report of a sound queue
@@ -70,7 +67,7 @@ module _ (s : List ℕ) (k : ℕ) where
       record { queue = w.0; cell_is = ap CheckReport.cell (e ∙ w.1); records_is = ap CheckReport.records (e ∙ w.1) })
       (λ (r : Refused s (check_answer s k).number). absurd (r.nonzero (ap CheckReport.number (sym e)))) either
 
-  pub told_unsound : (x : Checked) → checked_report x ≡ check_answer s k → OneOf (0 ∷ 1 ∷ []) (tag_of the_type x)
+  pub told_unsound : (x : Checked) → checked_report x ≡ check_answer s k → ((cell n : ℕ) → x ≢ Sound cell n)
       → Refused s (checked_report x).number
   told_unsound x e h =
       ⊎_elim

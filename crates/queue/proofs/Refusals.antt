@@ -1,12 +1,11 @@
 -- The order in which the queue's operations refuse: each number is that of the first test that fails, and no refusal changes a byte.
 -- Assumes nothing.
 use mathlib.Core.Path.{◌≡◌, sym, ◌∙◌}
-use mathlib.Core.Logic.{◌≢◌}
 use mathlib.Core.Bool.{false, not}
 use mathlib.Core.List.{List, [], ◌∷◌}
 use Prim.Native.Nat.{ℕ}
 use native.Mathlib.Omega.{arith}
-use lib.Dec.{T, eqb}
+use lib.Dec.{eqb}
 use lib.ListN.{length}
 use borrow.Author.Tests.{eq-eqb}
 use Rattle.modular_theory.proofs.Search.{eq_test}
@@ -20,7 +19,7 @@ use Rattle.queue_theory.specs.Sound.{is_box, sound, Queue}
 use Rattle.queue_theory.specs.Operations.{format_answer, format_queue, enqueue_answer, enqueue_queue}
 use Rattle.queue_theory.specs.Operations.{cell_of, peek_answer, peek_output, dequeue_answer}
 use Rattle.queue_theory.specs.Operations.{dequeue_queue, dequeue_output}
-use Rattle.queue_theory.specs.Allowed.{EnqueueAllows, PeekAllows}
+use Rattle.queue_theory.specs.Allowed.{EnqueueAllows}
 use Rattle.queue.specs.Claims.{EnqueueRefuses, ShowRefuses, Refusals}
 
 -- the tests of the bytes, and that those of a sound queue pass

@@ -1,5 +1,7 @@
 // The dock's queue of received words (01: the sheet): a bounded first-in first-out list in bytes that the caller lends.
 // What each operation answers and leaves is defined in crate `queue_theory`; specs/Claims.antt has the list rule by these contracts alone.
+#![tactic(auto)]
+
 mod admit;
 mod cell;
 

@@ -1,5 +1,7 @@
 // Runs stored calls on a queue and prints each answer, with a digest of the queue and of the output. The calls and the answers
 // that are expected were made by a separately written coder; tests/README.md has their format (sheets).
+#![tactic(auto)]
+
 mod calls;
 mod text;
 

@@ -17,7 +17,7 @@ use Rattle.queue_theory.specs.Layout.{capacity, next_cell, cell_body}
 use Rattle.queue_theory.specs.Chains.{chain, ends}
 use Rattle.queue_theory.specs.Sound.{is_body, is_cell, is_list}
 use Rattle.soundness.specs.declared.lists.Walked.{Walked}
-use Rattle.soundness.specs.Tally.{tallied, AtMost}
+use Rattle.soundness.specs.Tally.{tallied}
 use Rattle.soundness.specs.Walked.{go_on, Walks}
 use Rattle.soundness.proofs.Conditions.{swapped, no_truth}
 
@@ -92,19 +92,6 @@ pub record Walk (s : List ℕ) (kind : Bool) (first k : ℕ) (t₀ t : List ℕ)
   pub records_is : length (chain s (capacity s) first) ≡ met + length (chain s n i)
   pub bound : (j : ℕ) → get_or t j 0 + n ≤ 255 + capacity s
   pub steps : met + n ≡ capacity s
-
-pub walk_start : (s : List ℕ) (kind : Bool) (first k : ℕ) (t₀ : List ℕ) (n : ℕ) → AtMost 255 t₀ → n ≡ capacity s
-    → Walk s kind first k t₀ t₀ n first 0 0
-walk_start s kind first k t₀ n h e =
-    subst (λ (m : ℕ). Walk s kind first k t₀ t₀ m first 0 0) (sym e)
-    (record {
-      list = refl;
-      seen = refl;
-      cell_is = let f : k ≡ k - 0 = omega arith in ap (λ (m : ℕ). last_of 0 (take m (chain s (capacity s) first))) f;
-      records_is = omega arith;
-      bound = λ j. omega (arith, h j);
-      steps = omega arith;
-    })
 
 module _ {s : List ℕ} {kind : Bool} {first k : ℕ} {t₀ t : List ℕ} {n i cell met : ℕ} (w : Walk s kind first k t₀ t n i cell met) where
   -- the list has ended

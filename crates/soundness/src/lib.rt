@@ -1,4 +1,6 @@
 // Whether bytes are a sound queue (01: The sheet), and which cell its used list leads to. Every operation on a queue begins with this.
+#![tactic(auto)]
+
 mod cell;
 mod lists;
 

@@ -1,47 +1,26 @@
 -- `copy` meets its contract. The invariant: the first i bytes are those of `from`, and the others as they were.
 -- Assumes nothing.
-use mathlib.Core.Path.{refl, ap, ◌∙◌}
+use mathlib.Core.Path.{ap, ◌∙◌}
 use mathlib.Core.List.{List}
-use Prim.Native.Nat.{ℕ, ◌<◌, ◌-◌}
+use Prim.Native.Nat.{ℕ, ◌<◌}
 use native.Mathlib.Omega.{arith}
 use lib.Dec.{ltb, ltb→lt}
 use lib.ListN.{length, get_or, set, length-set}
 use Rattle.cells.proofs.Bytes.{copy_more, copy_over, both_hold}
 use Rattle.cells.proofs.slices.copy.Goals as goal
-use Rattle.cells.proofs.slices.copy.Goals.{At-loop-i, In-loop-i}
+use Rattle.cells.proofs.slices.copy.Goals.{In-loop-i}
 
--- the bytes that are copied
-abbrev From : At-loop-i → List ℕ
-From c = c.args.from.now
-
-in_both : (c : In-loop-i)
-    → (c.loop-i.i < length c.loop-i.to) × (c.loop-i.i < length (From (goal.at.In-loop-i c).At-loop-i))
+in_both : (c : In-loop-i) → (c.loop-i.i < length c.loop-i.to) × (c.loop-i.i < length c.args.from.now)
 in_both c =
     let l = c.loop-i in
-    let f = From (goal.at.In-loop-i c).At-loop-i in
+    let f = c.args.from.now in
     let t = both_hold (ltb l.i (length l.to)) (ltb l.i (length f)) c.loop-i-test.true in
     (ltb→lt l.i (length l.to) t.0, ltb→lt l.i (length f) t.1)
 
-pub loop-i-init : goal.loop-i-init
-loop-i-init c = (omega arith, omega arith, refl, refl)
-
-pub bounds-from-i : goal.bounds-from-i
-bounds-from-i c = (in_both (goal.at.bounds-from-i c).In-loop-i).1
-
-pub bounds-to-i : goal.bounds-to-i
-bounds-to-i c = (in_both (goal.at.bounds-to-i c).In-loop-i).0
-
-pub overflow_add-i : goal.overflow_add-i
-overflow_add-i c = omega arith
-
-pub loop-i-smaller : goal.loop-i-smaller
-loop-i-smaller c = omega (arith, (in_both (goal.at.loop-i-smaller c).In-loop-i).1)
-
 pub loop-i-preserved : goal.loop-i-preserved
 loop-i-preserved c =
-    let turn = c.before.before in
-    let a = turn.args in
-    let l = turn.loop-i in
+    let a = c.args in
+    let l = c.loop-i in
     let b = in_both (goal.at.loop-i-preserved c).In-loop-i in (
       omega arith,
       omega arith,
@@ -49,9 +28,6 @@ loop-i-preserved c =
           ∙ copy_more a.from.now a.to.now l.i (omega arith) (omega arith),
       length-set l.to l.i (get_or a.from.now l.i 0) ∙ l.invariant.3,
     )
-
-pub shape_of-to : goal.shape_of-to
-shape_of-to c = c.loop-i.invariant.3
 
 pub returns : goal.returns
 returns c =
