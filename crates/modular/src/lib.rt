@@ -1,5 +1,7 @@
 // Symbols and sums mod q, and bytes as wider numbers: the arithmetic that encoding and decoding share. Each function is
 // total: it answers for any arguments, and says what.
+#![tactic(auto)]
+
 mod byte;
 pub mod plain;
 mod sum;

@@ -1,1 +1,3 @@
+#![tactic(auto)]
+
 // Arithmetic mod q: definitions in specs/, laws in proofs/, no code.

@@ -1,5 +1,7 @@
 // The two editions and the four profiles, the symbols of their words, and what they refuse. Each function is total: it answers for any
 // arguments, and says what.
+#![tactic(auto)]
+
 mod edition;
 mod erased;
 mod levels;

@@ -16,7 +16,7 @@ use Rattle.code_theory.proofs.Whole.{received_symbols}
 use Rattle.queue_theory.specs.Lists.{all_zero, zeros}
 use Rattle.queue_theory.specs.Layout.{padded_size, Size, body_size, header_size, capacity, cell_body, header}
 use Rattle.queue_theory.specs.Chains.{used, free}
-use Rattle.queue_theory.specs.Sound.{is_box, record_of, is_padded, is_record, is_header, sound}
+use Rattle.queue_theory.specs.Sound.{is_box, record_of, is_padded, is_record, is_header}
 use Rattle.queue_theory.specs.Meaning.{Record, Header, SoundQueue}
 use Rattle.queue_theory.specs.Claims.{RecordLaw, SoundLaw}
 use Rattle.queue_theory.proofs.Counts.{count_append}

@@ -1,4 +1,6 @@
 // The steps that encoding and decoding share, and decoding's syndromes. Each is total: it answers for any arguments, and says what.
+#![tactic(auto)]
+
 mod checks;
 mod matrix;
 mod sums;

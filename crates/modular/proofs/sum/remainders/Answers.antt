@@ -1,7 +1,6 @@
 -- `modular::sum::remainders` meets its contract. The invariant: the sums passed are reduced. The measure is what is left.
 -- Assumes nothing.
-use Rattle.std.proofs.Common.{◌-◌, ◌≤◌, get_or, sym, refl, ◌∙◌, arith}
-use Rattle.modular.specs.Remainder.{residue}
+use Rattle.std.proofs.Common.{◌≤◌, get_or, sym, refl, ◌∙◌, arith}
 use Rattle.modular.proofs.Filling.{filled_none, filled_more}
 use Rattle.modular.proofs.Dividing.{residue_is, residues_none, residues_all}
 use Rattle.modular.proofs.sum.remainders.Goals as goal

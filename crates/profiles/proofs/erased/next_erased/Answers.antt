@@ -1,6 +1,6 @@
 -- `profiles::erased::next_erased` meets its contract. The invariant: the symbols passed are not erased. The measure is what is left.
 -- Assumes nothing.
-use Rattle.std.proofs.Common.{◌-◌, refl, ◌∙◌, arith}
+use Rattle.std.proofs.Common.{refl, ◌∙◌, arith}
 use Rattle.profiles.proofs.Received.{erased_here, erased_later, erased_none}
 use Rattle.profiles.proofs.erased.next_erased.Goals as goal
 

@@ -2,7 +2,6 @@
 -- counted. The measure is what is left.
 -- Assumes nothing.
 use mathlib.Core.Path.{◌≡◌, refl, ◌∙◌}
-use Prim.Native.Nat.{◌-◌}
 use native.Mathlib.Omega.{arith}
 use Rattle.symbols.proofs.Counting.{built_none, built_digits, built_more, built_all, positions_room, positions_levels}
 use Rattle.symbols.proofs.matrix.columns.Goals as goal

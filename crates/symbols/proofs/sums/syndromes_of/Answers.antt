@@ -3,10 +3,9 @@
 use mathlib.Core.Path.{◌≡◌}
 use mathlib.Core.Logic.{inl, inr}
 use mathlib.Core.Bool.{true, false}
-use Prim.Native.Nat.{min, ◌-◌}
+use Prim.Native.Nat.{min}
 use native.Mathlib.Nat.{min-le_right}
 use native.Mathlib.Omega.{arith}
-use Rattle.symbols.specs.Syndromes.{part}
 use Rattle.symbols.proofs.Capped.{capped}
 use Rattle.symbols.proofs.Parts.{part_first, part_second, part_length}
 use Rattle.symbols.proofs.Rows.{summing_none, summing_light, summing_more, summing_all}
@@ -16,7 +15,9 @@ use Rattle.symbols.proofs.sums.syndromes_of.Goals.{Joined-end-gt48, then-end-gt4
 cap : (c : Joined-end-gt48) → c.if-end-gt48.end ≡ min c.args.n 48
 cap c =
     capped (elim c.if-end-gt48.branch [
-        then-end-gt48 w ↦ inl (w.if-end-gt48.true, w.end-is) | else-end-gt48 w ↦ inr (w.if-end-gt48.false, w.end-is) ])
+      | then-end-gt48 w ↦ inl (w.if-end-gt48.true, w.end-is)
+      | else-end-gt48 w ↦ inr (w.if-end-gt48.false, w.end-is)
+    ])
 
 pub loop-i-init : goal.loop-i-init
 loop-i-init c = (summing_none _ _, summing_none _ _, omega arith, rw (cap (goal.at.loop-i-init c).Joined-end-gt48) (min-le_right _ 48))

@@ -1,7 +1,7 @@
 -- `symbols::sums::syndromes_of` meets its contract. The invariant: both hold the sums of the symbols passed. The measure is what is left.
 -- Assumes nothing.
 use mathlib.Core.Bool.{true, false}
-use Prim.Native.Nat.{min, ◌-◌, ◌≤◌}
+use Prim.Native.Nat.{◌-◌, ◌≤◌}
 use Rattle.symbols.specs.Syndromes.{part}
 use Rattle.symbols.proofs.Rows.{Summing}
 use Rattle.symbols.proofs.sums.syndromes_of.Given as goal

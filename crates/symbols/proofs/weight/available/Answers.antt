@@ -11,7 +11,9 @@ use Rattle.symbols.proofs.weight.available.Goals.{Joined-most-gt97, then-most-gt
 most : (c : Joined-most-gt97) → c.if-most-gt97.most ≡ min c.args.m 97
 most c =
     capped (elim c.if-most-gt97.branch [
-        then-most-gt97 w ↦ inl (w.if-most-gt97.true, w.most-is) | else-most-gt97 w ↦ inr (w.if-most-gt97.false, w.most-is) ])
+      | then-most-gt97 w ↦ inl (w.if-most-gt97.true, w.most-is)
+      | else-most-gt97 w ↦ inr (w.if-most-gt97.false, w.most-is)
+    ])
 
 pub returns-then-len-most : goal.returns-then-len-most
 returns-then-len-most c =

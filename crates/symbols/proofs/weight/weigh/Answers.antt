@@ -2,7 +2,7 @@
 -- whole. The measure is what is left.
 -- Assumes nothing.
 use mathlib.Core.Path.{sym, ap, ◌∙◌}
-use Prim.Native.Nat.{ℕ, min, ◌-◌, ◌*◌, ◌%◌, ◌≤◌}
+use Prim.Native.Nat.{ℕ, min, ◌*◌, ◌%◌, ◌≤◌}
 use native.Mathlib.Nat.{le_trans, min-le_left}
 use native.Mathlib.Omega.{arith}
 use lib.IntN.{pos, ◌-ℤ◌}
