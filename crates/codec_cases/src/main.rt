@@ -1,33 +1,28 @@
-// Runs encode, decode, convert and locate on stored cases (tests/README.md). Pairs come on standard input, a line
+// Runs encode, decode and convert on stored cases (tests/README.md: pairs, words, conversions). Pairs come on standard input, a line
 // `edition profile rule first second length` each, and the answer is the word. Words are in the file `words`, a line
 // `edition profile word first_length second_length` each, and the answer is `C 0 0 0 first second 0`,
 // `M place symbol error first second tried`, or `F place symbol 0 first second 0` with a place and a symbol for each mark. In a word and in
 // a message `?` is a mark. A refusal is `R number`, and `R 4 tried` for an unreadable word (02, T-08: how many places were tried).
 // Conversions (02, T-04) are in the file `conversions`, a line `edition profile word length` each, and the answer is the word of the other
-// edition, or `R number`. Words to decode by the syndromes (02, T-09) are in the file `syndrome_words`, with lines and answers as those of
-// `words`, but no answer has a count. Errors to locate (02, T-09) are in the file `locations`, a line
-// `edition profile parity symbols rows rows` each: 0 where the check sum over the odd places disagrees and 1 where that over the even ones
-// does, the symbol received and the symbol sent, and the four row sums of each half. The answer is the place, or `-` for none.
-mod decoded;
-mod locations;
+// edition, or `R number`.
 mod print;
 mod text;
 
-use decoded::read_and_print;
+use decoder::{Changes, Decoded};
 use encoder::Encoded;
 use libc::{STDIN_FILENO, STDOUT_FILENO};
-use locations::answer_location;
-use print::{FILL, is_untouched, print_refusal, print_word};
+use print::{
+    FILL, is_untouched, print_change, print_error, print_number, print_refusal, print_word,
+};
+use syndromes::Correction;
 use text::{field, parse_number, parse_symbols, smaller, until};
 
 // The operation that a file has cases of.
-#[derive(Clone, Copy)]
+#[derive(Drop)]
 enum Operation {
     Encode,
     Decode,
     Convert,
-    SyndromeDecode,
-    Locate,
 }
 
 // The word in an output, or the refusal.
@@ -57,6 +52,73 @@ fn convert_and_print(edition: usize, profile: usize, word: &[u8], out: &mut [u8]
     print_encoded(answer, out);
 }
 
+// The messages and how many positions were tried, each after a space.
+fn print_read(first: &[u8], second: &[u8], tried: usize) {
+    io::write_all(STDOUT_FILENO, b" ");
+    print_word(first);
+    io::write_all(STDOUT_FILENO, b" ");
+    print_word(second);
+    print_number(tried);
+}
+
+fn print_corrected(c: Correction) {
+    io::write_all(STDOUT_FILENO, b"M");
+    print_change(c.position, c.symbol);
+    print_error(c.error);
+}
+
+fn print_filled(changes: Changes) {
+    io::write_all(STDOUT_FILENO, b"F");
+    match changes {
+        Changes::One(c) => print_change(c.position, c.symbol),
+        Changes::Two(c, d) => {
+            print_change(c.position, c.symbol);
+            print_change(d.position, d.symbol);
+        }
+    }
+    print_error(0);
+}
+
+fn print_unread(number: u8, first: &[u8], second: &[u8]) {
+    print_refusal(number, is_untouched(first) && is_untouched(second));
+}
+
+// The count is left out where an output was changed.
+fn print_unreadable(tried: usize, first: &[u8], second: &[u8]) {
+    let is_kept = is_untouched(first) && is_untouched(second);
+    print_refusal(4, is_kept);
+    if is_kept {
+        print_number(tried);
+    }
+}
+
+// Decodes into the outputs, and prints the answer and the messages, or the refusal.
+fn decode_and_print(
+    edition: usize,
+    profile: usize,
+    word: &[u8],
+    first: &mut [u8],
+    second: &mut [u8],
+) {
+    let answer = decoder::decode(edition, profile, word, first, second);
+    match answer {
+        Decoded::Clean => {
+            io::write_all(STDOUT_FILENO, b"C 0 0 0");
+            print_read(first, second, 0);
+        }
+        Decoded::Corrected(c) => {
+            print_corrected(c);
+            print_read(first, second, c.tried);
+        }
+        Decoded::Filled(changes) => {
+            print_filled(changes);
+            print_read(first, second, 0);
+        }
+        Decoded::Unreadable(tried) => print_unreadable(tried, first, second),
+        Decoded::Refused(number) => print_unread(number, first, second),
+    }
+}
+
 fn answer_pair(line: &[u8]) {
     let mut first = [0u8; 64];
     let a = smaller(parse_symbols(field(line, 3), &mut first), 64);
@@ -77,8 +139,7 @@ fn answer_pair(line: &[u8]) {
     );
 }
 
-// By the syndromes, or by trying positions.
-fn answer_word(line: &[u8], by_syndromes: bool) {
+fn answer_word(line: &[u8]) {
     let mut word = [0u8; 128];
     let n = smaller(parse_symbols(field(line, 2), &mut word), 128);
     let mut first = [FILL; 64];
@@ -87,8 +148,7 @@ fn answer_word(line: &[u8], by_syndromes: bool) {
     let l = smaller(parse_number(field(line, 4)), 64);
     let edition = parse_number(field(line, 0));
     let profile = parse_number(field(line, 1));
-    read_and_print(
-        by_syndromes,
+    decode_and_print(
         edition,
         profile,
         &word[..n],
@@ -110,10 +170,8 @@ fn answer_conversion(line: &[u8]) {
 fn answer(line: &[u8], operation: Operation) {
     match operation {
         Operation::Encode => answer_pair(line),
-        Operation::Decode => answer_word(line, false),
+        Operation::Decode => answer_word(line),
         Operation::Convert => answer_conversion(line),
-        Operation::SyndromeDecode => answer_word(line, true),
-        Operation::Locate => answer_location(line),
     }
     io::write_all(STDOUT_FILENO, b"\n");
 }
@@ -150,6 +208,4 @@ fn main() {
     run(STDIN_FILENO, Operation::Encode);
     run_file(b"words", Operation::Decode);
     run_file(b"conversions", Operation::Convert);
-    run_file(b"syndrome_words", Operation::SyndromeDecode);
-    run_file(b"locations", Operation::Locate);
 }

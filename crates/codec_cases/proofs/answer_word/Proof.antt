@@ -51,8 +51,8 @@ parse-number-requires-4 c κs = search rules
 array-share-prefix-word : tie.Need-array-share-prefix-word
 array-share-prefix-word c = search rules
 
-slice-aggregate-read-and-print : tie.Need-slice-aggregate-read-and-print
-slice-aggregate-read-and-print c =
+slice-aggregate-decode-and-print : tie.Need-slice-aggregate-decode-and-print
+slice-aggregate-decode-and-print c =
     let measured = c.before.before.before.before.before.before.before.before.before.before.before in
     let parsed = measured.before.before in
     sym (length-take-le _ _ (rw parsed.parse_symbols.auto.1.0 measured.smaller.ensures.1))
@@ -60,21 +60,21 @@ slice-aggregate-read-and-print c =
 array-borrow-prefix-first : tie.Need-array-borrow-prefix-first
 array-borrow-prefix-first c = search rules
 
-slice-aggregate-read-and-print-2 : tie.Need-slice-aggregate-read-and-print-2
-slice-aggregate-read-and-print-2 c =
+slice-aggregate-decode-and-print-2 : tie.Need-slice-aggregate-decode-and-print-2
+slice-aggregate-decode-and-print-2 c =
     let measured = c.before.before.before.before.before.before.before.before.before in
     sym (length-take-le _ _ measured.smaller2.ensures.1)
 
 array-borrow-prefix-second : tie.Need-array-borrow-prefix-second
 array-borrow-prefix-second c = search rules
 
-slice-aggregate-read-and-print-3 : tie.Need-slice-aggregate-read-and-print-3
-slice-aggregate-read-and-print-3 c =
+slice-aggregate-decode-and-print-3 : tie.Need-slice-aggregate-decode-and-print-3
+slice-aggregate-decode-and-print-3 c =
     let measured = c.before.before.before.before.before.before.before in
     sym (length-take-le _ _ measured.smaller3.ensures.1)
 
-read-and-print-requires : tie.Need-read-and-print-requires
-read-and-print-requires c κs = search rules
+decode-and-print-requires : tie.Need-decode-and-print-requires
+decode-and-print-requires c κs = search rules
 
 returns : tie.Need-returns
 returns c = search rules
@@ -85,5 +85,5 @@ answer-word-spec =
     (tie.spec field-requires slice-aggregate-parse-symbols parse-symbols-requires smaller-requires field-requires-2 parse-number-requires
     smaller-requires-2 field-requires-3 parse-number-requires-2 smaller-requires-3 field-requires-4 parse-number-requires-3
     field-requires-5 parse-number-requires-4
-    array-share-prefix-word slice-aggregate-read-and-print array-borrow-prefix-first slice-aggregate-read-and-print-2
-    array-borrow-prefix-second slice-aggregate-read-and-print-3 read-and-print-requires returns)
+    array-share-prefix-word slice-aggregate-decode-and-print array-borrow-prefix-first slice-aggregate-decode-and-print-2
+    array-borrow-prefix-second slice-aggregate-decode-and-print-3 decode-and-print-requires returns)
