@@ -5,8 +5,13 @@ ghost use Rattle.std.specs.Prelude.{◌<◌, length, ℤ};
 ghost use Rattle.lines.specs.States.{model_of};
 ghost use Rattle.boxlines.specs.Turns.{AnswersPiece, AnswersEnd, AnswersRead};
 
-use libc::{STDERR_FILENO, STDIN_FILENO, STDOUT_FILENO};
 use lines::State;
+use std::io::{Read, Stdin};
+
+// The streams that are written to, by POSIX's numbers.
+const STDOUT_FILENO: i32 = 1;
+
+const STDERR_FILENO: i32 = 2;
 
 // Whether to go on, or how the program ends.
 #[derive(Clone, Copy)]
@@ -107,11 +112,14 @@ fn proceed(state: State, got: isize, input: &[u8], output: &mut [u8]) -> Next
 }
 
 // One read, and what comes of it. No contract says which bytes come, so this one speaks of the buffer after the read.
-fn turn(state: State, input: &mut [u8], output: &mut [u8]) -> Next
+fn turn(stdin: &mut Stdin, state: State, input: &mut [u8], output: &mut [u8]) -> Next
     requires { 0 < length output.old }
     ensures { (got : ℤ) × AnswersRead (model_of state) got input.new result.status (model_of result.state) result.lines }
 {
-    let got = libc::read(STDIN_FILENO, input);
+    let got = match stdin.read(input) {
+        Ok(n) => n as isize,
+        Err(_) => -1,
+    };
     proceed(state, got, input, output)
 }
 
@@ -133,14 +141,15 @@ fn print_status(status: Status, lines: u64) {
 }
 
 // Nothing says that the input ends, so the turns are counted down from a number that no run uses up.
-fn main() {
+fn main(rt: HostRuntime) {
+    let mut stdin = rt.stdin();
     let mut input = io::large_buffer();
     let mut output = io::large_buffer();
     let mut state = lines::start();
     let mut lines: u64 = 0;
     let mut turns = u64::MAX;
     while turns > 0 {
-        let next = turn(state, &mut input, &mut output);
+        let next = turn(&mut stdin, state, &mut input, &mut output);
         state = next.state;
         lines = std::num::wrapping_add_u64(lines, next.lines as u64);
         let status = next.status;

@@ -1,9 +1,15 @@
 // Runs the stored inputs of the line program (tests/README.md: lines) through `lines`, once for each way to cut them:
 // pieces of 1, 7, 128 and of mixed sizes, into outputs of several sizes. The answers are the same each time.
-ghost use Rattle.std.specs.Prelude.{◌≤◌};
+ghost use Rattle.std.specs.Prelude.{◌≤◌, length};
 
-use libc::STDOUT_FILENO;
 use lines::State;
+use std::fs::File;
+use std::io::Read;
+
+// The streams that are written to, by POSIX's numbers.
+const STDOUT_FILENO: i32 = 1;
+
+const STDERR_FILENO: i32 = 2;
 
 fn smaller(a: usize, b: usize) -> usize
     ensures { (result ≤ a) × (result ≤ b) }
@@ -55,13 +61,22 @@ fn finish(start: State, output: &mut [u8]) {
     }
 }
 
-fn run(fd: i32, piece: usize, output: &mut [u8]) {
+// What comes of a read. One that fails is taken for the end of the file.
+fn read(file: &mut File, input: &mut [u8]) -> usize
+    ensures { result ≤ length input.new }
+{
+    match file.read(input) {
+        Ok(n) => n,
+        Err(_) => 0,
+    }
+}
+
+fn run(file: &mut File, piece: usize, output: &mut [u8]) {
     let mut input = io::buffer();
     let mut state = lines::start();
     let mut turns = u64::MAX;
     while turns > 0 {
-        let got = libc::read(fd, &mut input);
-        let n = io::count(got, &input);
+        let n = read(file, &mut input);
         if n == 0 {
             finish(state, output);
             return;

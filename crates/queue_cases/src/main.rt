@@ -5,6 +5,8 @@
 mod calls;
 mod text;
 
+use std::io::{Read, Stdin};
+
 // Where the run stands: the bytes of the line so far, the size of the queue, and whether there may be more input.
 #[derive(Clone, Copy)]
 struct Session {
@@ -58,11 +60,13 @@ fn feed(bytes: &[u8], line: &mut [u8], queue: &mut [u8], session: Session) -> Se
     now
 }
 
-// Reads once, and takes what came.
-fn turn(line: &mut [u8], queue: &mut [u8], session: Session) -> Session {
+// Reads once, and takes what came. A read that fails is taken for the end of the input.
+fn turn(input: &mut Stdin, line: &mut [u8], queue: &mut [u8], session: Session) -> Session {
     let mut space = io::large_buffer();
-    let got = libc::read(0, &mut space);
-    let n = io::count(got, &space);
+    let n = match input.read(&mut space) {
+        Ok(n) => n,
+        Err(_) => 0,
+    };
     if n == 0 {
         return Session {
             held: session.held,
@@ -74,7 +78,7 @@ fn turn(line: &mut [u8], queue: &mut [u8], session: Session) -> Session {
 }
 
 // A proved loop has to end, so it counts its turns down, from a number that no run uses up.
-fn run(line: &mut [u8], queue: &mut [u8]) {
+fn run(input: &mut Stdin, line: &mut [u8], queue: &mut [u8]) {
     let mut session = Session {
         held: 0,
         size: 0,
@@ -82,7 +86,7 @@ fn run(line: &mut [u8], queue: &mut [u8]) {
     };
     let mut turns = u64::MAX;
     while turns > 0 {
-        session = turn(line, queue, session);
+        session = turn(input, line, queue, session);
         let more = session.more;
         if !more {
             return;
@@ -91,8 +95,9 @@ fn run(line: &mut [u8], queue: &mut [u8]) {
     }
 }
 
-fn main() {
+fn main(rt: HostRuntime) {
+    let mut input = rt.stdin();
     let mut line = io::buffer();
     let mut queue = io::large_buffer();
-    run(&mut line, &mut queue);
+    run(&mut input, &mut line, &mut queue);
 }
