@@ -110,6 +110,12 @@ plus_written out at z h n t w = rw (plus_sign z (32 ∷ []) n t) (onward out at 
 
 -- A word.
 
+-- after i turns the digits of the first i symbols are written
+pub record Filled (out₀ : List ℕ) (at : ℕ) (symbols out : List ℕ) (i : ℕ) : Type 0 where
+  pub within : i ≤ length symbols
+  pub same : length out ≡ length out₀
+  pub text : Written out₀ out at (at + i) (map digit_byte (take i symbols))
+
 pub first_none : (out symbols : List ℕ) (at : ℕ) → at ≤ length out → Written out out at (at + 0) (map digit_byte (take 0 symbols))
 first_none out symbols at h =
     let e : at + 0 ≡ at = omega arith in rw e (record { text = sym (take-append-drop at out); ends = omega arith; fits = h })

@@ -1,4 +1,6 @@
 // The answer to one line (01: The line program).
+#![tactic(auto)]
+
 mod form;
 mod respond;
 mod text;

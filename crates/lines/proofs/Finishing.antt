@@ -79,11 +79,14 @@ pub finished : {goal call : Fed} {line : List ℕ} {len : ℕ} {pending : List �
     {answered lines : ℕ} {b : Bool} → Done goal line len pending from to 0 produced out₀ out → goal ≡ call → answered ≡ lines
     → b ≡ is_empty (pending_of pending from to)
     → (model_from line len pending from to ≡ call.model)
-    × ((produced ≡ length call.produced) × ((answered ≡ lines) × ((b ≡ is_done call) × (out ≡ overwritten call.produced out₀))))
+    × (produced ≡ length call.produced)
+    × (answered ≡ lines)
+    × (b ≡ is_done call)
+    × (out ≡ overwritten call.produced out₀)
 unfolding is_done
 finished d e n b =
     let s = stepped d e n in
-    (s.0, (s.1.1.0, (n, (b ∙ ap (λ (m : Model). is_empty m.pending) s.0, s.1.1.1.1))))
+    (s.0, s.2, n, b ∙ ap (λ (m : Model). is_empty m.pending) s.0, s.4)
 
 -- either way out of the second part
 pub all_done : {goal : Fed} {out₀ line : List ℕ} {len : ℕ} {pending : List ℕ} {k end produced : ℕ} {out : List ℕ}

@@ -66,16 +66,16 @@ module _ (line : List ℕ) (len : ℕ) (s : List ℕ) (long : length line ≡ 10
 
 -- the contract of an answer, of another name for its bytes
 pub begins_with : (old : List ℕ) {new bytes answer : List ℕ} {end : ℕ} → length old ≡ 128 → bytes ≡ answer
-    → (end ≡ length bytes) × ((end ≤ 128) × (new ≡ overwritten bytes old)) → BeginsWith new end answer
+    → end ≡ length bytes → end ≤ 128 → new ≡ overwritten bytes old → BeginsWith new end answer
 unfolding overwritten
-begins_with old {new} {bytes} {answer} {end} long e h =
+begins_with old {new} {bytes} {answer} {end} long e ends fits text =
     record {
-      text = rw (h.0, h.1.1) (take-append_seam bytes (drop (length bytes) old)) ∙ e;
-      fits = h.1.0;
+      text = rw (ends, text) (take-append_seam bytes (drop (length bytes) old)) ∙ e;
+      fits = fits;
       long =
-          ap length h.1.1
+          ap length text
           ∙ length-append bytes (drop (length bytes) old)
-          ∙ omega (arith, h.0, h.1.0, length-drop (length bytes) old);
+          ∙ omega (arith, ends, fits, length-drop (length bytes) old);
     }
 
 -- a line that has run over is answered as the empty line is

@@ -232,12 +232,14 @@ begins input out line len pending from to a b c d =
 pub stepped : {goal call : Fed} {line : List ℕ} {len : ℕ} {pending : List ℕ} {from to consumed produced : ℕ} {out₀ out : List ℕ}
     {answered lines : ℕ} → Done goal line len pending from to consumed produced out₀ out → goal ≡ call → answered ≡ lines
     → (model_from line len pending from to ≡ call.model)
-    × ((consumed ≡ call.consumed)
-    × ((produced ≡ length call.produced) × ((answered ≡ lines) × (out ≡ overwritten call.produced out₀))))
+    × (consumed ≡ call.consumed)
+    × (produced ≡ length call.produced)
+    × (answered ≡ lines)
+    × (out ≡ overwritten call.produced out₀)
 stepped {out₀} d e n = (
   d.model ∙ ap (λ (f : Fed). f.model) e,
-  (
-    d.consumed_is ∙ ap (λ (f : Fed). f.consumed) e,
-    (d.produced_is ∙ ap (λ (f : Fed). length f.produced) e, (n, d.output ∙ ap (λ (f : Fed). overwritten f.produced out₀) e)),
-  ),
+  d.consumed_is ∙ ap (λ (f : Fed). f.consumed) e,
+  d.produced_is ∙ ap (λ (f : Fed). length f.produced) e,
+  n,
+  d.output ∙ ap (λ (f : Fed). overwritten f.produced out₀) e,
 )

@@ -1,4 +1,6 @@
 // The line program of document 01 over input that comes in pieces of any size, into outputs of any size.
+#![tactic(auto)]
+
 mod line;
 mod pending;
 mod search;

@@ -7,7 +7,8 @@ use Rattle.answers.proofs.text.one_change.Goals as goal
 
 pub returns : goal.returns
 returns c =
-    let (text, short) = c.decimal-next.ensures in (
-      change_written (change_of c.args.c) c.requires.1.1 text c.pair.ensures,
-      omega (arith, short, c.pair.ensures.ends),
-    )
+    let next = c.decimal-next.ensures in
+    record {
+      text = change_written (change_of c.args.c) c.requires.1.1 next.text c.pair.ensures;
+      short = omega (arith, next.short, c.pair.ensures.ends);
+    }
