@@ -1,4 +1,6 @@
 // The component words of a pair of messages (01: How a word is made, 1 to 3), in one array.
+#![tactic(auto)]
+
 mod component;
 mod sums;
 

@@ -9,7 +9,7 @@ use native.Mathlib.Nat.{not-suc-le-zero, le_of_suc-le-suc, le_refl}
 use native.Mathlib.Omega.{arith}
 use lib.ListN.{length, take}
 use lib.Seq.{length-take-le}
-use mir.Syntax.{w32}
+use lib.IntN.{ℤ, pos}
 use Rattle.modular_theory.specs.Sum.{weight}
 use Rattle.modular_theory.proofs.Search.{le_or_lt, le_of_not_lt}
 use Rattle.modular_theory.proofs.Integer.{difference_zero, no_difference}
@@ -22,7 +22,6 @@ use Rattle.code_theory.proofs.Walk.{chosen_walked, length_walked, shift_below, T
 use Rattle.code_theory.proofs.First.{tried_at, tried_index, before_choice}
 use Rattle.code_theory.proofs.Choice.{balance_exists}
 use Rattle.code_theory.proofs.LineRule.{balanced_by_one}
-use Rattle.modular.proofs.Signed.{Holds, zero_read, other_read}
 use Rattle.profiles.specs.declared.row.Row.{Row}
 use Rattle.profiles.specs.Row.{parameters, Valid}
 use Rattle.encoder.specs.Symbols.{Walked, Chosen}
@@ -41,15 +40,15 @@ pub record Missed (p : Parameters) (d : List ℕ) (s : ℕ) : Type 0 where
 pub missed_none : (p : Parameters) (d : List ℕ) → Missed p d 0
 missed_none p d = record { all = λ t i k l. absurd (not-suc-le-zero k) }
 
--- nor does one with this shift and a v below this one, and `excess` holds what the choice weighs less the balancing value
-pub record Trying (q : ℕ) (d : List ℕ) (t v excess : ℕ) : Type 0 where
+-- nor does one with this shift and a v below this one, and `excess` is what the choice weighs less the balancing value
+pub record Trying (q : ℕ) (d : List ℕ) (t v : ℕ) (excess : ℤ) : Type 0 where
   pub from : 1 ≤ v
   pub upto : v ≤ length d + 1
-  pub is : Holds w32 excess (excess_at q d t (v - 1))
+  pub is : excess ≡ excess_at q d t (v - 1)
   pub missed : (i : ℕ) → suc i < v → Misses q d t i
 
 module _ {q : ℕ} {d : List ℕ} {t : ℕ} where
-  pub trying_first : {excess : ℕ} → 1 ≤ length d → Holds w32 excess (excess_at q d t 0) → Trying q d t 1 excess
+  pub trying_first : {excess : ℤ} → 1 ≤ length d → excess ≡ excess_at q d t 0 → Trying q d t 1 excess
   trying_first l e =
       record {
         from = le_refl 1;
@@ -58,7 +57,7 @@ module _ {q : ℕ} {d : List ℕ} {t : ℕ} where
         missed = λ i a. absurd (not-suc-le-zero (le_of_suc-le-suc a));
       }
 
-  pub trying_next : {v excess y : ℕ} → Trying q d t v excess → v ≤ length d → excess ≢ 0 → Holds w32 y (excess_at q d t (suc (v - 1)))
+  pub trying_next : {v : ℕ} {excess y : ℤ} → Trying q d t v excess → v ≤ length d → excess ≢ pos 0 → y ≡ excess_at q d t (suc (v - 1))
       → Trying q d t (v + 1) y
   trying_next {v} {excess} {y} r l n e =
       let f : v + 1 - 1 ≡ suc (v - 1) = omega (arith, r.from) in
@@ -70,9 +69,9 @@ module _ {q : ℕ} {d : List ℕ} {t : ℕ} where
       }
     where
       at : (i : ℕ) → i ≡ v - 1 → Misses q d t i
-      at i g m = other_read r.is n (no_difference (ap (weight_at q d t) (sym g) ∙ m))
+      at i g m = n (r.is ∙ no_difference (ap (weight_at q d t) (sym g) ∙ m))
 
-pub trying_all : {p : Parameters} {d : List ℕ} {s t v excess : ℕ} → Trying p.q d t v excess → t ≡ shift_of p s → length d < v
+pub trying_all : {p : Parameters} {d : List ℕ} {s t v : ℕ} {excess : ℤ} → Trying p.q d t v excess → t ≡ shift_of p s → length d < v
     → Missed p d s → Missed p d (s + 1)
 trying_all {p} {d} {s} {t} r g l m =
     record { all = λ u i a b. ⊎_elim (λ (k : s ≤ u). at u i (omega arith) b) (λ (k : u < s). m.all u i k b) (le_or_lt s u) }
@@ -117,15 +116,15 @@ module _ {p : Parameters} (h : 1 ≤ p.q) {d : List ℕ} (x : List ℕ) (is : d 
   missed_below {s} m =
       le_of_not_lt (λ (k : earliest_s p x < s). m.all (earliest_s p x) used.0 k (omega (arith, used.1, same_length)) balances_used)
 
-  module _ {s t v excess : ℕ} (m : Missed p d s) (g : t ≡ shift_of p s) (r : Trying p.q d t v excess) (l : v ≤ length d)
-      (z : excess ≡ 0) where
+  module _ {s t v : ℕ} {excess : ℤ} (m : Missed p d s) (g : t ≡ shift_of p s) (r : Trying p.q d t v excess) (l : v ≤ length d)
+      (z : excess ≡ pos 0) where
     inside : v - 1 < length x
     inside = omega (arith, r.from, same_length)
 
     here : weight (chosen p x s (choice p (v - 1))) ≡ balancing_value p.q (length x)
     here =
         let f : weight_at p.q d t (v - 1) ≡ balancing_value p.q (length d) =
-        difference_zero (weight_at p.q d t (v - 1)) (balancing_value p.q (length d)) (zero_read r.is z) in
+        difference_zero (weight_at p.q d t (v - 1)) (balancing_value p.q (length d)) (sym r.is ∙ z) in
         (meets s (v - 1) inside).from (rw (← g) (f ∙ target))
 
     is_s : s ≡ earliest_s p x
@@ -184,8 +183,8 @@ module _ (t : Row) (valid : Valid t) where
       let b : Balanced (parameters t) i.of = row_balances i.of (long i.of i.is e) in
       omega (arith, missed_below levels i.of i.is (row_even (length i.of)) b m, b.s_below)
 
-  pub all_found : {d : List ℕ} {s u v excess : ℕ} → length d ≡ t.balanced → Walked (parameters t) d → Missed (parameters t) d s
-      → u ≡ shift_of (parameters t) s → Trying t.q d u v excess → v ≤ length d → excess ≡ 0 → Chosen rule1 (parameters t) d u v
+  pub all_found : {d : List ℕ} {s u v : ℕ} {excess : ℤ} → length d ≡ t.balanced → Walked (parameters t) d → Missed (parameters t) d s
+      → u ≡ shift_of (parameters t) s → Trying t.q d u v excess → v ≤ length d → excess ≡ pos 0 → Chosen rule1 (parameters t) d u v
   all_found {d} {s} {u} {v} e i m g y l f =
       record {
         below = rw g (shift_below (parameters t) levels s (s_left e i m));

@@ -95,9 +95,9 @@ module _ (q : ℕ) (h : 1 ≤ q) where
 abbrev pub excess_at : ℕ → List ℕ → ℕ → ℕ → ℤ
 excess_at q d s i = pos (weight_at q d s i) -ℤ pos (balancing_value q (length d))
 
--- `excess` holds that, and the weight of the next choice has the gain more and 1 less
+-- `excess` are that number's bits, and the weight of the next choice has the gain more and 1 less
 pub record Stepping (q : ℕ) (d : List ℕ) (s i excess gain : ℕ) : Type 0 where
-  pub is : Holds w32 excess (excess_at q d s i)
+  pub is : to_z w32 excess ≡ excess_at q d s i
   pub gained : weight_at q d s i + gain ≡ suc (weight_at q d s (suc i))
   pub small : weight_at q d s (suc i) ≤ 1455
   pub narrow : balancing_value q (length d) ≤ 65535
@@ -119,7 +119,7 @@ module _ {q : ℕ} {d : List ℕ} {s i excess gain : ℕ} (h : Stepping q d s i 
   excess_gained =
       record {
         is =
-            ap₂ (λ (x y : ℤ). x +ℤ y) (read h.is) (read gain_held)
+            ap₂ (λ (x y : ℤ). x +ℤ y) h.is (read gain_held)
             ∙ difference_more (weight_at q d s i) target gain
             ∙ ap (λ (n : ℕ). pos n -ℤ pos target) h.gained;
         fits = fits (suc next) (omega (arith, h.small));

@@ -1,4 +1,6 @@
 // Encoding (01: Write) of a pair of messages into the word that goes on the line. The pair's components are those of crate `components`.
+#![tactic(auto)]
+
 mod balance;
 mod least_peak;
 mod pair;

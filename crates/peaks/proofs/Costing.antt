@@ -12,7 +12,6 @@ use Rattle.modular_theory.specs.Sum.{weight}
 use Rattle.modular_theory.proofs.Search.{same_test, eq_test}
 use Rattle.modular_theory.proofs.Residue.{already_reduced, wrapped}
 use Rattle.code_theory.specs.Balance.{shifted, shifted_from}
-use Rattle.code_theory.specs.RunningSum.{largest}
 use Rattle.peaks_theory.specs.Costs.{gap, prefix_peak, balanced_at, cost_at}
 use Rattle.peaks_theory.specs.Lowest.{no_cost}
 use Rattle.peaks_theory.proofs.Bound.{cost_below}

@@ -11,22 +11,20 @@ abbrev start : In-Found → Start
 start c = (goal.at.In-Found c).Start
 
 -- the row that is found
-of : (c : In-Found) → RowOf edition13 (start c).args.profile c.row-1.given.0.0
-of c = row_found _ _ c.row_of.ensures c.row-1.given.1
+of : (c : In-Found) → RowOf edition13 (start c).args.profile c.in-Found.row
+of c = row_found _ _ c.row_of.ensures c.in-Found.is
 
 pub returns-in_default : goal.returns-in_default
-returns-in_default c = no_profile _ _ _ (none_found _ _ c.row_of.ensures c.enum_told-1.given.1)
+returns-in_default c = no_profile _ _ _ (none_found _ _ c.row_of.ensures c.in_default.is)
 
 pub returns-then-not-first-row : goal.returns-then-not-first-row
 returns-then-not-first-row c = no_fit _ _ _ (of (goal.at.returns-then-not-first-row c).In-Found) (c.if-not-first-row.true)
 
 pub interleaved-requires : goal.interleaved-requires
 interleaved-requires c =
-    let found = c.before.before.before in
     let a = (start (goal.at.interleaved-requires c).In-Found).args in
     right_length _ a.first.now a.second.now (of (goal.at.interleaved-requires c).In-Found) (c.if-not-first-row.false)
 
 pub returns : goal.returns
 returns c =
-    let found = c.before.before.before.before in
     right_components _ _ _ (of (goal.at.returns c).In-Found) (c.if-not-first-row.false) c.interleaved.ensures

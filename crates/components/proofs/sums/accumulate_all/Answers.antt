@@ -1,6 +1,5 @@
 -- `components::sums::accumulate_all` meets its contract. The invariant: a step is made in the lanes passed. The measure is what is left.
 -- Assumes nothing.
-use Prim.Native.Nat.{◌-◌}
 use native.Mathlib.Nat.{le_refl}
 use native.Mathlib.Omega.{arith}
 use Rattle.components.proofs.Carrying.{made_none, made_more, made_all}

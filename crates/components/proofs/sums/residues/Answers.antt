@@ -2,7 +2,6 @@
 -- measure is what is left.
 -- Assumes nothing.
 use mathlib.Core.Path.{refl}
-use Prim.Native.Nat.{◌-◌}
 use native.Mathlib.Omega.{arith}
 use borrow.Author.Rules.{rules}
 use Rattle.modular.proofs.Filling.{filled_none, filled_more}
@@ -19,6 +18,4 @@ pub loop-i-preserved : goal.loop-i-preserved
 loop-i-preserved c = (filled_more c.loop-i.invariant.0 (omega arith) refl, omega arith)
 
 pub returns : goal.returns
-returns c =
-    let start = c.before.before.before.before.before in
-    reduced_all start.args.q start.args.t2 c.loop-i.invariant.0 (search rules) (omega arith)
+returns c = reduced_all c.args.q c.args.x c.loop-i.invariant.0 (search rules) (omega arith)
