@@ -5,20 +5,23 @@
 // a message `?` is a mark. A refusal is `R number`, and `R 4 tried` for an unreadable word (02, T-08: how many places were tried).
 // Conversions (02, T-04) are in the file `conversions`, a line `edition profile word length` each, and the answer is the word of the other
 // edition, or `R number`.
+ghost use Rattle.std.specs.Prelude.{◌≤◌, length};
+
 mod print;
 mod text;
 
 use decoder::{Changes, Decoded};
 use encoder::Encoded;
-use libc::{STDIN_FILENO, STDOUT_FILENO};
 use print::{
-    FILL, is_untouched, print_change, print_error, print_number, print_refusal, print_word,
+    FILL, STDOUT_FILENO, is_untouched, print_change, print_error, print_number, print_refusal, print_word,
 };
 use syndromes::Correction;
+use std::fs::File;
+use std::io::Read;
 use text::{field, parse_number, parse_symbols, smaller, until};
 
 // The operation that a file has cases of.
-#[derive(Drop)]
+#[derive(Clone, Copy)]
 enum Operation {
     Encode,
     Decode,
@@ -186,26 +189,42 @@ fn answer_all(input: &[u8], operation: Operation) {
     }
 }
 
+// Reads until the buffer is full or the file ends, and answers how many bytes came. A read that fails is taken for the end.
+fn read_full<R: Read>(file: &mut R, input: &mut [u8]) -> usize
+    ensures { result ≤ length input.new }
+{
+    let mut done = 0;
+    while done < input.len() {
+        let n = match file.read(&mut input[done..]) {
+            Ok(n) => n,
+            Err(_) => 0,
+        };
+        if n == 0 {
+            break;
+        }
+        done += n;
+    }
+    done
+}
+
 // Answers a file of at most 2 MB; what is longer is cut off.
-fn run(fd: i32, operation: Operation) {
+fn run<R: Read>(file: &mut R, operation: Operation) {
     let mut input = [0u8; 2097152];
-    let n = io::read_full(fd, &mut input);
+    let n = read_full(file, &mut input);
     answer_all(&input[..n], operation);
 }
 
 // Answers the file of that name.
-fn run_file(name: &[u8], operation: Operation) {
-    let fd = os::open_read(name);
-    if fd < 0 {
-        os::fail(name);
-        return;
-    }
-    run(fd, operation);
-    libc::close(fd);
+fn run_file(rt: &HostRuntime, name: &str, operation: Operation) -> std::io::Result<()> {
+    let mut file = File::open(rt, name)?;
+    run(&mut file, operation);
+    Ok(())
 }
 
-fn main() {
-    run(STDIN_FILENO, Operation::Encode);
-    run_file(b"words", Operation::Decode);
-    run_file(b"conversions", Operation::Convert);
+fn main(rt: HostRuntime) -> std::io::Result<()> {
+    let mut pairs = rt.stdin();
+    run(&mut pairs, Operation::Encode);
+    run_file(&rt, "words", Operation::Decode)?;
+    run_file(&rt, "conversions", Operation::Convert)?;
+    Ok(())
 }

@@ -1,6 +1,8 @@
 // Answers in print.
 use crate::text::smaller;
-use libc::STDOUT_FILENO;
+
+// The standard output, by POSIX's number.
+pub(crate) const STDOUT_FILENO: i32 = 1;
 
 // What an output holds before a call.
 pub(crate) const FILL: u8 = 170;

@@ -6,10 +6,8 @@ use lines::State;
 use std::fs::File;
 use std::io::Read;
 
-// The streams that are written to, by POSIX's numbers.
+// The standard output, by POSIX's number.
 const STDOUT_FILENO: i32 = 1;
-
-const STDERR_FILENO: i32 = 2;
 
 fn smaller(a: usize, b: usize) -> usize
     ensures { (result ≤ a) × (result ≤ b) }
@@ -86,31 +84,29 @@ fn run(file: &mut File, piece: usize, output: &mut [u8]) {
     }
 }
 
-// Every file: they are named by two digits, 01 to 15.
-fn files(piece: usize, output: &mut [u8]) {
-    let mut k: u8 = 1;
-    while k < 16 {
-        let tens = 48 + k / 10;
-        let ones = 48 + k % 10;
-        let name = [tens, ones];
-        let fd = os::open_read(&name);
-        if fd < 0 {
-            os::fail(&name);
-            return;
-        }
-        run(fd, piece, output);
-        libc::close(fd);
-        k += 1;
+// The files, in their order.
+const FILES: [&str; 15] = [
+    "01", "02", "03", "04", "05", "06", "07", "08", "09", "10", "11", "12", "13", "14", "15",
+];
+
+// Every file, up to the first that can't be opened.
+fn files(rt: &HostRuntime, piece: usize, output: &mut [u8]) -> std::io::Result<()> {
+    let names = FILES;
+    for name in &names {
+        let mut file = File::open(rt, *name)?;
+        run(&mut file, piece, output);
     }
+    Ok(())
 }
 
-fn main() {
+fn main(rt: HostRuntime) -> std::io::Result<()> {
     let mut three = [0u8; 3];
-    files(1, &mut three);
+    files(&rt, 1, &mut three)?;
     let mut one = [0u8; 1];
-    files(7, &mut one);
+    files(&rt, 7, &mut one)?;
     let mut long = [0u8; 128];
-    files(128, &mut long);
+    files(&rt, 128, &mut long)?;
     let mut fifty = [0u8; 50];
-    files(0, &mut fifty);
+    files(&rt, 0, &mut fifty)?;
+    Ok(())
 }
