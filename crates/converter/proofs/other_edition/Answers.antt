@@ -4,8 +4,7 @@ use mathlib.Core.Path.{◌≡◌}
 use Prim.Native.Nat.{ℕ}
 use borrow.Author.Tests.{ne_eqb}
 use Rattle.converter.specs.Conversion.{other_edition}
-use Rattle.converter.proofs.other_edition.Statement.{statement}
-use Rattle.converter.proofs.other_edition.Tie as tie
+use Rattle.converter.proofs.other_edition.Goals as goal
 
 is_13 : (k : ℕ) → k ≡ 18 → 13 ≡ other_edition k
 is_13 k e = rw e
@@ -13,11 +12,8 @@ is_13 k e = rw e
 is_18 : (k : ℕ) → (k ≡ 18 → ⊥) → 18 ≡ other_edition k
 is_18 k d = rw (ne_eqb k 18 d, other_edition)
 
-returns : tie.Need-returns
-returns c = is_13 _ c.if1.true
+pub returns-then-edition-eq18 : goal.returns-then-edition-eq18
+returns-then-edition-eq18 c = is_13 _ c.if-edition-eq18.true
 
-returns-2 : tie.Need-returns-2
-returns-2 c = is_18 _ c.if1.false
-
-pub other-edition-spec : {M : Type 1} → statement M
-other-edition-spec = tie.close (tie.spec returns returns-2)
+pub returns-else-edition-eq18 : goal.returns-else-edition-eq18
+returns-else-edition-eq18 c = is_18 _ c.if-edition-eq18.false

@@ -1,0 +1,18 @@
+-- `fogzurt::fogzurt_decode` meets its contract: decode's, with the report packed.
+-- Assumes nothing.
+use mathlib.Core.Path.{ap, ◌∙◌}
+use lib.ListN.{length}
+use Rattle.fogzurt.specs.Packed.{packed}
+use Rattle.fogzurt.proofs.Packing.{within_answer}
+use Rattle.fogzurt.proofs.fogzurt_decode.Goals as goal
+
+pub pack-requires : goal.pack-requires
+pack-requires c =
+    let a = c.args in
+    rw c.decode.ensures.answer
+    (within_answer a.edition a.profile a.word.now (length a.first.now) (length a.second.now))
+
+pub returns : goal.returns
+returns c =
+    let told = c.decode.ensures in
+    record { answer = c.pack.ensures ∙ ap packed told.answer; first_out = told.first_out; second_out = told.second_out }
