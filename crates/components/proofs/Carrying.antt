@@ -14,13 +14,12 @@ use lib.Seq.{get_or-set_same, get_or-set_other, take_all}
 use Rattle.modular_theory.specs.Sum.{dot}
 use Rattle.modular_theory.specs.Digits.{digits}
 use Rattle.modular_theory.proofs.Search.{and_intro}
-use Rattle.modular_theory.proofs.Residue.{same}
 use Rattle.modular_theory.proofs.Digits.{digits_below}
 use Rattle.code_theory.specs.Component.{symbols_below, column, check_row}
 use Rattle.code_theory.proofs.Symbols.{symbol_below, symbols_below_lem, symbols_append}
 use Rattle.symbols.specs.Syndromes.{four_rows, part}
 use Rattle.symbols.proofs.Parts.{part_first, part_second, part_length}
-use Rattle.symbols.proofs.Words.{dot_take, zeros_at}
+use Rattle.symbols.proofs.Words.{dot_take}
 use Rattle.components.specs.PartialSums.{PartialSum, PartialSums}
 use Rattle.components.specs.Lanes.{lanes, column_lanes, symbol_lanes, four_lanes, LanesBelow, LanesAccumulated}
 use Rattle.components.proofs.PartialSums.{continued}
@@ -89,18 +88,6 @@ pub record Carrying (q n : ℕ) (x s : List ℕ) (i : ℕ) : Type 0 where
   pub second : PartialSums q (take i (part false n x)) (four_lanes s 4)
   pub size : length s ≡ 16
   pub below : LanesBelow q s
-
-nothing_carried : (q : ℕ) (c : List ℕ) → 1 ≤ q → PartialSums q (take 0 c) (replicate 4 0)
-nothing_carried q c some = record { at = λ j h. rw (zeros_at 4 j) (record { below = some; same = same 0 }) }
-
-pub carrying_none : (q n : ℕ) (x : List ℕ) → 1 ≤ q → Carrying q n x (replicate 16 0) 0
-carrying_none q n x some =
-    record {
-      first = nothing_carried q (part true n x) some;
-      second = nothing_carried q (part false n x) some;
-      size = refl;
-      below = λ j h. rw (zeros_at 16 j) some;
-    }
 
 four_at : (s : List ℕ) (k j : ℕ) → j < 4 → get_or s (k + j) 0 ≡ get_or (four_lanes s k) j 0
 four_at s k zero h = ap (λ (l : ℕ). get_or s l 0) (add-zero k)

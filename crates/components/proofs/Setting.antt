@@ -42,10 +42,6 @@ module _ (t : Row) (valid : Valid t) where
       let e : suc (t.q ^ j - 1) ≡ t.q ^ j = power_position (parameters t) valid.sized j in
       (omega arith, omega arith)
 
-  -- a check position is one of the array's
-  pub position_inside : (k : ℕ) → k < t.r → {position : ℕ} → position ≡ check_position t.q k → (1 ≤ position) × (position ≤ 48)
-  position_inside k h e = (omega (arith, inside k h), omega (arith, inside k h, valid.length))
-
   module _ (e f x₀ : List ℕ) where
     setting_more : {x : List ℕ} (k : ℕ) → Setting t e f x₀ x k → k < t.r → {position : ℕ} → position ≡ check_position t.q k
         → Setting t e f x₀ (set_at x position (get_or e k 0) (get_or f k 0)) (suc k)

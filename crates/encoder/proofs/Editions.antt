@@ -8,7 +8,7 @@ use native.Mathlib.Omega.{arith}
 use Rattle.code_theory.specs.Parameters.{Edition, Parameters, in_edition}
 use Rattle.code_theory.specs.LineRule.{LineRule, encoded_by}
 use Rattle.code_theory.specs.Profiles.{profile}
-use Rattle.code_theory.specs.Walk.{complement, shift_of, unwalked}
+use Rattle.code_theory.specs.Walk.{shift_of}
 use Rattle.modular.specs.Byte.{byte_difference}
 use Rattle.modular.proofs.Bytes.{byte_difference_lem}
 use Rattle.profiles.specs.declared.edition.Edition.TheVariants.{Of2018}
@@ -22,9 +22,6 @@ shift_18 t s e l h f =
     let low : t.q - 1 < t.q = omega arith in
     let high : s + 1 ≤ t.q = omega arith in
     (byte_difference_lem low high (omega arith) f).0 ∙ rw (add-one, e)
-
-pub word_18 : (t : Row) (w : List ℕ) {u : List ℕ} → t.edition ≡ Of2018 → u ≡ complement t.q w → u ≡ unwalked (parameters t) w
-word_18 t w e f = f ∙ rw e
 
 -- A row in an edition is one in its own.
 

@@ -1,19 +1,19 @@
 -- Integrating a word: its sums, and each of them mod q.
 -- Assumes nothing.
-use mathlib.Core.Path.{◌≡◌, refl, sym, ap, ◌∙◌}
+use mathlib.Core.Path.{◌≡◌, sym, ap, ◌∙◌}
 use mathlib.Core.List.{List, [], ◌∷◌}
-use Prim.Native.Nat.{ℕ, zero, suc, ◌+◌, ◌*◌, ◌%◌, ◌≤◌, ◌<◌, zero-le}
+use Prim.Native.Nat.{ℕ, zero, suc, ◌+◌, ◌*◌, ◌%◌, ◌≤◌, ◌<◌}
 use native.Mathlib.Nat.{not-suc-le-zero, le_of_suc-le-suc, le_refl, mod-lt}
 use native.Mathlib.Numerals.{add-one}
 use native.Mathlib.Omega.{arith}
-use lib.ListN.{length, get_or, take, set, replicate}
+use lib.ListN.{length, get_or, take, set}
 use lib.Seq.{get_or-take, take-take, ext_get_or, length-take-le}
 use Rattle.modular_theory.specs.Sum.{weight}
 use Rattle.modular_theory.proofs.Residue.{of_eq, same, add, reduce, ◌then◌}
 use Rattle.code_theory.specs.Balance.{integrate}
 use Rattle.code_theory.proofs.Shifted.{length_integrate}
 use Rattle.modular.specs.Remainder.{residues_of}
-use Rattle.modular.proofs.Filling.{FilledTo, filled_none, filled_more}
+use Rattle.modular.proofs.Filling.{FilledTo, filled_more}
 use Rattle.modular.proofs.Dividing.{residue_is, residue_at_lem, residues_long}
 use Rattle.symbols.proofs.Words.{weight_take}
 use Rattle.encoder.specs.Symbols.{SymbolArray, PrefixSums}
@@ -25,9 +25,6 @@ pub record PrefixSumming (x sums : List ℕ) (sum i : ℕ) : Type 0 where
   pub is : sum ≡ weight (take i x)
   pub small : sum ≤ 255 * i
   pub written : FilledTo (λ k. weight (take (suc k) x)) 97 sums i
-
-pub prefix_none : (x : List ℕ) → PrefixSumming x (replicate 97 0) 0 0
-prefix_none x = record { is = refl; small = zero-le; written = filled_none _ _ refl }
 
 pub prefix_more : {x sums : List ℕ} {sum i : ℕ} → PrefixSumming x sums sum i → i < 97 → {y : ℕ} → y ≡ get_or x i 0 → y ≤ 255
     → PrefixSumming x (set sums i (sum + y)) (sum + y) (i + 1)

@@ -5,8 +5,7 @@ use mathlib.Core.Logic.{⊎_elim}
 use mathlib.Core.Bool.{Bool, true, false}
 use mathlib.Core.List.{List, [], ◌∷◌}
 use Prim.Native.Nat.{ℕ, zero, suc, ◌+◌, ◌%◌, ◌≤◌, ◌<◌}
-use native.Mathlib.Nat.{not-suc-le-zero, le_of_suc-le-suc, mod-lt}
-use native.Mathlib.Numerals.{add-one}
+use native.Mathlib.Nat.{not-suc-le-zero, le_of_suc-le-suc}
 use native.Mathlib.Omega.{arith}
 use lib.ListN.{length, get_or, take}
 use lib.Seq.{get_or-take, ext_get_or, length-take-le}
@@ -24,12 +23,6 @@ rise_high from s i h = ap (λ (b : Bool). elim b as (λ _. ℕ) [ true ↦ s | f
 pub rise_upto : (from s i q : ℕ) → s < q → rise_at from s i ≤ q
 rise_upto from s i q h =
     ⊎_elim (λ (k : from ≤ i). rw (rise_high from s i k) h) (λ (k : i < from). rw (rise_low from s i k) (omega arith)) (le_or_lt from i)
-
-pub rise_is_low : (from s i : ℕ) → i < from → s ≡ rise_at from s i
-rise_is_low from s i h = sym (rise_low from s i h)
-
-pub rise_is_high : (from s i : ℕ) → from ≤ i → s + 1 ≡ rise_at from s i
-rise_is_high from s i h = add-one s ∙ sym (rise_high from s i h)
 
 -- w of a choice: s is added before index i, and s + 1 from there on.
 
@@ -74,14 +67,3 @@ raised_is {q} {s} {from} {d} {w} m symbols room r lw =
     (λ (u : from ≤ k). rw (rise_high from s k u, ← get_or-take m d k 0 g) (sym (shifted_after q s from (take m d) k j u)))
     (λ (u : k < from). rw (rise_low from s k u, ← get_or-take m d k 0 g) (sym (shifted_before q s from (take m d) k j u)))
     (le_or_lt from k))
-
--- a raised array holds symbols
-pub raised_symbols : {q s from : ℕ} {d w : List ℕ} → SymbolArray q 97 d → Raised q d s from w → length w ≡ 97 → SymbolArray q 97 w
-raised_symbols {q} {s} {from} {d} symbols r n =
-    record {
-      size = n;
-      some = symbols.some;
-      levels = symbols.levels;
-      room = symbols.room;
-      below = λ i h. rw (r.at i h) (mod-lt (get_or d i 0 + rise_at from s i) symbols.some);
-    }

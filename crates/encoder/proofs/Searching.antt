@@ -37,9 +37,6 @@ Misses q d t i = weight_at q d t i ≢ balancing_value q (length d)
 pub record Missed (p : Parameters) (d : List ℕ) (s : ℕ) : Type 0 where
   pub all : (t i : ℕ) → t < s → i < length d → Misses p.q d (shift_of p t) i
 
-pub missed_none : (p : Parameters) (d : List ℕ) → Missed p d 0
-missed_none p d = record { all = λ t i k l. absurd (not-suc-le-zero k) }
-
 -- nor does one with this shift and a v below this one, and `excess` is what the choice weighs less the balancing value
 pub record Trying (q : ℕ) (d : List ℕ) (t v : ℕ) (excess : ℤ) : Type 0 where
   pub from : 1 ≤ v

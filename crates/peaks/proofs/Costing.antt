@@ -55,9 +55,6 @@ module _ (q i : ℕ) {k : ℕ} (some : 1 ≤ q) (is : k ≡ taken_off q i) (even
       let sum : k - 1 ≡ k + (q - 1) - q = omega (arith, n) in
       sum ∙ (wrapped {q = q} (omega (arith, n)) (omega arith)).0 ∙ less_one
 
-pub taken_same : (q i : ℕ) → i % 2 ≡ 1 → taken_off q i ≡ taken_off q (i + 1)
-taken_same q i odd = let half : (i + 1) / 2 ≡ (i + 1 + 1) / 2 = omega arith in ap (λ (n : ℕ). n * (q - 1) % q) half
-
 -- the largest of the three is the cost
 pub cost_lane : (q first step : ℕ) (w : List ℕ) (t i : ℕ) {head tail check : ℕ} → head ≡ prefix_peak (q - 1) (shifted q t w) i
     → tail ≡ tail_lane q w i t → check ≡ raised_lane q first step (taken_off q i) t

@@ -2,7 +2,7 @@
 -- Assumes nothing.
 use mathlib.Core.Path.{◌≡◌, refl, sym, ap, subst, ◌∙◌}
 use mathlib.Core.List.{List, [], ◌∷◌}
-use Prim.Native.Nat.{ℕ, suc, ◌+◌, ◌-◌, ◌*◌, ◌%◌, ◌≤◌, ◌<◌, max, zero-le}
+use Prim.Native.Nat.{ℕ, suc, ◌+◌, ◌-◌, ◌*◌, ◌%◌, ◌≤◌, ◌<◌, max}
 use native.Mathlib.Nat.{le_refl, mod-lt}
 use native.Mathlib.Omega.{arith}
 use native.Mathlib.Decide.{ℕ_discrete}
@@ -10,7 +10,7 @@ use lib.ListN.{length, get_or, drop, set, replicate, length-set, get_or-replicat
 use lib.Seq.{drop-cons, get_or-set_same, get_or-set_other}
 use Rattle.code_theory.specs.Balance.{shifted}
 use Rattle.peaks_theory.specs.Costs.{gap}
-use Rattle.peaks.specs.Lanes.{LanesAre, RowsAre, raised_lane}
+use Rattle.peaks.specs.Lanes.{LanesAre, raised_lane}
 use Rattle.peaks.specs.Sums.{zero_sum, Summed, SumsAre, tail_lane}
 use Rattle.peaks.specs.Steps.{next_sum, next_peak, SumRoom}
 use Rattle.peaks.proofs.Tables.{shifted_lane}
@@ -101,8 +101,3 @@ module _ (q : ℕ) (w : List ℕ) where
           either : (j : ℕ) → k ≤ j → j < length w → Dec (j ≡ k) → LanesAre (tail_lane q w j) (get_or (set tails k highs) j [])
           either j l h (yes e) = rw (e, get_or-set_same tails k highs [] (omega (arith, b.size))) now
           either j l h (no d) = rw (get_or-set_other tails k j highs [] d) (b.rows j (omega (arith, d)) h)
-
-  -- and at the end
-  pub backward_all : {tails : List (List ℕ)} {totals peaks : List ℕ} → Backward q w tails totals peaks 0
-      → SumsAre (q - 1) (λ t. shifted q (suc t) w) totals × RowsAre (tail_lane q w) (length w) tails
-  backward_all b = (b.sums, record { at = λ k h. b.rows k zero-le h })

@@ -8,20 +8,20 @@ use native.Mathlib.Nat.{mod-lt}
 use native.Mathlib.Numerals.{add-one}
 use native.Mathlib.Omega.{arith}
 use lib.Dec.{ltb}
-use lib.ListN.{length, get_or, take, replicate, get_or-replicate}
+use lib.ListN.{length, get_or, take}
 use Rattle.code_theory.specs.Balance.{shifted, shifted_from}
 use Rattle.peaks_theory.specs.Costs.{prefix_peak, balanced_at, cost_at}
-use Rattle.peaks_theory.specs.Lowest.{no_cost, lowest_cost, lowest_index, pick}
-use Rattle.peaks_theory.proofs.Lowest.{Searched, searched_none, searched_more, searched_all}
+use Rattle.peaks_theory.specs.Lowest.{lowest_cost, lowest_index, pick}
+use Rattle.peaks_theory.proofs.Lowest.{Searched, searched_more, searched_all}
 use Rattle.peaks.specs.declared.prefix.Lane.{Lane}
 use Rattle.peaks.specs.Lanes.{LanesAre, raised_lane, taken_off}
-use Rattle.peaks.specs.Sums.{zero_sum, Summed, SumsAre, tail_lane}
+use Rattle.peaks.specs.Sums.{Summed, tail_lane}
 use Rattle.peaks.specs.Steps.{cost_of, better_than, step_lane, lane_at, LaneRoom, LanesHold}
 use Rattle.peaks.specs.LeastPeaks.{found}
 use Rattle.peaks.proofs.SideBySide.{lanes_list}
 use Rattle.peaks.proofs.Stepping.{lane_held}
 use Rattle.peaks_theory.proofs.Shift.{length_shifted}
-use Rattle.peaks.proofs.Summing.{shifted_at, light_take, light_from, summed_none, summed_room, summed_more}
+use Rattle.peaks.proofs.Summing.{shifted_at, light_take, light_from, summed_room, summed_more}
 use Rattle.peaks.proofs.Summing.{summed_passed, head_more}
 use Rattle.peaks.proofs.Tables.{shifted_lane}
 use Rattle.peaks.proofs.Costing.{cost_small, cost_lane, balanced_lane}
@@ -43,26 +43,6 @@ pub record Forward (q first step : ℕ) (w sums heads totals costs indices : Lis
   pub lanes : (t : ℕ) → t < 8 → LaneIs q first step w i t (lane_at sums heads totals costs indices t)
 
 module _ (q first step : ℕ) (w : List ℕ) where
-  pub forward_none : {totals : List ℕ} {m : ℕ} → SumsAre (q - 1) (λ t. shifted q (suc t) w) totals → length w ≡ m
-      → Forward q first step w (replicate 8 zero_sum) (replicate 8 0) totals (replicate 8 no_cost) (replicate 8 m) 0
-  forward_none {totals} {m} a e =
-      record {
-        sums_size = refl;
-        heads_size = refl;
-        totals_size = a.size;
-        costs_size = refl;
-        indices_size = refl;
-        lanes = λ t h.
-            record {
-              sum_is = rw (get_or-replicate {A = ℕ} 8 t zero_sum 0 h) (summed_none (q - 1));
-              head_is = get_or-replicate {A = ℕ} 8 t 0 0 h;
-              total_is = a.at t h;
-              lowest =
-                  rw (get_or-replicate {A = ℕ} 8 t no_cost 0 h, get_or-replicate {A = ℕ} 8 t m 0 h, e)
-                  (searched_none (balanced_at q w t) (cost_at q first step w t) m);
-            };
-      }
-
   -- at the end
   pub forward_all : {m i : ℕ} {sums heads totals costs indices : List ℕ} → length w ≡ m → i ≡ m
       → Forward q first step w sums heads totals costs indices i → record { costs = costs; indices = indices } ≡ found q first step w m

@@ -8,7 +8,6 @@ use native.Mathlib.Omega.{arith}
 use native.Mathlib.Decide.{ℕ_discrete}
 use lib.ListN.{length, get_or, set, length-set}
 use lib.Seq.{get_or-set_same, get_or-set_other, ext_get_or}
-use Rattle.modular.proofs.Filling.{FilledTo}
 use Rattle.peaks.specs.Lanes.{lanes_of, LanesAre}
 use Rattle.peaks.specs.Steps.{next_sum}
 
@@ -45,10 +44,6 @@ module _ {f : ℕ → ℕ} {s r : List ℕ} {j : ℕ} (m : MadeTo f s r j) where
 pub sum_next : (h : ℕ) (up : List ℕ) {f : ℕ → ℕ} {s r : List ℕ} {j : ℕ} → MadeTo f s r j
     → get_or r j 0 + get_or up j 0 - h ≡ next_sum h up s j
 sum_next h up {j = j} m = ap (λ (x : ℕ). x + get_or up j 0 - h) (made_next m)
-
--- lanes that are filled from zeros
-pub filled_lanes : {f : ℕ → ℕ} {l : List ℕ} {i : ℕ} → FilledTo f 8 l i → 8 ≤ i → LanesAre f l
-filled_lanes a h = record { size = a.size; at = λ t l. a.at t (omega arith) }
 
 -- The lanes as a list.
 

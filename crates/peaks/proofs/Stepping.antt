@@ -1,24 +1,11 @@
 -- A step in a lane.
 -- Assumes nothing.
 use mathlib.Core.Path.{◌≡◌, refl}
-use mathlib.Core.Bool.{Bool}
 use mathlib.Core.List.{List}
-use Prim.Native.Nat.{ℕ, ◌+◌, ◌-◌, ◌<◌, max}
-use Rattle.peaks_theory.specs.Costs.{gap}
-use Rattle.peaks_theory.specs.Lowest.{pick}
+use Prim.Native.Nat.{ℕ, ◌<◌}
 use Rattle.peaks.specs.declared.prefix.Lane.{Lane}
-use Rattle.peaks.specs.Sums.{zero_sum}
 use Rattle.peaks.proofs.SideBySide.{MadeTo, made_next}
-use Rattle.peaks.specs.Steps.{is_better, step_lane, lane_at, LanesHold}
-
--- what the code makes of a lane, call by call
-pub step_made : (here : ℕ) (s : Lane) (h up next tail check : ℕ) {near size cost away head least index : ℕ} {better : Bool}
-    → near ≡ max s.head tail → size ≡ gap check h → cost ≡ max near size → better ≡ is_better s.total cost s.cost
-    → away ≡ gap (s.sum + up - h) zero_sum → head ≡ max s.head away → least ≡ pick better cost s.cost
-    → index ≡ pick better here s.index
-    → record { sum = s.sum + up - h; head = head; total = s.total + up - next; cost = least; index = index }
-    ≡ step_lane here s h up next tail check
-step_made here s h up next tail check a b c d e f g k = rw (k, g, f, e, d, c, b, a) refl
+use Rattle.peaks.specs.Steps.{lane_at, LanesHold}
 
 -- lanes are the same where what they carry is
 pub lane_same : {a b : Lane} → a.sum ≡ b.sum → a.head ≡ b.head → a.total ≡ b.total → a.cost ≡ b.cost → a.index ≡ b.index

@@ -1,19 +1,16 @@
 -- The rows of the tables.
 -- Assumes nothing.
-use mathlib.Core.Path.{◌≡◌, sym, ap, ◌∙◌}
+use mathlib.Core.Path.{◌≡◌, ap, ◌∙◌}
 use mathlib.Core.List.{List, []}
 use Prim.Native.Nat.{ℕ, ◌+◌, ◌*◌, ◌%◌, ◌≤◌, ◌<◌}
-use native.Mathlib.Nat.{mod-lt, mod-eq_of_lt, add-mod-mod, zero-mul, add-zero}
+use native.Mathlib.Nat.{add-mod-mod}
 use native.Mathlib.Omega.{arith}
 use native.Mathlib.Decide.{ℕ_discrete}
 use lib.ListN.{length, get_or, set}
 use lib.Seq.{get_or-set_same, get_or-set_other}
-use Rattle.peaks.specs.Lanes.{LanesAre, LanesBelow, RowsAre, raised_lane}
+use Rattle.peaks.specs.Lanes.{LanesAre, RowsAre, raised_lane}
 
 -- Multiples of a step.
-
-pub steps_none : {q first : ℕ} (step : ℕ) → first < q → first ≡ (first + 0 * step) % q
-steps_none {q} {first} step h = rw (zero-mul step, add-zero first) (sym (mod-eq_of_lt h))
 
 pub steps_more : {r y : ℕ} (q first step t : ℕ) → y ≡ (first + t * step) % q → r ≡ (step + y) % q → r ≡ (first + (t + 1) * step) % q
 steps_more q first step t e g =
@@ -23,9 +20,6 @@ steps_more q first step t e g =
 -- The rows of a table.
 
 module _ {l : List ℕ} (q first step : ℕ) (a : LanesAre (λ t. (first + t * step) % q) l) where
-  pub steps_below : 1 ≤ q → LanesBelow q l
-  steps_below some t h = rw (a.at t h) (mod-lt (first + t * step) some)
-
   pub raised_lanes : (y : ℕ) {r : List ℕ} → LanesAre (λ t. 2 * ((y + get_or l t 0) % q)) r → LanesAre (raised_lane q first step y) r
   raised_lanes y b =
       record {
@@ -41,9 +35,6 @@ module _ {l : List ℕ} (q first step : ℕ) (a : LanesAre (λ t. (first + t * s
 pub shifted_lane : {l : List ℕ} (q y : ℕ) → LanesAre (raised_lane q 0 1 y) l → (t : ℕ) → t < 8 → get_or l t 0 ≡ 2 * ((y + t) % q)
 shifted_lane q y a t h = let e : 0 + t * 1 + y ≡ y + t = omega arith in a.at t h ∙ ap (λ (n : ℕ). 2 * (n % q)) e
 
-pub rows_none : (f : ℕ → ℕ → ℕ) (rows : List (List ℕ)) → RowsAre f 0 rows
-rows_none f rows = record { at = λ y h. absurd (omega arith) }
-
 pub rows_more : {f : ℕ → ℕ → ℕ} {n : ℕ} {rows : List (List ℕ)} → RowsAre f n rows → n < length rows
     → {r : List ℕ} → LanesAre (f n) r → RowsAre f (n + 1) (set rows n r)
 rows_more {f} {n} {rows} a room {r} b = record { at = λ y h. either y (omega arith) (ℕ_discrete y n) }
@@ -51,6 +42,3 @@ rows_more {f} {n} {rows} a room {r} b = record { at = λ y h. either y (omega ar
     either : (y : ℕ) → y ≤ n → Dec (y ≡ n) → LanesAre (f y) (get_or (set rows n r) y [])
     either y h (yes e) = rw (e, get_or-set_same rows n r [] room) b
     either y h (no d) = rw (get_or-set_other rows n y r [] d) (a.at y (omega (arith, d)))
-
-pub rows_upto : {f : ℕ → ℕ → ℕ} {n : ℕ} {rows : List (List ℕ)} → RowsAre f n rows → {k : ℕ} → k ≤ n → RowsAre f k rows
-rows_upto a h = record { at = λ y l. a.at y (omega arith) }

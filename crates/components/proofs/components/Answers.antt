@@ -5,13 +5,10 @@ use Rattle.profiles.specs.Row.{RowOf}
 use Rattle.profiles.proofs.Table.{row_found, none_found}
 use Rattle.components.proofs.Lengths.{no_profile, no_fit, right_length, right_components}
 use Rattle.components.proofs.components.Goals as goal
-use Rattle.components.proofs.components.Goals.{In-Found, Start}
-
-abbrev start : In-Found → Start
-start c = (goal.at.In-Found c).Start
+use Rattle.components.proofs.components.Goals.{In-Found}
 
 -- the row that is found
-of : (c : In-Found) → RowOf edition13 (start c).args.profile c.in-Found.row
+of : (c : In-Found) → RowOf edition13 c.args.profile c.in-Found.row
 of c = row_found _ _ c.row_of.ensures c.in-Found.is
 
 pub returns-in_default : goal.returns-in_default
@@ -22,8 +19,7 @@ returns-then-not-first-row c = no_fit _ _ _ (of (goal.at.returns-then-not-first-
 
 pub interleaved-requires : goal.interleaved-requires
 interleaved-requires c =
-    let a = (start (goal.at.interleaved-requires c).In-Found).args in
-    right_length _ a.first.now a.second.now (of (goal.at.interleaved-requires c).In-Found) (c.if-not-first-row.false)
+    right_length _ c.args.first.now c.args.second.now (of (goal.at.interleaved-requires c).In-Found) (c.if-not-first-row.false)
 
 pub returns : goal.returns
 returns c =

@@ -1,15 +1,8 @@
 -- `components::component::difference` meets its contract: q is put on where the difference would be below 0.
 -- Assumes nothing.
 use native.Mathlib.Nat.{le_of_lt}
-use native.Mathlib.Omega.{arith}
 use Rattle.modular_theory.proofs.Residue.{minus_low, minus_high}
 use Rattle.components.proofs.component.difference.Goals as goal
-
-pub overflow_sub-result : goal.overflow_sub-result
-overflow_sub-result c = omega (arith, c.requires.1)
-
-pub overflow_add-result : goal.overflow_add-result
-overflow_add-result c = omega (arith, c.requires.1, c.if-a-x.true)
 
 pub returns-then-a-x : goal.returns-then-a-x
 returns-then-a-x c = minus_low (le_of_lt c.requires.1) c.if-a-x.true

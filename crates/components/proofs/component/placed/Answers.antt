@@ -4,7 +4,6 @@
 use mathlib.Core.Path.{◌≡◌, refl, ◌∙◌}
 use mathlib.Core.Logic.{◌≢◌}
 use Prim.Native.Nat.{ℕ, ◌-◌, ◌≤◌, ◌<◌}
-use native.Mathlib.Nat.{mul-le-mul}
 use native.Mathlib.Omega.{arith}
 use Rattle.code_theory.proofs.Component.{message_count}
 use Rattle.profiles.specs.Row.{parameters}
@@ -27,18 +26,11 @@ next-below c l other e =
 pub loop-position-init : goal.loop-position-init
 loop-position-init c = pair_none _ _ _ c.requires.0.length
 
-pub overflow_mul-power : goal.overflow_mul-power
-overflow_mul-power c = omega (arith, mul-le-mul c.loop-position.invariant.ahead.small c.requires.0.levels)
-
 pub bounds-first-next : goal.bounds-first-next
 bounds-first-next c = next-below (goal.at.bounds-first-next c).Else-position-power _ (omega arith) c.requires.1
 
 pub bounds-second-next : goal.bounds-second-next
 bounds-second-next c = next-below (goal.at.bounds-second-next c).Else-position-power _ (omega arith) c.requires.2
-
-pub set_pair-requires : goal.set_pair-requires
-set_pair-requires c =
-    (omega (arith, c.loop-position.invariant.is), omega (arith, c.loop-position-test.true, c.requires.0.length))
 
 pub overflow_add-next : goal.overflow_add-next
 overflow_add-next c =

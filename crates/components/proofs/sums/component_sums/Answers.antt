@@ -9,53 +9,38 @@ use lib.ListN.{get_or}
 use Rattle.modular_theory.specs.Digits.{digits}
 use Rattle.symbols.specs.Columns.{Columns}
 use Rattle.symbols.proofs.Counting.{columns_right}
-use Rattle.components.proofs.Carrying.{column_below, symbols_lanes_below, carrying_none, carrying_more}
+use Rattle.components.proofs.Carrying.{column_below, symbols_lanes_below, carrying_more}
 use Rattle.components.proofs.Carrying.{first_sums, second_sums}
 use Rattle.components.proofs.sums.component_sums.Goals as goal
-use Rattle.components.proofs.sums.component_sums.Goals.{After-column_lanes-column, After-columns-matrix, After-symbol_lanes-pair, In-loop-i, Start}
+use Rattle.components.proofs.sums.component_sums.Goals.{Start, After-columns-matrix, In-loop-i}
 
 -- there is a level
-some : (start : Start) → 1 ≤ start.args.q
-some start = omega (arith, start.requires.0)
+some : (c : Start) → 1 ≤ c.args.q
+some c = omega (arith, c.requires.0)
 
 -- the columns are those of the positions
 right : (c : After-columns-matrix) → Columns c.args.q c.args.n c.columns-matrix.result
 right c = columns_right c.columns-matrix.ensures (some (goal.at.After-columns-matrix c).Start) c.requires.2
 
-pub loop-i-init : goal.loop-i-init
-loop-i-init c = (carrying_none _ _ _ (some (goal.at.loop-i-init c).Start), omega arith)
-
--- The moment when the lanes of a column and of two symbols are there.
-module _ (c : After-symbol_lanes-pair) where
-  abbrev laid : After-column_lanes-column
-  laid = (goal.at.After-symbol_lanes-pair c).After-column_lanes-column
-
-  abbrev turn : In-loop-i
-  turn = laid.before.before
-
-  abbrev built : After-columns-matrix
-  built = turn.before.before
-
-  position : get_or built.columns-matrix.result turn.loop-i.i [] ≡ digits built.args.q 3 (suc turn.loop-i.i)
-  position = (right built).at turn.loop-i.i (omega arith)
+-- the digits of a turn's column
+position : (c : In-loop-i) → get_or c.columns-matrix.result c.loop-i.i [] ≡ digits c.args.q 3 (suc c.loop-i.i)
+position c = (right (goal.at.In-loop-i c).After-columns-matrix).at c.loop-i.i (omega arith)
 
 pub accumulate_all-requires : goal.accumulate_all-requires
 accumulate_all-requires c =
-    let made = c.before.before.before in
-    let a = (built (goal.at.accumulate_all-requires c).After-symbol_lanes-pair).before in
-    let inv = (turn (goal.at.accumulate_all-requires c).After-symbol_lanes-pair).before.loop-i.invariant.0 in (
-      a.requires.1,
+    let inv = c.loop-i.invariant.0 in
+    let is = position (goal.at.accumulate_all-requires c).In-loop-i in (
+      c.requires.1,
       inv.size,
       inv.below,
-      column_below _ a.requires.0 _ (laid (goal.at.accumulate_all-requires c).After-symbol_lanes-pair).column_lanes-column.ensures (position (goal.at.accumulate_all-requires c).After-symbol_lanes-pair),
-      symbols_lanes_below _ a.requires.0 _ _ made.symbol_lanes-pair.ensures (a.requires.3 _) (a.requires.3 _),
+      column_below _ c.requires.0 _ c.column_lanes-column.ensures is,
+      symbols_lanes_below _ c.requires.0 _ _ c.symbol_lanes-pair.ensures (c.requires.3 _) (c.requires.3 _),
     )
 
 pub loop-i-preserved : goal.loop-i-preserved
 loop-i-preserved c =
-    let made = c.before.before.before.before in
-    let inv = (turn (goal.at.loop-i-preserved c).After-symbol_lanes-pair).before.loop-i.invariant in (
-      carrying_more inv.0 (omega arith) (laid (goal.at.loop-i-preserved c).After-symbol_lanes-pair).column_lanes-column.ensures (position (goal.at.loop-i-preserved c).After-symbol_lanes-pair) made.symbol_lanes-pair.ensures
+    let is = position (goal.at.loop-i-preserved c).In-loop-i in (
+      carrying_more c.loop-i.invariant.0 (omega arith) c.column_lanes-column.ensures is c.symbol_lanes-pair.ensures
           c.accumulate_all.ensures,
       omega arith,
     )

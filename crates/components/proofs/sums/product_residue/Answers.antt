@@ -5,5 +5,4 @@ use Rattle.components.proofs.sums.product_residue.Goals as goal
 
 pub returns : goal.returns
 returns c =
-    let first = c.before.before in
-    taken_thrice _ _ first.requires.1 first.less_once.ensures c.less_once-2.ensures c.less_once-3.ensures
+    taken_thrice _ _ c.requires.1 c.less_once.ensures c.less_once-2.ensures c.less_once-3.ensures

@@ -3,9 +3,6 @@
 use Rattle.encoder.proofs.Integrating.{integral_is, integral_symbols}
 use Rattle.encoder.proofs.balance.integrated.Goals as goal
 
-pub summed-sums-requires : goal.summed-sums-requires
-summed-sums-requires c = c.requires.room
-
 pub returns : goal.returns
 returns c =
     let s = c.requires in

@@ -2,14 +2,11 @@
 -- Assumes nothing.
 use mathlib.Core.Path.{refl}
 use native.Mathlib.Omega.{arith}
-use Rattle.encoder.proofs.LeastPeak.{delta_below, offset_13, offset_18}
+use Rattle.encoder.proofs.LeastPeak.{delta_below, offset_18}
 use Rattle.encoder.proofs.least_peak.check_offset.Goals as goal
 
 pub overflow_sub-row : goal.overflow_sub-row
 overflow_sub-row c = omega (arith, delta_below c.args.row c.requires)
-
-pub returns-in-Of2013 : goal.returns-in-Of2013
-returns-in-Of2013 c = (offset_13 c.args.row c.requires c.in-Of2013.is c.wide.ensures.0, c.wide.ensures.1)
 
 pub returns-in-Of2018 : goal.returns-in-Of2018
 returns-in-Of2018 c =

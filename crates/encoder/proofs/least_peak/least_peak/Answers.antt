@@ -2,8 +2,7 @@
 -- Assumes nothing.
 use mathlib.Core.Path.{refl}
 use Prim.Native.Nat.{◌<◌}
-use native.Mathlib.Omega.{arith}
-use Rattle.encoder.proofs.LeastPeak.{lowest_below, least_chosen, index_small, shift_small}
+use Rattle.encoder.proofs.LeastPeak.{lowest_below, least_chosen, shift_small}
 use Rattle.encoder.proofs.least_peak.least_peak.Goals as goal
 use Rattle.encoder.proofs.least_peak.least_peak.Goals.{After-lowest_s}
 
@@ -19,14 +18,6 @@ pub bounds-indices-shift : goal.bounds-indices-shift
 bounds-indices-shift c =
     shift_small c.args.row c.requires.0 c.requires.1 c.args.d.now c.requires.2 _ _ c.seed-seed.ensures
     c.least_peaks-found.ensures c.requires.3 c.lowest_s.ensures c.shift_of-shift.ensures
-
-pub overflow_add-v : goal.overflow_add-v
-overflow_add-v c =
-    omega (
-      arith,
-      index_small c.args.row c.requires.0 c.requires.1 c.args.d.now c.requires.2 _ _ c.seed-seed.ensures
-          c.least_peaks-found.ensures c.requires.3 c.lowest_s.ensures c.shift_of-shift.ensures,
-    )
 
 pub returns : goal.returns
 returns c =

@@ -9,14 +9,11 @@ use lib.ListN.{get_or}
 use Rattle.code_theory.proofs.Walk.{shift_below}
 use Rattle.profiles.specs.Row.{parameters}
 use Rattle.peaks_theory.specs.Lowest.{no_cost}
-use Rattle.peaks_theory.proofs.Lowest.{Searched, searched_none, searched_all}
+use Rattle.peaks_theory.proofs.Lowest.{Searched, searched_all}
 use Rattle.encoder.specs.Symbols.{shift_cost, lowest_s}
 use Rattle.encoder.proofs.LeastPeak.{q_some, lowest_taken, lowest_kept}
 use Rattle.encoder.proofs.least_peak.lowest_s.Goals as goal
 use Rattle.encoder.proofs.least_peak.lowest_s.Goals.{After-shift_of, then-cost-least, else-cost-least}
-
-pub loop-s-init : goal.loop-s-init
-loop-s-init c = (searched_none _ _ _, omega arith, omega arith)
 
 -- the shift of s is one of the lanes
 lane : (c : After-shift_of) → c.shift_of.result < 8
@@ -24,20 +21,8 @@ lane c =
     let row = c.args.row in
     omega (arith, c.shift_of.ensures, shift_below (parameters row) (q_some row c.requires.0) _ c.loop-s-test.true, c.requires.1)
 
-pub overflow_cast-cost : goal.overflow_cast-cost
-overflow_cast-cost c = omega (arith, lane (goal.at.overflow_cast-cost c).After-shift_of)
-
-pub offset_bounds-costs-shift_of : goal.offset_bounds-costs-shift_of
-offset_bounds-costs-shift_of c = omega (arith, lane (goal.at.offset_bounds-costs-shift_of c).After-shift_of)
-
 pub bounds-costs-shift_of : goal.bounds-costs-shift_of
 bounds-costs-shift_of c = lane (goal.at.bounds-costs-shift_of c).After-shift_of
-
-pub overflow_add-s : goal.overflow_add-s
-overflow_add-s c = omega (arith, c.loop-s-test.true, c.requires.1)
-
-pub loop-s-smaller : goal.loop-s-smaller
-loop-s-smaller c = omega (arith, c.loop-s-test.true)
 
 pub loop-s-preserved : goal.loop-s-preserved
 loop-s-preserved c =

@@ -7,11 +7,8 @@ use Rattle.encoder.proofs.least_peak.seed.Goals as goal
 
 pub returns : goal.returns
 returns c =
-    let offset = c.before.before in
-    let weighed = offset.before.before.before in
-    let start = weighed.before.before in
-    let row = start.args.row in
-    let valid = start.requires.0 in
-    seeded row valid start.args.d.now (row_size row valid start.args.d.now start.requires.1.size)
-    (omega (arith, valid.balanced, valid.length)) weighed.weigh-weight.ensures offset.check_offset.ensures.0 c.remainder-first.ensures
+    let row = c.args.row in
+    let valid = c.requires.0 in
+    seeded row valid c.args.d.now (row_size row valid c.args.d.now c.requires.1.size)
+    (omega (arith, valid.balanced, valid.length)) c.weigh-weight.ensures c.check_offset.ensures.0 c.remainder-first.ensures
     c.remainder-step.ensures

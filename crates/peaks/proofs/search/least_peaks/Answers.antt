@@ -6,18 +6,15 @@ use Rattle.peaks.proofs.search.least_peaks.Goals as goal
 
 pub searched-requires : goal.searched-requires
 searched-requires c =
-    let tested = c.before.before in
-    let a = tested.args in
-    tests_passed a.q a.m a.first a.step a.d.now tested.searchable.ensures c.if-searchable.true
+    let a = c.args in
+    tests_passed a.q a.m a.first a.step a.d.now c.searchable.ensures c.if-searchable.true
 
 pub returns-then-searchable : goal.returns-then-searchable
 returns-then-searchable c =
-    let tested = c.before.before.before in
-    let a = tested.args in
-    c.searched.ensures ∙ answered_found a.q a.m a.first a.step a.d.now tested.searchable.ensures c.if-searchable.true
+    let a = c.args in
+    c.searched.ensures ∙ answered_found a.q a.m a.first a.step a.d.now c.searchable.ensures c.if-searchable.true
 
 pub returns-else-searchable : goal.returns-else-searchable
 returns-else-searchable c =
-    let tested = c.before in
-    let a = tested.args in
-    answered_none a.q a.m a.first a.step a.d.now tested.searchable.ensures c.if-searchable.false
+    let a = c.args in
+    answered_none a.q a.m a.first a.step a.d.now c.searchable.ensures c.if-searchable.false
