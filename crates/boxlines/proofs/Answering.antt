@@ -1,6 +1,6 @@
 -- The loops of `answer` and `finish`, against the definitions of specs/Turns.antt.
 -- Assumes nothing.
-use Rattle.std.proofs.Common.{◌≡◌, ℕ, ◌+◌, ◌-◌, ◌<◌, ◌≤◌, true, T, List, [], length, take, drop, sym, refl, ap, ◌∙◌, zero-le, arith, take_all}
+use Rattle.std.proofs.Common.{◌≡◌, ℕ, ◌+◌, ◌<◌, ◌≤◌, true, T, List, [], length, take, drop, sym, refl, ap, ◌∙◌, zero-le, arith, take_all}
 use Rattle.lines_theory.specs.Feed.{Partial, Model, feed, finishing, is_done, line_after_all, settled, line_ends, last_lines}
 use Rattle.lines_theory.proofs.Progress.{piece, piece_is, StepCall, step_reaches, step_whole, step_empties, FinishCall}
 use Rattle.lines_theory.proofs.Counting.{line_further, ends_further, feed_line, finish_counts, done_counts, last_one}

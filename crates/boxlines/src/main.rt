@@ -1,6 +1,8 @@
 // The program boxlines (01: The line program). It reads standard input, however few bytes come at a time, and has written
 // every answer that it can give before it reads again. At its end it says on standard error how many lines it answered,
 // and whether a read or a write failed.
+#![tactic(auto)]
+
 ghost use Rattle.std.specs.Prelude.{◌<◌, length, ℤ};
 ghost use Rattle.lines.specs.States.{model_of};
 ghost use Rattle.boxlines.specs.Turns.{AnswersPiece, AnswersEnd, AnswersRead};

@@ -1,5 +1,7 @@
 // Runs the stored inputs of the line program (tests/README.md: lines) through `lines`, once for each way to cut them:
 // pieces of 1, 7, 128 and of mixed sizes, into outputs of several sizes. The answers are the same each time.
+#![tactic(auto)]
+
 ghost use Rattle.std.specs.Prelude.{◌≤◌, length};
 
 use lines::State;
