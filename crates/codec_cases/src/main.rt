@@ -207,11 +207,16 @@ fn read_full<R: Read>(file: &mut R, input: &mut [u8]) -> usize
     done
 }
 
+// Answers as much of a file as the buffer holds.
+fn run_within<R: Read>(file: &mut R, input: &mut [u8], operation: Operation) {
+    let n = read_full(file, input);
+    answer_all(&input[..n], operation);
+}
+
 // Answers a file of at most 2 MB; what is longer is cut off.
 fn run<R: Read>(file: &mut R, operation: Operation) {
     let mut input = [0u8; 2097152];
-    let n = read_full(file, &mut input);
-    answer_all(&input[..n], operation);
+    run_within(file, &mut input, operation);
 }
 
 // Answers the file of that name.
