@@ -1,6 +1,6 @@
 -- The loops of `answer` and `finish`, against the definitions of specs/Turns.antt.
 -- Assumes nothing.
-use Rattle.std.proofs.Common.{◌≡◌, ℕ, ◌+◌, ◌<◌, ◌≤◌, true, T, List, [], length, take, drop, sym, refl, ap, ◌∙◌, zero-le, arith, take_all}
+use Rattle.std.proofs.Common.{◌≡◌, ℕ, ◌+◌, ◌<◌, ◌≤◌, true, T, List, [], length, take, drop, sym, ap, ◌∙◌, arith, take_all}
 use Rattle.lines_theory.specs.Feed.{Partial, Model, feed, finishing, is_done, line_after_all, settled, line_ends, last_lines}
 use Rattle.lines_theory.proofs.Progress.{piece, piece_is, StepCall, step_reaches, step_whole, step_empties, FinishCall}
 use Rattle.lines_theory.proofs.Counting.{line_further, ends_further, feed_line, finish_counts, done_counts, last_one}
@@ -10,9 +10,6 @@ pub record Sofar (m₀ : Model) (input : List ℕ) (at : ℕ) (m : Model) (lines
   pub within : at ≤ length input
   pub line : m.line ≡ line_after_all m₀.line (take at input)
   pub counted : lines ≡ line_ends (take at input)
-
-pub nothing_taken : (m : Model) (input : List ℕ) → Sofar m input 0 m 0
-nothing_taken m input = record { within = zero-le; line = refl; counted = refl }
 
 module _ {m₀ : Model} {input : List ℕ} {at room : ℕ} {m m' : Model} {consumed produced answered lines : ℕ}
     (c : StepCall input at room m m' consumed produced answered) (s : Sofar m₀ input at m lines) where

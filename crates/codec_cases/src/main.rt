@@ -5,6 +5,8 @@
 // a message `?` is a mark. A refusal is `R number`, and `R 4 tried` for an unreadable word (02, T-08: how many places were tried).
 // Conversions (02, T-04) are in the file `conversions`, a line `edition profile word length` each, and the answer is the word of the other
 // edition, or `R number`.
+#![tactic(auto)]
+
 ghost use Rattle.std.specs.Prelude.{◌≤◌, length};
 
 mod print;
@@ -13,11 +15,12 @@ mod text;
 use decoder::{Changes, Decoded};
 use encoder::Encoded;
 use print::{
-    FILL, STDOUT_FILENO, is_untouched, print_change, print_error, print_number, print_refusal, print_word,
+    FILL, STDOUT_FILENO, is_untouched, print_change, print_error, print_number, print_refusal,
+    print_word,
 };
-use syndromes::Correction;
 use std::fs::File;
 use std::io::Read;
+use syndromes::Correction;
 use text::{field, parse_number, parse_symbols, smaller, until};
 
 // The operation that a file has cases of.

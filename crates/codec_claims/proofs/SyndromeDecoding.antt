@@ -17,7 +17,7 @@ use Rattle.code_theory.specs.Reading.{clean, corrected, filled, Reading, read, u
 use Rattle.code_theory.specs.TriedPositions.{tried_positions}
 use Rattle.code_theory.specs.Profiles.{profile_in}
 use Rattle.code_theory.specs.Refusal.{first_refusal}
-use Rattle.code_theory.specs.Operations.{refused, answered, read_unless, decode_tests, decode_answer}
+use Rattle.code_theory.specs.Operations.{answered, read_unless, decode_tests, decode_answer}
 use Rattle.code_theory.specs.Operations.{Report, refusal, failure, success, report, report_number, report_tried}
 use Rattle.code_theory.proofs.Merge.{cases}
 use Rattle.code_theory.proofs.TriedPositions.{balanced_of, counts_told}

@@ -1,5 +1,7 @@
 // Conversion (02, T-04) of a word of one edition into the word that the encoder makes in the other for the same pair, by line rule 1 (02,
 // T-06: "T-04 keeps to version 1"). A word is read as decoding reads it, and passed on only where that finds it clean.
+#![tactic(auto)]
+
 ghost use Rattle.std.specs.Prelude.{◌≡◌, length};
 ghost use Rattle.decoder.specs.Decode.{decoded_report};
 ghost use Rattle.converter.specs.Conversion.{other_edition};

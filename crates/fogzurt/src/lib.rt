@@ -1,4 +1,6 @@
 // The C entry points, one for each operation. include/fogzurt.h says what C sees of them.
+#![tactic(auto)]
+
 ghost use Rattle.std.specs.Prelude.{◌≡◌, [], ◌∷◌, ◌≤◌, length, nat_abs};
 ghost use Rattle.code_theory.specs.Reading.{filled};
 ghost use Rattle.code_theory.specs.Operations.{encode_refusal, encode_output, outcome_number, success};
