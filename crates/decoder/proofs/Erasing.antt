@@ -75,8 +75,8 @@ module _ (t : Row) (v : Valid t) where
       let b : Bool = is_first (i % 2) in
       let even : i % 2 ≤ 1 = omega arith in
       record {
-        first = rw (first_test (i % 2)) (more_rows true b (i / 2) w.factors.first_is (first_column b (i / 2)) m);
-        second = rw (first_test (i % 2)) (more_rows false b (i / 2) w.factors.second_is (second_column (i % 2) (i / 2) even) m');
+        first = rw (first_test (i % 2)) (more_rows true b (i / 2) w.first_by (first_column b (i / 2)) m);
+        second = rw (first_test (i % 2)) (more_rows false b (i / 2) w.second_by (second_column (i % 2) (i / 2) even) m');
       }
 
   -- The erased symbol at an index.

@@ -18,13 +18,13 @@ use Rattle.syndromes.specs.Rows.{rows_of}
 use Rattle.decoder.specs.declared.locate.Fit.TheVariants.{At}
 use Rattle.decoder.specs.Totals.{WholeWord}
 use Rattle.decoder.specs.Search.{parameters_of, sums_in, parity_of, Searches, After}
-use Rattle.decoder.specs.Locate.{FitFound, FitsFirst}
+use Rattle.decoder.specs.Locate.{FitFoundWith, FitsFirst}
 use Rattle.decoder.proofs.Fitting.{index_is, positions_are}
 use Rattle.decoder.proofs.Sent.{sent_below}
 use Rattle.decoder.proofs.Answering.{body_found, found_range, found_near}
 
 -- an index that is found is the first that fits
-pub fits_first : {x : Search} {word : List ℕ} {n k t : ℕ} → Searches x → WholeWord x.row word → FitFound x word n (At k t)
+pub fits_first : {x : Search} {word : List ℕ} {n k t : ℕ} → Searches x → WholeWord x.row word → FitFoundWith x word n (At k t)
     → FitsFirst x word k
 fits_first given whole found = record { given = given; is = whole; first = found.0; within = found.1 }
 

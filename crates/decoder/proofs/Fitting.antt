@@ -68,11 +68,14 @@ module _ {x : Search} (given : Searches x) {f g : ℕ} (fs : FactorsOf x.row (pa
 
 -- so it is by the tables
 module _ {x : Search} {columns : List (List ℕ)} {F G : List ℕ} (a : Tries x columns F G) (k : ℕ) (S : List ℕ) where
+  factors_by : FactorsOf x.row (parity_of x) x.s.lack (get_or F 1 0) (get_or G 1 0)
+  factors_by = record { first_is = a.moves.first_by; second_is = a.moves.second_by }
+
   pub first_moved : moved (parameters_of x) (get_or F 1 0) (k + 1) S ≡ after x k true S
-  first_moved = first_after a.given a.moves.factors k S
+  first_moved = first_after a.given factors_by k S
 
   pub second_moved : moved (parameters_of x) (get_or G 1 0) (k + x.parity) S ≡ after x k false S
-  second_moved = second_after a.given a.moves.factors k S
+  second_moved = second_after a.given factors_by k S
 
 -- A position fits where it passes the three tests.
 module _ (p : Parameters) (S : Sums) (b : Bool) (k x : ℕ) where

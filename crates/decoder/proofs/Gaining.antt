@@ -88,7 +88,8 @@ moves_of fs m l =
     record {
       first_table = m.0;
       second_table = l.0;
-      factors = record { first_is = m.1 ∙ fs.first_is; second_is = l.1 ∙ fs.second_is };
+      first_by = m.1 ∙ fs.first_is;
+      second_by = l.1 ∙ fs.second_is;
     }
 
 -- The columns that a symbol at index k of a parity meets.

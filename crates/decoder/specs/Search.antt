@@ -40,7 +40,8 @@ pub record FactorsOf (t : Row) (b : Bool) (e f g : ℕ) : Type 0 where
 pub record Moves (t : Row) (b : Bool) (e : ℕ) (byFirst bySecond : List ℕ) : Type 0 where
   pub first_table : Multiples t.q byFirst
   pub second_table : Multiples t.q bySecond
-  pub factors : FactorsOf t b e (get_or byFirst 1 0) (get_or bySecond 1 0)
+  pub first_by : get_or byFirst 1 0 ≡ times (parameters t) true b (gain_by (parameters t) e) % t.q
+  pub second_by : get_or bySecond 1 0 ≡ times (parameters t) false b (gain_by (parameters t) e) % t.q
 
 -- what a position is tried with: all of that, and the row's columns
 pub record Tries (x : Search) (columns : List (List ℕ)) (byFirst bySecond : List ℕ) : Type 0 where

@@ -10,7 +10,7 @@ ghost use Rattle.decoder.specs.Locate.{tried_in};
 ghost use Rattle.decoder.specs.Changed.{ChangedWith};
 
 use crate::effect::{effect_of, syndromes_after, syndromes_at};
-use crate::locate::{Fit, Search, fit_located, fit_tried};
+use crate::locate::{Fit, Search, fit_located, locate};
 use crate::method::Method;
 use symbols::Syndromes;
 
@@ -28,7 +28,7 @@ fn changed_by_trying(search: Search, columns: &[[u8; 3]; 48], word: &[u8]) -> Ch
     ensures { ChangedWith search word.now (tried_in search word.now) result }
 {
     let effect = effect_of(search.row, search.parity, search.s.lack);
-    let fit = fit_tried(search, columns, &effect.first, &effect.second, word);
+    let fit = locate(search, columns, &effect.first, &effect.second, word);
     match fit {
         Fit::At(k, tried) => {
             let after = syndromes_after(search, columns, effect, k);

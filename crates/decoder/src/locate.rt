@@ -6,7 +6,7 @@ ghost use Rattle.profiles.specs.Row.{RowOf};
 ghost use Rattle.decoding_theory.specs.Decoded.{balancing_symbol, off_by_lack, near_after, fits};
 ghost use Rattle.decoder.specs.Totals.{WholeWord};
 ghost use Rattle.decoder.specs.Search.{parameters_of, sums_in, parity_of, Searches, Tries};
-ghost use Rattle.decoder.specs.Locate.{ErrorLocated, FitFound, tried_in};
+ghost use Rattle.decoder.specs.Locate.{ErrorLocated, FitFound, FitFoundWith};
 
 use crate::column::{moved, moves_to_zero};
 use crate::totals::Totals;
@@ -106,7 +106,7 @@ fn try_positions(
     word: &[u8],
 ) -> Fit
     requires { Tries search columns.now by_first.now by_second.now × WholeWord search.row word.now }
-    ensures { FitFound search word.now (tried_in search word.now) result }
+    ensures { FitFound search word.now result }
 {
     let parity = search.parity;
     let count = search.row.n + 1 - parity;
@@ -123,7 +123,7 @@ fn try_positions(
 }
 
 // The same. Where the check symbol is off by something else than the weight, no position fits: all count as tried, and none has to be.
-pub(crate) fn fit_tried<'a>(
+pub(crate) fn locate<'a>(
     search: Search,
     columns: &[[u8; 3]; 48],
     by_first: &'a [u8; 16],
@@ -131,7 +131,7 @@ pub(crate) fn fit_tried<'a>(
     word: &[u8],
 ) -> Fit
     requires { Tries search columns.now by_first.now by_second.now × WholeWord search.row word.now }
-    ensures { FitFound search word.now (tried_in search word.now) result }
+    ensures { FitFound search word.now result }
 {
     if !off_by_lack(search) {
         let count = search.row.n + 1 - search.parity;
@@ -163,7 +163,7 @@ fn locate_error(search: Search, profile: usize) -> Location
 pub(crate) fn fit_located(search: Search, profile: usize, word: &[u8]) -> Fit
     requires { Searches search × WholeWord search.row word.now × (search.s.excess ≢ pos 0)
         × RowOf (edition_is search.row.edition) profile search.row }
-    ensures { FitFound search word.now 0 result }
+    ensures { FitFoundWith search word.now 0 result }
 {
     if !off_by_lack(search) {
         return Fit::Nothing(0);

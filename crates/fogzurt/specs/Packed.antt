@@ -82,10 +82,10 @@ pub record PackedAnswers (said : Report) (a : Answer) (r : ℕ) (first first' se
   pub second_out : second' ≡ decode_output false a second
 
 -- what fogzurt_decode may answer to the word u in edition o and profile i
-abbrev pub PackedAllows : ℕ → ℕ → List ℕ → ℕ → List ℕ → List ℕ → List ℕ → List ℕ → Type 0
-PackedAllows o i u r first first' second second' =
-    let a = decode_answer o i u (length first) (length second) in
-    PackedAnswers (report a) a r first first' second second'
+pub record PackedAllows (o i : ℕ) (u : List ℕ) (r : ℕ) (first first' second second' : List ℕ) : Type 0 where
+  pub answer : r ≡ packed (report (decode_answer o i u (length first) (length second)))
+  pub first_out : first' ≡ decode_output true (decode_answer o i u (length first) (length second)) first
+  pub second_out : second' ≡ decode_output false (decode_answer o i u (length first) (length second)) second
 
 -- what fogzurt_syndrome_decode may: the same, without the count of positions tried (02, T-09)
 abbrev pub SyndromePackedAllows : ℕ → ℕ → List ℕ → ℕ → List ℕ → List ℕ → List ℕ → List ℕ → Type 0

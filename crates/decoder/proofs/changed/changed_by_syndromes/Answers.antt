@@ -2,7 +2,7 @@
 -- Assumes nothing.
 use mathlib.Core.Path.{subst}
 use Rattle.decoder.specs.declared.locate.Fit.TheVariants.{At}
-use Rattle.decoder.specs.Locate.{FitFound}
+use Rattle.decoder.specs.Locate.{FitFoundWith}
 use Rattle.decoder.proofs.Finding.{fits_first, fit_small}
 use Rattle.decoder.proofs.changed.changed_by_syndromes.Goals as goal
 use Rattle.decoder.proofs.changed.changed_by_syndromes.Goals.{In-At, Start}
@@ -12,8 +12,8 @@ module _ (c : In-At) where
   abbrev begun : Start
   begun = (goal.at.In-At c).Start
 
-  found : FitFound begun.args.search begun.args.word.now 0 (At c.in-At.k c.in-At.tried)
-  found = subst (FitFound begun.args.search begun.args.word.now 0) c.in-At.is c.fit_located-fit.ensures
+  found : FitFoundWith begun.args.search begun.args.word.now 0 (At c.in-At.k c.in-At.tried)
+  found = subst (FitFoundWith begun.args.search begun.args.word.now 0) c.in-At.is c.fit_located-fit.ensures
 
 pub fit_located-fit-requires : goal.fit_located-fit-requires
 fit_located-fit-requires c =
@@ -30,4 +30,4 @@ returns-in-At c = (found (goal.at.returns-in-At c).In-At, c.syndromes_at-after.e
 
 pub returns-in-Nothing : goal.returns-in-Nothing
 returns-in-Nothing c =
-    subst (FitFound c.args.search c.args.word.now 0) c.in-Nothing.is c.fit_located-fit.ensures
+    subst (FitFoundWith c.args.search c.args.word.now 0) c.in-Nothing.is c.fit_located-fit.ensures

@@ -4,7 +4,7 @@
 use mathlib.Core.Path.{subst}
 use Rattle.decoder.specs.declared.locate.Fit.TheVariants.{At}
 use Rattle.decoder.specs.Search.{Tries}
-use Rattle.decoder.specs.Locate.{FitFound, tried_in}
+use Rattle.decoder.specs.Locate.{FitFound, FitFoundWith, tried_in}
 use Rattle.decoder.proofs.Finding.{fits_first, fit_small}
 use Rattle.decoder.proofs.changed.changed_by_trying.Goals as goal
 use Rattle.decoder.proofs.changed.changed_by_trying.Goals.{After-effect_of-effect, In-At, Start}
@@ -26,16 +26,16 @@ module _ (c : In-At) where
   begun = start effect
 
   found : let x = begun.args.search in
-      FitFound x begun.args.word.now (tried_in x begun.args.word.now) (At c.in-At.k c.in-At.tried)
+      FitFoundWith x begun.args.word.now (tried_in x begun.args.word.now) (At c.in-At.k c.in-At.tried)
   found =
       let x = begun.args.search in
-      subst (FitFound x begun.args.word.now (tried_in x begun.args.word.now)) c.in-At.is c.fit_tried-fit.ensures
+      subst (FitFound x begun.args.word.now) c.in-At.is c.locate-fit.ensures
 
 pub effect_of-effect-requires : goal.effect_of-effect-requires
 effect_of-effect-requires c = let given = c.requires.0 in (given.valid, given.totalled.lack_below)
 
-pub fit_tried-fit-requires : goal.fit_tried-fit-requires
-fit_tried-fit-requires c = (tries (goal.at.fit_tried-fit-requires c).After-effect_of-effect, (start (goal.at.fit_tried-fit-requires c).After-effect_of-effect).requires.2)
+pub locate-fit-requires : goal.locate-fit-requires
+locate-fit-requires c = (tries (goal.at.locate-fit-requires c).After-effect_of-effect, (start (goal.at.locate-fit-requires c).After-effect_of-effect).requires.2)
 
 pub syndromes_after-after-requires : goal.syndromes_after-after-requires
 syndromes_after-after-requires c =
@@ -48,4 +48,4 @@ returns-in-At c = (found (goal.at.returns-in-At c).In-At, c.syndromes_after-afte
 pub returns-in-Nothing : goal.returns-in-Nothing
 returns-in-Nothing c =
     let x = c.args.search in
-    subst (FitFound x c.args.word.now (tried_in x c.args.word.now)) c.in-Nothing.is c.fit_tried-fit.ensures
+    subst (FitFound x c.args.word.now) c.in-Nothing.is c.locate-fit.ensures

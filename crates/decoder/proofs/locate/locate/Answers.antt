@@ -1,8 +1,8 @@
--- `decoder::locate::fit_tried` meets its contract: where the check symbol is off by something else than the weight, no position fits.
+-- `decoder::locate::locate` meets its contract: where the check symbol is off by something else than the weight, no position fits.
 -- Assumes nothing.
 use mathlib.Core.Path.{sym, ◌∙◌}
 use Rattle.decoder.proofs.Fitting.{none_off}
-use Rattle.decoder.proofs.locate.fit_tried.Goals as goal
+use Rattle.decoder.proofs.locate.locate.Goals as goal
 
 pub returns-then-not-off_by_lack : goal.returns-then-not-off_by_lack
 returns-then-not-off_by_lack c =
