@@ -33,7 +33,7 @@ module _ (x : Search) {i : ℕ} (of : RowOf (edition_is x.row.edition) i x.row) 
       → l ≡ error_position (in_edition (edition_is x.row.edition) (profile i)) odd e (rows_among (profile i).r (rows x.s.first))
       (rows_among (profile i).r (rows x.s.second))
       → l ≡ error_position (parameters_of x) (parity_of x) x.s.excess (sums_in x).first (sums_in x).second
-  unfolding rows_of
+  unfolding rows_of rows_among
   located_by o e g =
       let by : Parameters → Bool → ℤ → model.Location =
       λ p b z. error_position p b z (rows_among p.r (rows x.s.first)) (rows_among p.r (rows x.s.second)) in

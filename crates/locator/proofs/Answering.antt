@@ -39,7 +39,7 @@ module _ (o : Edition) (i : ℕ) (odd : Bool) (e : ℤ) (s s' : List ℕ) where
 
   module _ {t : Row} (of : RowOf o i t) where
     of_row : error_position (parameters t) odd e (rows_of t s) (rows_of t s') ≡ answer
-    unfolding rows_of
+    unfolding rows_of rows_among
     of_row = ap (λ (p : Parameters). error_position p odd e (rows_among p.r s) (rows_among p.r s')) of.same
 
     reduced : {s d : List ℕ} → ReducedRows t s d → Reduced (parameters t) (rows_of t d) (rows_of t s)

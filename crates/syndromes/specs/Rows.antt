@@ -10,12 +10,12 @@ abbrev pub row_index : ℕ → ℕ → ℕ
 row_index r j = elim (eqb (suc j) r) [ true ↦ 3 | false ↦ j ]
 
 -- the r rows among them
+unfoldable pub rows_of : Row → List ℕ → List ℕ
+rows_of t s = tabulate (λ j. get_or s (row_index t.r j) 0) t.r
+
+-- the same, by r alone
 unfoldable pub rows_among : ℕ → List ℕ → List ℕ
 rows_among r s = tabulate (λ j. get_or s (row_index r j) 0) r
-
--- those of a profile's row
-unfoldable pub rows_of : Row → List ℕ → List ℕ
-rows_of t s = rows_among t.r s
 
 -- each of the four is below q, and the digit rows that r does not have are 0
 pub record FourRows (t : Row) (s : List ℕ) : Type 0 where
