@@ -16,7 +16,7 @@ use decoder::{Changes, Decoded};
 use encoder::Encoded;
 use print::{
     FILL, STDOUT_FILENO, is_untouched, print_change, print_error, print_number, print_refusal,
-    print_word,
+    print_unopened, print_word,
 };
 use std::fs::File;
 use std::io::Read;
@@ -222,17 +222,17 @@ fn run<R: Read>(file: &mut R, operation: Operation) {
     run_within(file, &mut input, operation);
 }
 
-// Answers the file of that name.
-fn run_file(rt: &HostRuntime, name: &str, operation: Operation) -> std::io::Result<()> {
-    let mut file = File::open(rt, name)?;
-    run(&mut file, operation);
-    Ok(())
+// Answers the file of that name. One that can't be opened is named on standard error.
+fn run_file(rt: &HostRuntime, name: &str, operation: Operation) {
+    match File::open(rt, name) {
+        Ok(mut file) => run(&mut file, operation),
+        Err(_) => print_unopened(name),
+    }
 }
 
-fn main(rt: HostRuntime) -> std::io::Result<()> {
+fn main(rt: HostRuntime) {
     let mut pairs = rt.stdin();
     run(&mut pairs, Operation::Encode);
-    run_file(&rt, "words", Operation::Decode)?;
-    run_file(&rt, "conversions", Operation::Convert)?;
-    Ok(())
+    run_file(&rt, "words", Operation::Decode);
+    run_file(&rt, "conversions", Operation::Convert);
 }

@@ -1,8 +1,16 @@
 // Answers in print.
 use crate::text::smaller;
 
-// The standard output, by POSIX's number.
+// The streams that are written to, by POSIX's numbers.
 pub(crate) const STDOUT_FILENO: i32 = 1;
+
+const STDERR_FILENO: i32 = 2;
+
+// The name of a file that can't be opened, on standard error.
+pub(crate) fn print_unopened(name: &str) {
+    io::write_all(STDERR_FILENO, name.as_bytes());
+    io::write_all(STDERR_FILENO, b": cannot be opened\n");
+}
 
 // What an output holds before a call.
 pub(crate) const FILL: u8 = 170;

@@ -14,7 +14,8 @@ start c = (goal.at.After-doubt_of-number c).Start
 
 pub returns-then-number-ne0 : goal.returns-then-number-ne0
 returns-then-number-ne0 c =
-    refuses _ _ _ _ (decoded (goal.at.returns-then-number-ne0 c).After-doubt_of-number).decode.ensures (start (goal.at.returns-then-number-ne0 c).After-doubt_of-number).requires c.doubt_of-number.ensures
+    let read = (goal.at.returns-then-number-ne0 c).After-doubt_of-number in
+    refuses _ _ _ _ (decoded read).decode.ensures (start read).requires c.doubt_of-number.ensures
     (λ z. omega (arith, c.if-number-ne0.true, z))
 
 pub returns : goal.returns

@@ -74,10 +74,11 @@ balancing_symbol-requires c = (begun (off (goal.at.balancing_symbol-requires c).
 
 pub returns-then-balancing_symbol-search : goal.returns-then-balancing_symbol-search
 returns-then-balancing_symbol-search c =
-    let start = begun (off (goal.at.returns-then-balancing_symbol-search c).In-At) in
+    let at = (goal.at.returns-then-balancing_symbol-search c).In-At in
+    let start = begun (off at) in
     let (given, _, _, of) = start.requires in
     let none = sent_none _ _ _ (sym c.balancing_symbol.ensures ∙ c.if-balancing_symbol-search.true) in (
-      fit_out_of_range (parameters_of (x start)) (sums_in (x start)) (parity_of (x start)) (word start) (named (goal.at.returns-then-balancing_symbol-search c).In-At) (is_at (goal.at.returns-then-balancing_symbol-search c).In-At)
+      fit_out_of_range (parameters_of (x start)) (sums_in (x start)) (parity_of (x start)) (word start) (named at) (is_at at)
           given.valid.sized
           (row_prime of) none,
       refl,
@@ -85,9 +86,10 @@ returns-then-balancing_symbol-search c =
 
 pub returns : goal.returns
 returns c =
-    let start = begun (off (goal.at.returns c).In-At) in
-    let by-lack = sym (off (goal.at.returns c).In-At).off_by_lack.ensures ∙ (off (goal.at.returns c).In-At).if-not-off_by_lack.false in
+    let at = (goal.at.returns c).In-At in
+    let start = begun (off at) in
+    let by_lack = sym (off at).off_by_lack.ensures ∙ (off at).if-not-off_by_lack.false in
     let in_range_lem = sent_some _ _ _ (λ e. c.if-balancing_symbol-search.false (c.balancing_symbol.ensures ∙ e)) in
     let (first, within) =
-    fit_at (parameters_of (x start)) (sums_in (x start)) (parity_of (x start)) (word start) (named (goal.at.returns c).In-At) (is_at (goal.at.returns c).In-At) by-lack in_range_lem in
+    fit_at (parameters_of (x start)) (sums_in (x start)) (parity_of (x start)) (word start) (named at) (is_at at) by_lack in_range_lem in
     (first, within, refl)

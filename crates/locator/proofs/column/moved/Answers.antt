@@ -18,10 +18,6 @@ overflow_cast-narrow c = omega (arith, c.if-row-a.false, c.requires.0.length)
 
 pub returns : goal.returns
 returns c =
-    let made = c.before in
-    let within = made.before in
-    let some = within.before.before in
-    let start = some.before in
-    let args = start.args in
-    moved_by _ start.requires.0 args.s start.requires.1 args.f args.a some.if-a-eq0.false within.if-row-a.false made.column.ensures
+    let args = c.args in
+    moved_by _ c.requires.0 args.s c.requires.1 args.f args.a c.if-a-eq0.false c.if-row-a.false c.column.ensures
     c.syndrome_plus.ensures

@@ -7,7 +7,7 @@ pub returns-then-s-ne1 : goal.returns-then-s-ne1
 returns-then-s-ne1 c = column_none _ _ _ c.if-s-ne1.true
 
 pub returns-then-at-eq0 : goal.returns-then-at-eq0
-returns-then-at-eq0 c = let found = c.before.before.before in column_zero _ _ _ found.position-at.ensures c.if-at-eq0.true
+returns-then-at-eq0 c = column_zero _ _ _ c.position-at.ensures c.if-at-eq0.true
 
 pub returns : goal.returns
-returns c = let found = c.before.before.before in column_within _ _ _ found.position-at.ensures c.if-s-ne1.false c.if-at-eq0.false
+returns c = column_within _ _ _ c.position-at.ensures c.if-s-ne1.false c.if-at-eq0.false
