@@ -1,15 +1,8 @@
 -- `decoder::word::decode_balanced` meets its contract: what is judged readable is written.
 -- Assumes nothing.
-use mathlib.Core.Path.{◌≡◌}
 use mathlib.Core.Bool.{true, false}
-use Prim.Native.Nat.{ℕ}
-use Rattle.decoder.specs.declared.word.Decoded.TheVariants.{Unreadable}
 use Rattle.decoder.proofs.Answering.{messages_of, judged_near, judged_none, judged_read}
 use Rattle.decoder.proofs.word.decode_balanced.Goals as goal
-use Rattle.decoder.proofs.word.decode_balanced.Goals.{In_default}
-
-readable : (c : In_default) (t : ℕ) → c.judge-found.result ≡ Unreadable t → ⊥
-readable c t e = c.in_default.not-Unreadable t e
 
 pub judge-found-requires : goal.judge-found-requires
 judge-found-requires c = (c.requires.0.valid, c.requires.1)
@@ -21,7 +14,7 @@ returns-in-Unreadable c =
 pub write_pair-requires : goal.write_pair-requires
 write_pair-requires c =
     let (levels, totalled, outputs) = c.requires in
-    let near = judged_near _ _ _ c.judge-found.ensures (readable (goal.at.write_pair-requires c).In_default) in (
+    let near = judged_near _ _ _ c.judge-found.ensures c.in_default.not-Unreadable in (
       levels,
       record { first_rows = totalled.first_rows; second_rows = totalled.second_rows; near = near },
       record { first_long = outputs.first_long; second_long = outputs.second_long },
@@ -30,4 +23,4 @@ write_pair-requires c =
 pub returns : goal.returns
 returns c =
     let found = c.judge-found.ensures in
-    record { to = λ v p. judged_read _ _ _ found (readable (goal.at.returns c).In_default) _ (messages_of (p true) (p false) c.write_pair.ensures) }
+    record { to = λ v p. judged_read _ _ _ found c.in_default.not-Unreadable _ (messages_of (p true) (p false) c.write_pair.ensures) }
