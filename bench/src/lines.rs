@@ -51,7 +51,7 @@ impl Runner {
 
 pub fn race_programs() -> io::Result<()> {
     let Some(program) = fogzurt::boxlines() else {
-        println!("boxlines: NOT RUN, there is no target/bin/boxlines");
+        println!("boxlines: NOT RUN, there is no crates/boxlines/out/boxlines");
         return Ok(());
     };
     let folder = Path::new(env!("CARGO_MANIFEST_DIR")).join("target").join("lines");

@@ -35,7 +35,7 @@ const BYTES: &[u8] = b" \t\r\0+-/:?19CMR\xff";
 
 pub fn check() -> Checked<String> {
     let Some(program) = fogzurt::boxlines() else {
-        return Ok("boxlines: NOT RUN, there is no target/bin/boxlines".to_string());
+        return Ok("boxlines: NOT RUN, there is no crates/boxlines/out/boxlines".to_string());
     };
     let lines = sum_of_jobs("boxlines", RUNS, |job| {
         let rng = &mut Rng::new(job as u64);

@@ -41,12 +41,12 @@ pub const LIBRARY: EntryPoints = EntryPoints {
     dequeue,
 };
 
-/// Names another program to run in place of target/bin/boxlines.
+/// Names another program to run in place of crates/boxlines/out/boxlines.
 const PROGRAM: &str = "FOGZURT_BOXLINES";
 
-/// The program boxlines, if it was built (`rt check boxlines`).
+/// The program boxlines, if it was built (`rt run` in crates/boxlines).
 pub fn boxlines() -> Option<PathBuf> {
-    let built = [env!("CARGO_MANIFEST_DIR"), "..", "..", "target", "bin", "boxlines"];
+    let built = [env!("CARGO_MANIFEST_DIR"), "..", "..", "crates", "boxlines", "out", "boxlines"];
     let path = env::var_os(PROGRAM).map_or_else(|| built.iter().collect(), PathBuf::from);
     path.is_file().then_some(path)
 }
