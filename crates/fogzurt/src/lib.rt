@@ -1,4 +1,4 @@
-// The C entry points, one for each operation. include/fogzurt.h says what C sees of them.
+// What the C entry points answer, one function for each operation. Crate fogzurt_c exports them; include/fogzurt.h says what C sees of them.
 #![tactic(auto)]
 
 ghost use Rattle.std.specs.Prelude.{◌≡◌, [], ◌∷◌, ◌≤◌, length, nat_abs};
@@ -24,8 +24,7 @@ const CORRECTED: u8 = 2;
 const FILLED: u8 = 3;
 
 // 01: Write.
-#[unsafe(no_mangle)]
-pub extern "C" fn fogzurt_encode(
+pub fn fogzurt_encode(
     edition: usize,
     profile: usize,
     rule: usize,
@@ -50,8 +49,7 @@ fn outcome_number(answer: Encoded) -> u64
 }
 
 // 01: Read.
-#[unsafe(no_mangle)]
-pub extern "C" fn fogzurt_decode(
+pub fn fogzurt_decode(
     edition: usize,
     profile: usize,
     word: &[u8],
@@ -65,8 +63,7 @@ pub extern "C" fn fogzurt_decode(
 }
 
 // 02, T-09: Read by the syndromes. The same answer, with 0 for how many positions were tried.
-#[unsafe(no_mangle)]
-pub extern "C" fn fogzurt_syndrome_decode(
+pub fn fogzurt_syndrome_decode(
     edition: usize,
     profile: usize,
     word: &[u8],
@@ -178,13 +175,7 @@ fn pack(answer: Decoded) -> u64
 }
 
 // 02, T-04: a word of one edition into that of the other.
-#[unsafe(no_mangle)]
-pub extern "C" fn fogzurt_convert(
-    edition: usize,
-    profile: usize,
-    word: &[u8],
-    out: &mut [u8],
-) -> u64
+pub fn fogzurt_convert(edition: usize, profile: usize, word: &[u8], out: &mut [u8]) -> u64
     ensures value { result ≡ convert_refusal edition profile word.now (length out.old) }
     ensures out_after { out.new ≡ convert_output edition profile word.now out.old }
 {
@@ -192,37 +183,28 @@ pub extern "C" fn fogzurt_convert(
 }
 
 // 01: Lay out.
-#[unsafe(no_mangle)]
-pub extern "C" fn fogzurt_sheet_format(sheet: &mut [u8]) -> u64
+pub fn fogzurt_sheet_format(sheet: &mut [u8]) -> u64
     ensures { FormatAllows sheet.old result sheet.new }
 {
     queue::number(queue::format(sheet))
 }
 
 // 01: Enter.
-#[unsafe(no_mangle)]
-pub extern "C" fn fogzurt_sheet_enqueue(
-    sheet: &mut [u8],
-    boxno: usize,
-    profile: usize,
-    word: &[u8],
-) -> u64
+pub fn fogzurt_sheet_enqueue(sheet: &mut [u8], boxno: usize, profile: usize, word: &[u8]) -> u64
     ensures { EnqueueAllows sheet.old boxno profile word.now result sheet.new }
 {
     queue::number(queue::enqueue(sheet, boxno, profile, word))
 }
 
 // 01: Look.
-#[unsafe(no_mangle)]
-pub extern "C" fn fogzurt_sheet_peek(sheet: &[u8], number: usize, out: &mut [u8]) -> u64
+pub fn fogzurt_sheet_peek(sheet: &[u8], number: usize, out: &mut [u8]) -> u64
     ensures { PeekAllows sheet.now number out.old result out.new }
 {
     queue::number(queue::peek(sheet, number, out))
 }
 
 // 01: Take off.
-#[unsafe(no_mangle)]
-pub extern "C" fn fogzurt_sheet_dequeue(sheet: &mut [u8], out: &mut [u8]) -> u64
+pub fn fogzurt_sheet_dequeue(sheet: &mut [u8], out: &mut [u8]) -> u64
     ensures { DequeueAllows sheet.old out.old result sheet.new out.new }
 {
     queue::number(queue::dequeue(sheet, out))
