@@ -19,7 +19,7 @@
  *      3          5           21       51
  *      4          7           45       99
  *
- * Link crates/fogzurt/out/libfogzurt.a, which `rt lib` in crates/fogzurt writes. The functions allocate
+ * Link target/staticlib/libfogzurt.a, which tools/staticlib writes. The functions allocate
  * nothing and keep nothing between calls, so calls with buffers of their own may run at the same
  * time.
  *

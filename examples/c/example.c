@@ -2,8 +2,8 @@
  * decoders, and keeps it on a sheet. Then the same messages go to a box of the 2018 edition, and its word is
  * converted to the 2013 edition and back. At the end two messages are encoded by either line rule.
  *
- * At the top of the repository, after `rt lib` in crates/fogzurt:
- *   cc -std=c11 -Iinclude examples/c/example.c crates/fogzurt/out/libfogzurt.a -o target/example
+ * At the top of the repository, after tools/staticlib:
+ *   cc -std=c11 -Iinclude examples/c/example.c target/staticlib/libfogzurt.a -o target/example
  *   target/example
  */
 #include <stdio.h>

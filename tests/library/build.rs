@@ -1,4 +1,4 @@
-//! Finds the static library that `rt lib` in crates/fogzurt writes, and has it linked.
+//! Finds the static library that tools/staticlib writes, and has it linked.
 
 use std::env;
 use std::path::PathBuf;
@@ -9,7 +9,7 @@ const FOLDER: &str = "FOGZURT_STATICLIB_DIR";
 fn main() {
     println!("cargo::rerun-if-env-changed={FOLDER}");
     let folder = env::var_os(FOLDER).map_or_else(
-        || [env!("CARGO_MANIFEST_DIR"), "..", "..", "crates", "fogzurt", "out"].iter().collect(),
+        || [env!("CARGO_MANIFEST_DIR"), "..", "..", "target", "staticlib"].iter().collect(),
         PathBuf::from,
     );
     let archive = folder.join("libfogzurt.a");
@@ -19,7 +19,7 @@ fn main() {
         println!("cargo::rustc-link-lib=static=fogzurt");
     } else {
         println!("cargo::error=no static library at {}", archive.display());
-        println!("cargo::error=in crates/fogzurt, run: rt lib");
+        println!("cargo::error=at the top of the repository, run: tools/staticlib");
         println!("cargo::error=or set {FOLDER} to the folder that holds libfogzurt.a");
     }
 }

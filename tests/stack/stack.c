@@ -2,8 +2,8 @@
  * with a pattern, and what is no longer the pattern afterwards was used. -z now has the C library found
  * before: at its first call its search would count as 3 KB of encode's.
  *
- * At the top of the repository, after `rt lib` in crates/fogzurt:
- *   cc -std=c11 -O2 -Wl,-z,now -Iinclude tests/stack/stack.c crates/fogzurt/out/libfogzurt.a -o target/stack
+ * At the top of the repository, after tools/staticlib:
+ *   cc -std=c11 -O2 -Wl,-z,now -Iinclude tests/stack/stack.c target/staticlib/libfogzurt.a -o target/stack
  *   target/stack
  */
 #include <stdio.h>
