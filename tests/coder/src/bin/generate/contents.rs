@@ -8,7 +8,7 @@ const HEAD: &str = "\
 `generate` makes this page with the vectors; the formats are in [README.md](README.md).
 Lines are those of the input, and the expected output has one for each; where inputs share one, their answers stand in this order.
 A near miss is a decoder or, in conversions, a converter with one slip; coder/src/slip.rs says what the slip is.
-In pairs it is an encoder by line rule 2, and coder/src/line_rule_slip.rs says so; in syndrome_words it is a decoder by syndromes, and coder/src/located_slip.rs does.
+In pairs it is an encoder by line rule 2, and coder/src/line_rule_slip.rs says so.
 
 ## Files
 

@@ -7,10 +7,12 @@ mod contents;
 mod conversions;
 mod line_erasures;
 mod line_forms;
+#[cfg(test)]
 mod locations;
 mod pairs;
 mod sheets;
 mod streams;
+#[cfg(test)]
 mod syndrome_words;
 mod words;
 
@@ -33,8 +35,6 @@ fn programs() -> [Program; 4] {
         one("stdin", pairs::make()),
         one("data/words", words::make()),
         one("data/conversions", conversions::make()),
-        one("data/syndrome_words", syndrome_words::make()),
-        one("data/locations", locations::make()),
     ];
     let lines = [line_forms::make()].into_iter().chain(streams::endings());
     let lines = lines.zip(1..).map(|(file, number)| (format!("data/{number:02}"), file));
