@@ -6,7 +6,7 @@ use crate::weight::Weight;
 use modular::{remainder, wide};
 
 // 01: α and β.
-#[derive(Clone, Copy)]
+#[derive(Clone, Copy, PartialEq, Eq, Debug)]
 pub struct Checks {
     pub alpha: u8,
     pub beta: u8,

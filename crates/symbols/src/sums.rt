@@ -8,7 +8,7 @@ use crate::weight::Body;
 use modular::{remainder, wide32};
 
 // The row sums of one component: three digit rows, and the row of ones.
-#[derive(Clone, Copy)]
+#[derive(Clone, Copy, PartialEq, Eq, Debug)]
 pub struct Syndrome {
     pub low: u8,
     pub mid: u8,
@@ -16,7 +16,17 @@ pub struct Syndrome {
     pub ones: u8,
 }
 
-#[derive(Clone, Copy)]
+impl Syndrome {
+    // That of a component of the code (01: all check rows are 0).
+    pub const ZERO: Syndrome = Syndrome {
+        low: 0,
+        mid: 0,
+        high: 0,
+        ones: 0,
+    };
+}
+
+#[derive(Clone, Copy, PartialEq, Eq, Debug)]
 pub struct Syndromes {
     pub first: Syndrome,
     pub second: Syndrome,

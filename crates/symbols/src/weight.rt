@@ -8,7 +8,7 @@ use modular::wide16;
 pub type Body = [u8; 97];
 
 // The sums over the odd positions, 1, 3, .., and over the even ones, and the weight less the balancing value (01: middle).
-#[derive(Clone, Copy)]
+#[derive(Clone, Copy, PartialEq, Eq, Debug)]
 pub struct Weight {
     pub odd: u16,
     pub even: u16,
