@@ -5,44 +5,42 @@ use mathlib.Core.Logic.{◌≢◌}
 use mathlib.Core.Bool.{Bool, true, false}
 use mathlib.Core.List.{List, [], ◌∷◌, ◌++◌}
 use Prim.Native.Nat.{ℕ, zero, suc, min, ◌+◌, ◌-◌, ◌/◌, ◌%◌, ◌≤◌, ◌<◌, zero-le, suc-le-suc}
-use native.Mathlib.Nat.{not-suc-le-zero, le_of_suc-le-suc, min-eq_left, min-le_right}
+use native.Mathlib.Nat.{not-suc-le-zero, le_of_suc-le-suc, min-eq_left}
 use native.Mathlib.Numerals.{add-one, one-add}
 use native.Mathlib.Omega.{arith}
-use lib.Dec.{eqb}
 use lib.ListN.{get_or, set}
 use borrow.Author.Tests.{eq-eqb, ne_eqb}
 use Rattle.modular_theory.specs.Digits.{digits}
-use Rattle.modular_theory.proofs.Digits.{digits_below, digits_next, digits_carry, digits_zero}
-use Rattle.symbols.specs.declared.matrix.Count.{Count}
-use Rattle.symbols.specs.Columns.{Columns, counted, digit_rows, rows_of_zeros, positions, columns_of}
+use Rattle.modular_theory.proofs.Digits.{digits_below, digits_next, digits_carry}
+use Rattle.symbols.specs.Columns.{Columns, AllBelow, digit_rows, rows_of_zeros, positions, columns_of}
 
 -- One more, by the digit that does not carry.
 
-module _ {q : ℕ} (some : 1 ≤ q) (d : Count) (i : ℕ) (is : counted d ≡ digits q 3 i) where
-  first : d.first ≡ i % q
+module _ {q : ℕ} (some : 1 ≤ q) (d : List ℕ) (i : ℕ) (is : d ≡ digits q 3 i) where
+  first : get_or d 0 0 ≡ i % q
   first = ap (λ (l : List ℕ). get_or l 0 0) is
 
-  second : d.second ≡ i / q % q
+  second : get_or d 1 0 ≡ i / q % q
   second = ap (λ (l : List ℕ). get_or l 1 0) is
 
-  third : d.third ≡ i / q / q % q
+  third : get_or d 2 0 ≡ i / q / q % q
   third = ap (λ (l : List ℕ). get_or l 2 0) is
 
-  pub next_first : d.first + 1 < q → (d.first + 1) ∷ d.second ∷ d.third ∷ [] ≡ digits q 3 (suc i)
+  pub next_first : get_or d 0 0 + 1 < q → (get_or d 0 0 + 1) ∷ get_or d 1 0 ∷ get_or d 2 0 ∷ [] ≡ digits q 3 (suc i)
   next_first h = rw (digits_next q 2 i (rw first at h), first, second, third)
 
-  module _ (a : q ≤ d.first + 1) where
-    pub next_second : d.second + 1 < q → 0 ∷ (d.second + 1) ∷ d.third ∷ [] ≡ digits q 3 (suc i)
+  module _ (a : q ≤ get_or d 0 0 + 1) where
+    pub next_second : get_or d 1 0 + 1 < q → 0 ∷ (get_or d 1 0 + 1) ∷ get_or d 2 0 ∷ [] ≡ digits q 3 (suc i)
     next_second h = rw (digits_carry q 2 i some (rw first at a), digits_next q 1 (i / q) (rw second at h), second, third)
 
-    module _ (b : q ≤ d.second + 1) where
-      pub next_third : d.third + 1 < q → 0 ∷ 0 ∷ (d.third + 1) ∷ [] ≡ digits q 3 (suc i)
+    module _ (b : q ≤ get_or d 1 0 + 1) where
+      pub next_third : get_or d 2 0 + 1 < q → 0 ∷ 0 ∷ (get_or d 2 0 + 1) ∷ [] ≡ digits q 3 (suc i)
       next_third h =
           let low = digits_carry q 2 i some (rw first at a) in
           let mid = digits_carry q 1 (i / q) some (rw second at b) in
           rw (low, mid, digits_next q 0 (i / q / q) (rw third at h), third)
 
-      pub next_none : q ≤ d.third + 1 → 0 ∷ 0 ∷ 0 ∷ [] ≡ digits q 3 (suc i)
+      pub next_none : q ≤ get_or d 2 0 + 1 → 0 ∷ 0 ∷ 0 ∷ [] ≡ digits q 3 (suc i)
       next_none h =
           let low = digits_carry q 2 i some (rw first at a) in
           let mid = digits_carry q 1 (i / q) some (rw second at b) in
@@ -61,14 +59,6 @@ pub positions_some : (q n : ℕ) → q ≢ 0 → min n 48 ≡ positions q n
 unfolding positions
 positions_some q n h = ap (counting n) (sym (ne_eqb q 0 h))
 
-counting_room : (n : ℕ) (b : Bool) → counting n b ≤ 48
-counting_room n true = zero-le
-counting_room n false = min-le_right n 48
-
-pub positions_room : (q n : ℕ) → positions q n ≤ 48
-unfolding positions
-positions_room q n = counting_room n (eqb q 0)
-
 -- where there is one there are levels
 pub positions_levels : (q n : ℕ) {k i : ℕ} → k ≡ positions q n → i < k → 1 ≤ q
 positions_levels zero n {k} {i} e h = let z : 0 ≡ positions 0 n = positions_none 0 n refl in absurd (omega arith)
@@ -84,24 +74,20 @@ filled q p (suc k) m =
     ap (λ (l : List (List ℕ)). digits q 3 p ∷ l) (rw e (filled q (suc p) k m))
 
 -- the rows of the first i positions are built, and i is counted
-pub record Built (q : ℕ) (table : List (List ℕ)) (d : Count) (i : ℕ) : Type 0 where
+pub record Built (q : ℕ) (table : List (List ℕ)) (d : List ℕ) (i : ℕ) : Type 0 where
   pub is : table ≡ digit_rows q 1 i ++ rows_of_zeros (48 - i)
-  pub count : counted d ≡ digits q 3 i
+  pub count : d ≡ digits q 3 i
 
-pub built_none : (q : ℕ) {d : Count} → counted d ≡ 0 ∷ 0 ∷ 0 ∷ [] → Built q (rows_of_zeros 48) d 0
-built_none q e = record { is = refl; count = e ∙ sym (digits_zero q 3) }
-
-module _ {q : ℕ} {table : List (List ℕ)} {d : Count} {i : ℕ} (b : Built q table d i) where
-  pub built_digits : 1 ≤ q → (d.first < q) × (d.second < q) × (d.third < q)
-  built_digits some = (at 0, at 1, at 2)
+module _ {q : ℕ} {table : List (List ℕ)} {d : List ℕ} {i : ℕ} (b : Built q table d i) where
+  pub built_digits : 1 ≤ q → AllBelow q d
+  built_digits some = record { first = at 0; second = at 1; third = at 2 }
     where
-      at : (j : ℕ) → get_or (counted d) j 0 < q
+      at : (j : ℕ) → get_or d j 0 < q
       at j = subst (λ (l : List ℕ). get_or l j 0 < q) (sym b.count) (digits_below q 3 i j some)
 
-  pub built_more : {e : Count} → i < 48 → ((k : ℕ) → counted d ≡ digits q 3 k → counted e ≡ digits q 3 (suc k))
-      → Built q (set table i (counted e)) e (i + 1)
+  pub built_more : {e : List ℕ} → i < 48 → ((k : ℕ) → d ≡ digits q 3 k → e ≡ digits q 3 (suc k)) → Built q (set table i e) e (i + 1)
   built_more {e} l f =
-      let next : counted e ≡ digits q 3 (suc i) = f i b.count in
+      let next : e ≡ digits q 3 (suc i) = f i b.count in
       let left : 48 - i ≡ suc (48 - suc i) = omega arith in
       record { is = rw (add-one i, next, b.is, left) (rw one-add at (filled q 1 i (48 - suc i))); count = rw (add-one i) next }
 

@@ -1,9 +1,9 @@
 -- The four row sums of a component, a symbol at a time, and what they are where the table of columns is right.
 -- Assumes nothing.
-use mathlib.Core.Path.{◌≡◌, refl, sym, ap, ap₂, ◌∙◌}
+use mathlib.Core.Path.{◌≡◌, sym, ap, ap₂, ◌∙◌}
 use mathlib.Core.List.{List, [], ◌∷◌}
-use Prim.Native.Nat.{ℕ, zero, suc, ◌+◌, ◌*◌, ◌%◌, ◌^◌, ◌≤◌, ◌<◌, zero-le}
-use native.Mathlib.Nat.{mod-lt, mul-le-mul, zero-mod}
+use Prim.Native.Nat.{ℕ, zero, suc, ◌+◌, ◌*◌, ◌%◌, ◌^◌, ◌≤◌, ◌<◌}
+use native.Mathlib.Nat.{mod-lt, zero-mod}
 use native.Mathlib.Numerals.{add-one}
 use native.Mathlib.Omega.{arith}
 use lib.ListN.{length, get_or, take}
@@ -15,13 +15,9 @@ use Rattle.modular.specs.Remainder.{residue}
 use Rattle.modular.proofs.Dividing.{residue_is}
 use Rattle.symbols.specs.declared.sums.Unreduced.{Unreduced}
 use Rattle.symbols.specs.Columns.{Columns}
-use Rattle.symbols.specs.Syndromes.{four_rows, column_digit, row_sums, Light, Added}
+use Rattle.symbols.specs.Syndromes.{four_rows, column_digit, row_sums, Added}
 use Rattle.symbols.proofs.Digits.{digits_high}
 use Rattle.symbols.proofs.Words.{dot_take, weight_take}
-
--- a product of two bytes
-pub product_small : {a b : ℕ} → a ≤ 255 → b ≤ 255 → a * b ≤ 65025
-product_small h k = mul-le-mul h k
 
 -- s holds the sums of the first i symbols of c, each of them a byte times a byte
 pub record Summing (columns : List (List ℕ)) (c : List ℕ) (i : ℕ) (s : Unreduced) : Type 0 where
@@ -34,24 +30,7 @@ pub record Summing (columns : List (List ℕ)) (c : List ℕ) (i : ℕ) (s : Unr
   pub high_small : s.high ≤ 65025 * i
   pub ones_small : s.ones ≤ 65025 * i
 
-pub summing_none : (columns : List (List ℕ)) (c : List ℕ) → Summing columns c 0 (record { low = 0; mid = 0; high = 0; ones = 0 })
-summing_none columns c =
-    record {
-      low = refl;
-      mid = refl;
-      high = refl;
-      ones = refl;
-      low_small = zero-le;
-      middle_small = zero-le;
-      high_small = zero-le;
-      ones_small = zero-le;
-    }
-
 module _ {columns : List (List ℕ)} {c : List ℕ} {i : ℕ} {s : Unreduced} (h : Summing columns c i s) where
-  -- so that a product more fits
-  pub summing_light : i < 48 → Light s
-  summing_light l = record { low = omega arith; mid = omega arith; high = omega arith; ones = omega arith }
-
   pub summing_more : {x : ℕ} → get_or c i 0 ≡ x → {r : Unreduced} → Added s (get_or columns i []) x r → Summing columns c (i + 1) r
   summing_more {x} e {r} a =
       let f : i + 1 ≡ suc i = add-one i in

@@ -34,12 +34,6 @@ even_at p [] (suc i) = omega arith
 even_at p (x ∷ t) zero = refl
 even_at p (x ∷ t) (suc i) = even_at p t i
 
--- 0 or 1 times a number
-pub part_small : (x p : ℕ) → p ≤ 1 → x * p ≤ x
-part_small x zero h = omega arith
-part_small x (suc zero) h = omega arith
-part_small x (suc (suc p)) h = omega (arith, h)
-
 -- the first i symbols of t are summed
 pub record Weighing (t : List ℕ) (all even i : ℕ) : Type 0 where
   pub all_left : all + weight (drop i t) ≡ weight t
@@ -51,21 +45,6 @@ pub weighing_none : (t : List ℕ) → Weighing t 0 0 0
 weighing_none t = record { all_left = omega arith; even_left = omega (arith, (even_from_lem t).0); even_less = zero-le; small = zero-le }
 
 module _ {t : List ℕ} {all even i : ℕ} (w : Weighing t all even i) where
-  pub weighing_next : {x y : ℕ} → get_or t i 0 ≡ x → x ≤ 255 → y ≡ x * (i % 2) → y ≤ x → Weighing t (all + x) (even + y) (i + 1)
-  weighing_next {x} {y} e l f g =
-      let p : even_from (i % 2) (drop i t) ≡ x * (i % 2) + even_from (1 - i % 2) (drop (suc i) t) =
-      even_at (i % 2) t i ∙ ap (λ (a : ℕ). a * (i % 2) + even_from (1 - i % 2) (drop (suc i) t)) e in
-      let s : suc i ≡ i + 1 = omega arith in
-      let n : 1 - i % 2 ≡ (i + 1) % 2 = omega arith in
-      let past = ap (λ (j : ℕ). even_from (1 - i % 2) (drop j t)) s in
-      let turned = ap (λ (j : ℕ). even_from j (drop (i + 1) t)) n in
-      record {
-        all_left = omega (arith, w.all_left, weight_at_lem t i, ap (λ (j : ℕ). weight (drop j t)) s);
-        even_left = omega (arith, w.even_left, p, past, turned);
-        even_less = omega (arith, w.even_less);
-        small = omega (arith, w.small);
-      }
-
   pub weighing_all : length t ≤ i → (g : ℕ) {z : ℤ} → z ≡ pos all -ℤ pos g
       → record { odd = all - even; even = even; excess = z } ≡ weights_of g t
   weighing_all h g e =

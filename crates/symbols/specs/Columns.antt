@@ -2,15 +2,16 @@
 -- Assumes nothing.
 use Rattle.std.specs.Prelude.{◌≡◌, true, false, List, [], ◌∷◌, ◌++◌, ℕ, zero, suc, min, ◌-◌, ◌<◌, eqb, get_or, replicate}
 use Rattle.modular_theory.specs.Digits.{digits}
-use Rattle.symbols.specs.declared.matrix.Count.{Count}
 
 -- row i, of n, holds three digits of position i + 1: 01's column without its last 1, and zeros where r - 1 is below three
 pub record Columns (q n : ℕ) (columns : List (List ℕ)) : Type 0 where
   pub at : (i : ℕ) → i < n → get_or columns i [] ≡ digits q 3 (suc i)
 
--- the digits of a count
-abbrev pub counted : Count → List ℕ
-counted d = d.first ∷ d.second ∷ d.third ∷ []
+-- three digits below q
+pub record AllBelow (q : ℕ) (d : List ℕ) : Type 0 where
+  pub first : get_or d 0 0 < q
+  pub second : get_or d 1 0 < q
+  pub third : get_or d 2 0 < q
 
 -- three digits of each of k positions, from position i on
 abbrev pub digit_rows : ℕ → ℕ → ℕ → List (List ℕ)

@@ -3,7 +3,7 @@ ghost use Rattle.std.specs.Prelude.{◌≡◌};
 ghost use Rattle.symbols.specs.Weight.{checks_of};
 
 use crate::weight::Weight;
-use modular::{remainder, wide};
+use modular::remainder;
 
 // 01: α and β.
 #[derive(Clone, Copy, PartialEq, Eq, Debug)]
@@ -17,7 +17,7 @@ pub fn checks_of(q: u8, delta: u8, weight: Weight) -> Checks
     ensures { result ≡ checks_of q delta weight }
 {
     Checks {
-        alpha: remainder(q, weight.odd as usize + wide(delta)),
-        beta: remainder(q, weight.even as usize),
+        alpha: remainder(q, usize::from(weight.odd) + usize::from(delta)),
+        beta: remainder(q, usize::from(weight.even)),
     }
 }

@@ -5,7 +5,7 @@ ghost use Rattle.symbols.specs.Syndromes.{rows, Light, Added, part, row_sums};
 
 use crate::matrix::Matrix;
 use crate::weight::Body;
-use modular::{remainder, wide32};
+use modular::remainder;
 
 // The row sums of one component: three digit rows, and the row of ones.
 #[derive(Clone, Copy, PartialEq, Eq, Debug)]
@@ -41,16 +41,25 @@ pub(crate) struct Unreduced {
     pub(crate) ones: u32,
 }
 
+impl Unreduced {
+    const ZERO: Unreduced = Unreduced {
+        low: 0,
+        mid: 0,
+        high: 0,
+        ones: 0,
+    };
+}
+
 // A symbol x in a column more.
 fn added(s: Unreduced, column: [u8; 3], x: u8) -> Unreduced
     requires { Light s }
     ensures { Added s column x result }
 {
-    let y = wide32(x);
+    let y = u32::from(x);
     Unreduced {
-        low: s.low + wide32(column[0]) * y,
-        mid: s.mid + wide32(column[1]) * y,
-        high: s.high + wide32(column[2]) * y,
+        low: s.low + u32::from(column[0]) * y,
+        mid: s.mid + u32::from(column[1]) * y,
+        high: s.high + u32::from(column[2]) * y,
         ones: s.ones + y,
     }
 }
@@ -73,28 +82,12 @@ pub fn syndromes_of(q: u8, n: usize, columns: &Matrix, x: &Body) -> Syndromes
     ensures { (rows result.first ≡ row_sums q columns.now (part true (min n 48) x.now))
         × (rows result.second ≡ row_sums q columns.now (part false (min n 48) x.now)) }
 {
-    let mut end = n;
-    if 48 < end {
-        end = 48;
-    }
-    let mut first = Unreduced {
-        low: 0,
-        mid: 0,
-        high: 0,
-        ones: 0,
-    };
-    let mut second = Unreduced {
-        low: 0,
-        mid: 0,
-        high: 0,
-        ones: 0,
-    };
-    let mut i = 0;
-    while i < end {
+    let mut first = Unreduced::ZERO;
+    let mut second = Unreduced::ZERO;
+    for i in 0..n.min(48) {
         let column = columns[i];
         first = added(first, column, x[2 * i + 1]);
         second = added(second, column, x[2 * i + 2]);
-        i += 1;
     }
     Syndromes {
         first: reduced(q, first),

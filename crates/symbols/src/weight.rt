@@ -2,8 +2,6 @@
 ghost use Rattle.std.specs.Prelude.{◌≡◌, min, ◌*◌, ◌%◌, ◌≤◌, take};
 ghost use Rattle.symbols.specs.Weight.{weights_of};
 
-use modular::wide16;
-
 // 01: an array of 97 holds w; x is as long.
 pub type Body = [u8; 97];
 
@@ -20,38 +18,31 @@ fn if_odd(index: u8, x: u16) -> u16
     requires { x ≤ 255 }
     ensures { (result ≡ x * (index % 2)) × (result ≤ x) }
 {
-    x * wide16(index % 2)
+    x * u16::from(index % 2)
 }
 
 // How many of the first m symbols there are in a word that has `len`, of which an array holds 97.
 pub fn available(m: usize, len: usize) -> usize
     ensures { result ≡ min (min m 97) len }
 {
-    let mut most = m;
-    if 97 < most {
-        most = 97;
-    }
-    if len < most { len } else { most }
+    m.min(97).min(len)
 }
 
 // The first m symbols weighed, 97 at most, against a balancing value: every weight that is compared with one is taken here. The index is
-// counted in bytes too, so that its parity is found many at a time.
+// counted in bytes, so that its parity is found many at a time.
 pub fn weigh(word: &[u8], m: usize, target: u16) -> Weight
     ensures { result ≡ weights_of target (take (min m 97) word.now) }
 {
-    let end = available(m, word.len());
     let mut all = 0;
     let mut even = 0;
     let mut index = 0;
-    let mut i = 0;
-    while i < end {
-        let x = wide16(word[i]);
-        all += x;
-        even += if_odd(index, x);
+    for x in &word[..available(m, word.len())] {
+        let symbol = u16::from(*x);
+        all += symbol;
+        even += if_odd(index, symbol);
         index += 1;
-        i += 1;
     }
     let odd = all - even;
-    let excess = (all as i32) - (target as i32);
+    let excess = i32::from(all) - i32::from(target);
     Weight { odd, even, excess }
 }

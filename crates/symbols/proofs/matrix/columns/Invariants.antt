@@ -1,12 +1,8 @@
 -- `symbols::matrix::columns` meets its contract. The invariant: the rows of the positions passed are built, and the last of them is
--- counted. The measure is what is left.
+-- counted.
 -- Assumes nothing.
-use Prim.Native.Nat.{◌-◌, ◌≤◌}
 use Rattle.symbols.proofs.Counting.{Built}
 use Rattle.symbols.proofs.matrix.columns.Given as goal
 
 abbrev pub invariant-loop-i : goal.invariant-loop-i
-invariant-loop-i l = Built l.q l.table l.digits l.i × (l.i ≤ l.end) × (l.end ≤ 48)
-
-abbrev pub decreases-loop-i : goal.decreases-loop-i
-decreases-loop-i l = l.end - l.i
+invariant-loop-i l = Built l.q l.table l.digits l.i
