@@ -10,7 +10,6 @@ ghost use Rattle.queue_theory.specs.Operations.{linked, format_queue};
 ghost use Rattle.cells.specs.Cells.{shown_at, released};
 
 pub use measure::{BODY_SIZE, CELL_SIZE, capacity, is_length};
-use slices::clear;
 pub use slices::{all_zero, copy};
 
 // Links each cell from 1 on to the one after it, but for the last cell.
@@ -18,12 +17,8 @@ fn link(queue: &mut [u8])
     requires { T (is_queue_length (length queue.old)) }
     ensures { queue.new ≡ linked queue.old 1 (capacity queue.old - 1) }
 {
-    let cells = capacity(queue);
-    let mut i = 1;
-    while i < cells {
-        let at = i * CELL_SIZE;
-        queue[at] = (i + 1) as u8;
-        i += 1;
+    for i in 1..capacity(queue) {
+        queue[i * CELL_SIZE] = (i + 1) as u8;
     }
 }
 
@@ -35,7 +30,7 @@ pub fn format_cells(queue: &mut [u8]) -> bool
     if !is_length(queue.len()) {
         return false;
     }
-    clear(queue);
+    queue.fill(0);
     link(queue);
     queue[1] = 1;
     true
@@ -60,7 +55,7 @@ pub fn release(queue: &mut [u8])
         return;
     }
     let first = queue[0];
-    let at = first as usize * CELL_SIZE;
+    let at = usize::from(first) * CELL_SIZE;
     let e = at + CELL_SIZE;
     if queue.len() < e {
         return;
@@ -68,5 +63,5 @@ pub fn release(queue: &mut [u8])
     queue[0] = queue[at];
     queue[at] = queue[1];
     queue[1] = first;
-    clear(&mut queue[at + 1..e]);
+    queue[at + 1..e].fill(0);
 }

@@ -18,9 +18,5 @@ pub fn is_length(n: usize) -> bool
 pub fn capacity(queue: &[u8]) -> usize
     ensures { result ≡ capacity queue.now }
 {
-    let cells = queue.len() / CELL_SIZE;
-    if cells == 0 {
-        return 0;
-    }
-    cells - 1
+    (queue.len() / CELL_SIZE).saturating_sub(1)
 }

@@ -33,9 +33,9 @@ pub returns-clause-queue_after : goal.returns-clause-queue_after
 unfolding format_answer format_queue formatted
 returns-clause-queue_after c =
     let s = c.args.queue.now in
-    let cleared = c.clear.new.s in
+    let cleared = c.fill.new.self in
     let same : c.link.new.queue ≡ linked (zeros (length s)) 1 (capacity s - 1) =
     c.link.ensures
-    ∙ ap (λ (n : ℕ). linked cleared 1 (n - 1)) (same_capacity s cleared c.clear.auto.s)
-    ∙ ap (λ (t : List ℕ). linked t 1 (capacity s - 1)) c.clear.ensures in
+    ∙ ap (λ (n : ℕ). linked cleared 1 (n - 1)) (same_capacity s cleared c.fill.ensures.len)
+    ∙ ap (λ (t : List ℕ). linked t 1 (capacity s - 1)) (c.fill.ensures.after (λ y e. e)) in
     rw (length_ok (goal.at.returns-clause-queue_after c).Else-not-is_length) (ap (λ (t : List ℕ). set t 1 1) same)

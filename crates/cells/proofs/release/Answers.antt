@@ -1,7 +1,7 @@
 -- `release` meets its contract: the links as the definition writes them, and the part that is lent cleared.
 -- Assumes nothing.
-use mathlib.Core.Path.{◌≡◌, sym, subst, ◌∙◌}
-use Prim.Native.Nat.{ℕ, ◌+◌, ◌*◌, ◌≤◌}
+use mathlib.Core.Path.{◌≡◌, sym, ap, ◌∙◌}
+use Prim.Native.Nat.{◌+◌, ◌*◌, ◌≤◌}
 use native.Mathlib.Omega.{arith}
 use lib.ListN.{length}
 use lib.Seq.{get_or-set_other}
@@ -19,8 +19,8 @@ returns-then-queue-e c = stays c.args.queue.now (omega arith)
 pub returns : goal.returns
 returns c =
     let s = c.args.queue.now in
-    let z = c.clear.new.s in
+    let z = c.fill.new.self in
     let fit : (next_cell s 0 + 1) * cell_size ≤ length s = omega arith in
     let long : length z ≡ body_size = omega arith in
-    let zero : z ≡ zeros body_size = subst (λ (n : ℕ). z ≡ zeros n) (sym c.clear.auto.s ∙ long) c.clear.ensures in
-    freed s z _ fit (get_or-set_other s 0 1 _ 0 (omega arith)) zero
+    let zero : z ≡ zeros body_size = c.fill.ensures.after (λ y e. e) ∙ ap zeros (sym c.fill.ensures.len ∙ long) in
+    rw c.from-at.ensures (freed s z _ fit (get_or-set_other s 0 1 _ 0 (omega arith)) zero)
