@@ -1,133 +1,103 @@
 -- The search for byte 10: window by window, and byte by byte.
 -- Assumes nothing.
-use mathlib.Core.Path.{◌≡◌, sym, ap, ◌∙◌}
-use mathlib.Core.Logic.{◌⊎◌, inl, inr, ⊎_elim}
-use mathlib.Core.List.{List}
-use Prim.Native.Nat.{ℕ, ◌+◌, ◌-◌, ◌≤◌, ◌<◌}
-use native.Mathlib.Nat.{add-zero}
-use native.Mathlib.Omega.{arith}
-use lib.Dec.{eqb}
-use lib.ListN.{get_or, take, drop}
-use lib.Seq.{get_or-drop}
-use borrow.Author.Tests.{eqb-true, eqb-false}
+use Rattle.std.proofs.Common.{◌≡◌, ℕ, ◌+◌, ◌-◌, ◌<◌, ◌≤◌, Bool, true, false, eqb, ltb, cond, Some, None, List, length, get_or, take, drop, refl, sym, ap, ◌∙◌, add-zero, arith}
+use Rattle.std.proofs.lemmas.Bool.{eq-eqb, ne_eqb, eqb-true, eqb-false, lt-ltb, le-ltb, ltb-false}
+use Rattle.std.proofs.lemmas.List.{length-take-le, length-drop, get_or-take, get_or-drop}
+use Rattle.std.proofs.lemmas.List.Sums.{position_or_len_is, fails_before_first}
+use Rattle.std.proofs.lemmas.List.Quantifiers.{position-Some}
+use Rattle.std.specs.List.{position_or_len}
+use mathlib.Core.Logic.{⊎_elim}
 use Rattle.modular_theory.proofs.Search.{le_or_lt}
-use Rattle.code_theory.proofs.Merge.{cases}
 use Rattle.lines_theory.specs.Feed.{line_ends}
 use Rattle.lines_theory.proofs.Counting.{ends_further, ends_none, ends_one}
-use Rattle.lines.specs.Ends.{LineEnd, EndIndex}
+use Rattle.lines.specs.Ends.{first_end}
 
--- none of the bytes from an index on and before another is byte 10
-abbrev pub None : List ℕ → ℕ → ℕ → Type 0
-None input from at = (j : ℕ) → from ≤ j → j < at → get_or input j 0 ≡ 10 → ⊥
+-- none of the first n bytes is byte 10
+abbrev pub NoneBefore : List ℕ → ℕ → Type 0
+NoneBefore s n = (j : ℕ) → j < n → get_or s j 0 ≡ 10 → ⊥
 
-pub none_more : (input : List ℕ) {from at : ℕ} → None input from at → (get_or input at 0 ≡ 10 → ⊥) → None input from (at + 1)
-none_more input {from} {at} n h j l k e =
-    ⊎_elim (λ (a : at ≤ j). let q : j ≡ at = omega arith in h (rw q at e)) (λ (a : j < at). n j l a e) (le_or_lt at j)
+pub end_is : (s : List ℕ) (i : ℕ) → i < length s → NoneBefore s i → get_or s i 0 ≡ 10 → Some i ≡ first_end s
+end_is s i h n e =
+    let p : ℕ → Bool = λ b. eqb b 10 in
+    let at : position_or_len p s ≡ i = position_or_len_is p s i 0 (omega arith) (λ k l. ne_eqb _ 10 (n k l)) (λ l. eq-eqb _ 10 e) in
+    rw (at, lt-ltb i (length s) h) refl
 
-none_on : (input : List ℕ) {from at end : ℕ} → None input from at → None input at end → None input from end
-none_on input {from} {at} n m j l k e = ⊎_elim (λ (a : at ≤ j). m j a k e) (λ (a : j < at). n j l a e) (le_or_lt at j)
+pub no_end : (s : List ℕ) → NoneBefore s (length s) → None ≡ first_end s
+no_end s n =
+    let p : ℕ → Bool = λ b. eqb b 10 in
+    let at : position_or_len p s ≡ length s =
+    position_or_len_is p s (length s) 0 (omega arith) (λ k l. ne_eqb _ 10 (n k l)) (λ l. absurd (omega arith)) in
+    rw (at, le-ltb (length s) (length s) (omega arith)) refl
 
--- the first i bytes of a window of w are seen, and `first` is the index of the first byte 10 among them, or w
-pub record Seen (input : List ℕ) (from w first i : ℕ) : Type 0 where
-  pub within : i ≤ w
-  pub high : first ≤ w
-  pub before : first < w → first < i
-  pub none : (j : ℕ) → from ≤ j → j < from + i → j < from + first → get_or input j 0 ≡ 10 → ⊥
-  pub ends : first < w → get_or input (from + first) 0 ≡ 10
+pub end_at : (s : List ℕ) (i : ℕ) → first_end s ≡ Some i → (i < length s) × NoneBefore s i × (get_or s i 0 ≡ 10)
+end_at s i e =
+    let f = position-Some (λ b. eqb b 10) s i 0 e in
+    (f.0, λ j l. eqb-false _ 10 (f.2 j l), eqb-true _ 10 f.1)
 
-module _ {input : List ℕ} {from w first i : ℕ} (s : Seen input from w first i) (more : i < w) where
-  -- the next byte is byte 10, and no other was
-  seen_hit : w ≤ first → get_or input (from + i) 0 ≡ 10 → Seen input from w i (i + 1)
-  seen_hit h e =
-      record {
-        within = omega arith;
-        high = omega arith;
-        before = λ k. omega arith;
-        none = λ j l a b. s.none j l b (omega arith);
-        ends = λ k. e;
-      }
+none_ltb : (b : Bool) (n : ℕ) → None ≡ cond b (Some n) None → b ≡ false
+none_ltb true n e = cc
+none_ltb false n e = refl
 
-  -- it is no byte 10, or one was
-  seen_miss : (first < i) ⊎ (get_or input (from + i) 0 ≡ 10 → ⊥) → Seen input from w first (i + 1)
-  seen_miss h =
-      record {
-        within = omega arith;
-        high = s.high;
-        before = λ k. omega (arith, s.before k);
-        none = λ j l a b e.
-            ⊎_elim
-            (λ (k : from + i ≤ j).
-            let q : j ≡ from + i = omega arith in
-            ⊎_elim (λ (f : first < i). omega arith) (λ f. f (rw q at e)) h)
-            (λ (k : j < from + i). s.none j l k b e) (le_or_lt (from + i) j);
-        ends = s.ends;
-      }
+pub end_none : (s : List ℕ) → None ≡ first_end s → NoneBefore s (length s)
+end_none s e j l =
+    let p : ℕ → Bool = λ b. eqb b 10 in
+    let all : length s ≤ position_or_len p s = ltb-false _ _ (none_ltb (ltb (position_or_len p s) (length s)) _ e) in
+    eqb-false _ 10 (fails_before_first p s j 0 (omega arith))
 
-  pub seen_more : {p first' : ℕ} → EndIndex (get_or input (from + i) 0) i w p
-      → (first' ≤ first) × (first' ≤ p) × (first' < first → first' ≡ p) → Seen input from w first' (i + 1)
-  seen_more {p} {first'} q m =
-      ⊎_elim (λ (h : w ≤ first). cases (eqb (get_or input (from + i) 0) 10) (λ e. hit h (eqb-true _ _ e)) (λ e. miss (eqb-false _ _ e)))
-      (λ (h : first < w). same (kept h) (seen_miss (inl (s.before h)))) (le_or_lt w first)
-    where
-      same : first' ≡ first → Seen input from w first (i + 1) → Seen input from w first' (i + 1)
-      same e t = rw e t
+-- The bytes from an index on, of which the search sees the first n.
 
-      -- the index of a byte in a window of which one was seen lies after it
-      kept : first < w → first' ≡ first
-      kept h =
-          ⊎_elim (λ (k : first ≤ first'). omega (arith, m.0))
-          (λ (k : first' < first).
-          cases (eqb (get_or input (from + i) 0) 10)
-          (λ e. absurd (omega (arith, m.2 k, q.hit (eqb-true _ _ e), s.before h)))
-          (λ e. absurd (omega (arith, m.2 k, q.miss (eqb-false _ _ e))))) (le_or_lt first first')
+abbrev part : List ℕ → ℕ → ℕ → List ℕ
+part s at n = take n (drop at s)
 
-      hit : w ≤ first → get_or input (from + i) 0 ≡ 10 → Seen input from w first' (i + 1)
-      hit h e =
-          let a : p ≡ i = q.hit e in
-          let b : first' ≡ i = m.2 (omega (arith, m.1)) ∙ a in
-          rw b (seen_hit h e)
+part_length : (s : List ℕ) (at n : ℕ) → at + n ≤ length s → length (part s at n) ≡ n
+part_length s at n h = length-take-le n (drop at s) (rw length-drop (omega arith))
 
-      miss : (get_or input (from + i) 0 ≡ 10 → ⊥) → Seen input from w first' (i + 1)
-      miss n =
-          let a : p ≡ w = q.miss n in
-          let b : first' ≡ first =
-          ⊎_elim (λ (k : first ≤ first'). omega (arith, m.0)) (λ (k : first' < first). absurd (omega (arith, m.2 k, s.high)))
-          (le_or_lt first first')
-          in
-          same b (seen_miss (inr n))
+part_at : (s : List ℕ) (at n i : ℕ) → i < n → get_or (part s at n) i 0 ≡ get_or s (at + i) 0
+part_at s at n i h = get_or-take n (drop at s) i 0 h ∙ get_or-drop at s i 0
 
-pub seen_all : {input : List ℕ} {from w first i : ℕ} → Seen input from w first i → w ≤ i → LineEnd input from (from + w) (from + first)
-seen_all s h =
-    record {
-      low = omega arith;
-      high = omega (arith, s.high);
-      none = λ j l k. s.none j l (omega (arith, s.high)) k;
-      ends = λ k. s.ends (omega arith);
-    }
+pub none_more : (s : List ℕ) (at m n : ℕ) → m ≡ n → at + n ≤ length s → NoneBefore s at → None ≡ first_end (take m (drop at s)) → NoneBefore s (at + n)
+none_more s at m n q h before e j l k =
+    let w = part_length s at m (omega arith) in
+    ⊎_elim
+    (λ (a : at ≤ j).
+    let t : at + (j - at) ≡ j = omega arith in
+    end_none (part s at m) e (j - at) (omega arith) (rw (part_at s at m (j - at) (omega arith), t) k))
+    (λ (b : j < at). before j b k) (le_or_lt at j)
 
--- a search that goes on from where one ended without finding
-pub end_on : {input : List ℕ} {from at limit r : ℕ} → from ≤ at → None input from at → LineEnd input at limit r → LineEnd input from limit r
-end_on {input} h n e = record { low = omega (arith, e.low); high = e.high; none = none_on input n e.none; ends = e.ends }
-
--- an end that was found before a limit is found before a later one
-pub end_within : {input : List ℕ} {from limit longer r : ℕ} → limit ≤ longer → r < limit → LineEnd input from limit r
-    → LineEnd input from longer r
-end_within h k e = record { low = e.low; high = omega arith; none = e.none; ends = λ l. e.ends k }
+pub found : (s : List ℕ) (at n i : ℕ) → at + n ≤ length s → NoneBefore s at → Some i ≡ first_end (take n (drop at s)) → Some (at + i) ≡ first_end s
+found s at n i h before e =
+    let w = part_length s at n h in
+    let f = end_at (part s at n) i (sym e) in
+    end_is s (at + i) (omega (arith, f.0))
+    (λ j l k.
+    ⊎_elim
+    (λ (a : at ≤ j).
+    let t : at + (j - at) ≡ j = omega arith in
+    f.1 (j - at) (omega arith) (rw (part_at s at n (j - at) (omega (arith, f.0)), t) k))
+    (λ (b : j < at). before j b k) (le_or_lt at j))
+    (sym (part_at s at n i (omega (arith, f.0))) ∙ f.2)
 
 -- Lines counted: one more where byte 10 came, none where the piece is at its end.
 
-pub counts_none : {input : List ℕ} {consumed limit end : ℕ} → LineEnd input consumed limit end
-    → line_ends (take end input) ≡ line_ends (take consumed input)
-counts_none {input} {consumed} {limit} {end} e =
-    let a : consumed + (end - consumed) ≡ end = omega (arith, e.low) in
-    let rest = drop consumed input in
-    let none : line_ends (take (end - consumed) rest) ≡ 0 =
-    ends_none (end - consumed) rest (λ j h. rw (get_or-drop consumed input j 0) (e.none (consumed + j) (omega arith) (omega arith)))
-    in
-    ap (λ (n : ℕ). line_ends (take n input)) (sym a) ∙ ends_further input consumed (end - consumed) ∙ omega (arith, none)
+pub counts_none : (input : List ℕ) (consumed : ℕ) → consumed ≤ length input → None ≡ first_end (drop consumed input)
+    → line_ends (take (length input) input) ≡ line_ends (take consumed input)
+counts_none input consumed h e =
+    let n = length input - consumed in
+    let a : consumed + n ≡ length input = omega arith in
+    let w : length (drop consumed input) ≡ n = length-drop consumed input in
+    let none : line_ends (take n (drop consumed input)) ≡ 0 =
+    ends_none n (drop consumed input) (λ j l. end_none (drop consumed input) e j (omega arith)) in
+    ap (λ (k : ℕ). line_ends (take k input)) (sym a) ∙ ends_further input consumed n ∙ omega (arith, none)
 
-pub counts_one : {input : List ℕ} {consumed limit end : ℕ} → LineEnd input consumed limit end → end < limit
-    → line_ends (take (end + 1) input) ≡ line_ends (take consumed input) + 1
-counts_one {input} {consumed} {limit} {end} e h =
-    let one : line_ends (take 1 (drop end input)) ≡ 1 = ends_one (drop end input) (rw (get_or-drop end input 0 0, add-zero end) (e.ends h)) in
-    ends_further input end 1 ∙ omega (arith, one, counts_none e)
+pub counts_one : (input : List ℕ) (consumed n : ℕ) → Some n ≡ first_end (drop consumed input)
+    → line_ends (take (consumed + (n + 1)) input) ≡ line_ends (take consumed input) + 1
+counts_one input consumed n e =
+    let f = end_at (drop consumed input) n (sym e) in
+    let a : consumed + n + 1 ≡ consumed + (n + 1) = omega arith in
+    let none : line_ends (take n (drop consumed input)) ≡ 0 = ends_none n (drop consumed input) f.1 in
+    let s = drop (consumed + n) input in
+    let one : line_ends (take 1 s) ≡ 1 =
+    ends_one s (get_or-drop (consumed + n) input 0 0 ∙ ap (λ (k : ℕ). get_or input k 0) (add-zero (consumed + n)) ∙ sym (get_or-drop consumed input n 0) ∙ f.2) in
+    ap (λ (k : ℕ). line_ends (take k input)) (sym a)
+    ∙ ends_further input (consumed + n) 1
+    ∙ omega (arith, one, none, ends_further input consumed n)

@@ -6,11 +6,13 @@ use Prim.Native.Nat.{ℕ, zero, suc, ◌+◌, ◌-◌, ◌≤◌, ◌<◌, zero-
 use native.Mathlib.Nat.{zero-add}
 use native.Mathlib.Omega.{arith}
 use lib.ListN.{length, take, drop, length-drop, take-append-drop, drop_of_length-le}
-use lib.Seq.{length-take-le, drop-drop, take-take, get_or-drop, take-paste, drop-paste, length-paste, take-nil, drop-nil}
+use lib.Seq.{length-take-le, drop-drop, take-take, get_or-drop, take-paste, drop-paste, length-paste, take-nil, drop-nil, take-length}
 use Rattle.lines_theory.specs.Feed.{Partial, Model, Fed, answer_to, feed_from, overwritten}
 use Rattle.lines_theory.proofs.Feed.{feed_stop}
 use Rattle.lines.specs.States.{partial_of, pending_of, extended_by, BeginsWith, Emitted}
-use Rattle.lines.specs.Ends.{LineEnd}
+use Rattle.lines.specs.Ends.{first_end}
+use Rattle.lines.proofs.Ends.{NoneBefore, end_at, end_none}
+use Rattle.std.proofs.Common.{Some, None}
 use Rattle.lines.proofs.Turns.{ahead, ahead_ahead, emit_law, piece_law, end_law}
 
 -- the model of what the arrays hold
@@ -106,63 +108,62 @@ nothing pending from to h k l =
 
 module _ {goal : Fed} {input out₀ line : List ℕ} {len : ℕ} {pending : List ℕ} {from to consumed produced : ℕ} {out : List ℕ}
     (t : Turn goal input out₀ line len pending from to consumed produced out) (none : to ≤ from) where
-  module _ {end : ℕ} (e : LineEnd input consumed (length input) end) where
-    -- the bytes of the line in this piece
-    bytes : List ℕ
-    bytes = take (end - consumed) (drop consumed input)
+  -- what is left to do, after n bytes of the line in this piece
+  resumes : (n : ℕ) → consumed + n ≤ length input → NoneBefore (drop consumed input) n
+      → goal
+      ≡ resumed (consumed + n) (take produced out) (extended_by (partial_of line len) (take n (drop consumed input))) [] input
+      (length out₀ - produced)
+  resumes n h e =
+      let p = partial_of line len in
+      let x = take produced out in
+      let room = length out₀ - produced in
+      t.left
+      ∙ ap (λ (o : List ℕ). resumed consumed x p o input room) (nothing pending from to t.long_pending t.end none)
+      ∙ piece_law (drop consumed input) n consumed p x room (rw length-drop (omega arith)) e
+      ∙ rw (drop-drop n consumed input)
 
-    -- what is left to do, after them
-    resumes : goal ≡ resumed end (take produced out) (extended_by (partial_of line len) bytes) [] input (length out₀ - produced)
-    unfolding bytes
-    resumes =
-        let p = partial_of line len in
-        let x = take produced out in
-        let room = length out₀ - produced in
-        let a : consumed + (end - consumed) ≡ end = omega (arith, e.low) in
-        t.left
-        ∙ ap (λ (o : List ℕ). resumed consumed x p o input room) (nothing pending from to t.long_pending t.end none)
-        ∙ piece_law (drop consumed input) (end - consumed) consumed p x room (rw length-drop (omega (arith, e.high)))
-        (λ j h. rw (get_or-drop consumed input j 0) (e.none (consumed + j) (omega arith) (omega arith)))
-        ∙ rw (drop-drop (end - consumed) consumed input, a)
+  -- byte 10 came: the answer to the line is pending
+  pub answered : {line' pending' : List ℕ} {n to' : ℕ} → Some n ≡ first_end (drop consumed input) → length line' ≡ 101
+      → BeginsWith pending' to' (answer_to (extended_by (partial_of line len) (take n (drop consumed input))))
+      → Turn goal input out₀ line' 0 pending' 0 to' (consumed + (n + 1)) produced out
+  answered {line'} {pending'} {n} {to'} e l w =
+      let f = end_at (drop consumed input) n (sym e) in
+      let h : consumed + n < length input = omega (arith, f.0, length-drop consumed input) in
+      let a : consumed + n + 1 ≡ consumed + (n + 1) = omega arith in
+      let p = extended_by (partial_of line len) (take n (drop consumed input)) in
+      record {
+        long_line = l;
+        long_pending = w.long;
+        order = zero-le;
+        end = w.fits;
+        taken = omega arith;
+        put = t.put;
+        same = t.same;
+        rest = t.rest;
+        left =
+            resumes n (omega arith) f.1
+            ∙ end_law input (consumed + n) p (take produced out) (length out₀ - produced) h (sym (get_or-drop consumed input n 0) ∙ f.2)
+            ∙ rw (w.text, a);
+      }
 
-    -- byte 10 came: the answer to the line is pending
-    pub answered : {line' pending' : List ℕ} {to' : ℕ} → end < length input → length line' ≡ 101
-        → BeginsWith pending' to' (answer_to (extended_by (partial_of line len) (take (end - consumed) (drop consumed input))))
-        → Turn goal input out₀ line' 0 pending' 0 to' (end + 1) produced out
-    unfolding bytes
-    answered {line'} {pending'} {to'} h l w =
-        record {
-          long_line = l;
-          long_pending = w.long;
-          order = zero-le;
-          end = w.fits;
-          taken = omega arith;
-          put = t.put;
-          same = t.same;
-          rest = t.rest;
-          left =
-              resumes
-              ∙ end_law input end (extended_by (partial_of line len) bytes) (take produced out) (length out₀ - produced) h (e.ends h)
-              ∙ rw w.text;
-        }
-
-    -- the piece is at its end
-    pub exhausted : (line' : List ℕ) (len' : ℕ) → length line' ≡ 101
-        → partial_of line' len' ≡ extended_by (partial_of line len) (take (end - consumed) (drop consumed input))
-        → Turn goal input out₀ line' len' pending from to end produced out
-    unfolding bytes
-    exhausted line' len' l p =
-        record {
-          long_line = l;
-          long_pending = t.long_pending;
-          order = t.order;
-          end = t.end;
-          taken = e.high;
-          put = t.put;
-          same = t.same;
-          rest = t.rest;
-          left = resumes ∙ rw (p, nothing pending from to t.long_pending t.end none);
-        }
+  -- the piece is at its end
+  pub exhausted : (line' : List ℕ) (len' : ℕ) → None ≡ first_end (drop consumed input) → length line' ≡ 101
+      → partial_of line' len' ≡ extended_by (partial_of line len) (drop consumed input)
+      → Turn goal input out₀ line' len' pending from to (length input) produced out
+  exhausted line' len' e l p =
+      let s = drop consumed input in
+      let a : consumed + length s ≡ length input = omega (arith, t.taken, length-drop consumed input) in
+      record {
+        long_line = l;
+        long_pending = t.long_pending;
+        order = t.order;
+        end = t.end;
+        taken = omega arith;
+        put = t.put;
+        same = t.same;
+        rest = t.rest;
+        left = resumes (length s) (omega arith) (end_none s e) ∙ rw (take-length s, a, p, nothing pending from to t.long_pending t.end none);
+      }
 
 -- Where the loop is left.
 

@@ -70,17 +70,16 @@ pub fn step(state: State, input: &[u8], output: &mut [u8]) -> Stepped
         if from < to {
             break;
         }
-        let end = search::line_end(input, consumed);
-        let bytes = &input[consumed..end];
-        if end == input.len() {
-            len = line::hold(&mut line, len, bytes);
-            consumed = end;
+        let rest = &input[consumed..];
+        let Some(end) = search::line_end(rest) else {
+            len = line::hold(&mut line, len, rest);
+            consumed = input.len();
             break;
-        }
-        to = line::answer(&mut line, len, bytes, &mut pending);
+        };
+        to = line::answer(&mut line, len, &rest[..end], &mut pending);
         from = 0;
         len = 0;
-        consumed = end + 1;
+        consumed += end + 1;
         answered += 1;
     }
     let state = State {

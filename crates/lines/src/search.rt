@@ -1,62 +1,43 @@
 // The search for the byte 10 that ends a line.
-ghost use Rattle.std.specs.Prelude.{◌+◌, ◌≤◌, ◌<◌, ◌≡◌, length};
-ghost use Rattle.lines.specs.Ends.{LineEnd, EndIndex};
+ghost use Rattle.std.specs.Prelude.{◌≡◌, length};
+ghost use Rattle.lines.specs.Ends.{first_end};
 
-// The index of a byte 10; 128, past every index of a window, for any other byte.
-fn end_index(byte: u8, i: u8) -> u8
-    ensures { EndIndex byte i 128 result }
-{
-    if byte == b'\n' { i } else { 128 }
-}
-
-fn earlier(a: u8, b: u8) -> u8
-    ensures { (result ≤ a) × (result ≤ b) × (result < a → result ≡ b) }
-{
-    if b < a { b } else { a }
-}
-
-// The first byte 10 of the 128 bytes from an index on: one pass with no way out, which the compiler does sixteen bytes
-// at a time. A line of the form, with its byte 10, lies within such a window.
-fn in_window(input: &[u8], from: usize) -> usize
-    requires { from + 128 ≤ length input.now }
-    ensures { LineEnd input.now from (from + 128) result }
+// The first byte 10 of a window of 128 bytes: one pass with no way out, which the compiler does sixteen bytes at a time. A
+// line of the form, with its byte 10, lies within such a window.
+fn in_window(window: &[u8]) -> Option<usize>
+    requires { length window.now ≡ 128 }
+    ensures { result ≡ first_end window.now }
 {
     let mut first: u8 = 128;
-    let mut i: u8 = 0;
-    while i < 128 {
-        first = earlier(first, end_index(input[from + i as usize], i));
-        i += 1;
+    for (i, byte) in window.iter().enumerate() {
+        let index = if *byte == b'\n' { i as u8 } else { 128 };
+        first = first.min(index);
     }
-    from + first as usize
+    if first < 128 {
+        Some(usize::from(first))
+    } else {
+        None
+    }
 }
 
-// The first byte 10 from an index on, byte by byte.
-fn by_bytes(input: &[u8], from: usize) -> usize
-    requires { from ≤ length input.now }
-    ensures { LineEnd input.now from (length input.now) result }
+// The first byte 10, byte by byte.
+fn by_bytes(input: &[u8]) -> Option<usize>
+    ensures { result ≡ first_end input.now }
 {
-    let mut at = from;
-    while at < input.len() {
-        if input[at] == b'\n' {
-            return at;
-        }
-        at += 1;
-    }
-    at
+    input.iter().position(|byte| *byte == b'\n')
 }
 
-// The index of the first byte 10 from an index on, or the end of the input.
-pub(crate) fn line_end(input: &[u8], from: usize) -> usize
-    requires { from ≤ length input.now }
-    ensures { LineEnd input.now from (length input.now) result }
+// The index of the first byte 10.
+pub(crate) fn line_end(input: &[u8]) -> Option<usize>
+    ensures { result ≡ first_end input.now }
 {
-    let mut at = from;
+    let mut at = 0;
     while input.len() - at >= 128 {
-        let end = in_window(input, at);
-        if end - at < 128 {
-            return end;
+        if let Some(i) = in_window(&input[at..at + 128]) {
+            return Some(at + i);
         }
-        at = end;
+        at += 128;
     }
-    by_bytes(input, at)
+    let i = by_bytes(&input[at..])?;
+    Some(at + i)
 }

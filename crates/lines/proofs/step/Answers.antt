@@ -4,16 +4,19 @@ use mathlib.Core.Path.{◌≡◌, refl, sym, ap, ◌∙◌}
 use mathlib.Core.List.{List}
 use Prim.Native.Nat.{ℕ, ◌+◌, ◌<◌}
 use native.Mathlib.Omega.{arith}
-use lib.ListN.{length}
+use lib.ListN.{length, drop, length-drop}
+use Rattle.std.proofs.Common.{Some}
+use Rattle.std.proofs.lemmas.List.{take_rest}
 use Rattle.lines_theory.specs.Feed.{Fed, feed_from, feed}
 use Rattle.lines_theory.proofs.Counting.{ends_few}
 use Rattle.lines.specs.States.{partial_of, pending_of, model_of}
 use Rattle.lines.proofs.Clamping.{clamped}
-use Rattle.lines.proofs.Ends.{counts_none, counts_one}
+use Rattle.lines.specs.Ends.{first_end}
+use Rattle.lines.proofs.Ends.{end_at, counts_none, counts_one}
 use Rattle.lines.proofs.Stepping.{Turn, begins, emitted, answered, exhausted, no_room, no_input, stepped}
 use borrow.Author.Rules.{rules}
 use Rattle.lines.proofs.step.Goals as goal
-use Rattle.lines.proofs.step.Goals.{After-emit-n, Else-end-input}
+use Rattle.lines.proofs.step.Goals.{After-emit-n, In-Some}
 
 -- what the call comes to
 abbrev call : After-emit-n → Fed
@@ -39,9 +42,15 @@ turn_out : (c : After-emit-n)
     Turn (call c) c.args.input.now c.args.output.now l.line l.len l.pending (l.from + n) l.to l.consumed (l.produced + n) c.emit-n.new.output
 turn_out c = emitted c.loop-from.invariant.0 c.emit-n.ensures
 
--- byte 10 stands before the end of the piece
-further : (c : Else-end-input) → c.line_end-end.result < length c.args.input.now
-further c = omega (arith, c.line_end-end.ensures.high, c.if-end-input.false)
+-- byte 10 stands in the rest of the piece
+found : (c : In-Some) → Some c.in-Some.end ≡ first_end (drop c.loop-from.consumed c.args.input.now)
+found c = rw take_rest at c.in-Some.ensures
+
+further : (c : In-Some) → c.loop-from.consumed + c.in-Some.end < length c.args.input.now
+further c =
+    let rest = drop c.loop-from.consumed c.args.input.now in
+    let f = end_at rest c.in-Some.end (sym (found c)) in
+    omega (arith, f.0, length-drop c.loop-from.consumed c.args.input.now)
 
 pub loop-from-init : goal.loop-from-init
 loop-from-init c = (begins _ _ _ _ _ _ _ (search rules) (search rules) c.smaller-from.ensures.1 c.smaller-to.ensures.1, refl)
@@ -57,23 +66,23 @@ overflow_add-from c =
     omega (arith, c.emit-n.ensures.within, turn.order, turn.end)
 
 pub overflow_add-consumed : goal.overflow_add-consumed
-overflow_add-consumed c = omega (arith, further (goal.at.overflow_add-consumed c).Else-end-input)
+overflow_add-consumed c = omega (arith, further (goal.at.overflow_add-consumed c).In-Some)
 
 pub overflow_add-answered : goal.overflow_add-answered
 overflow_add-answered c =
     let few = ends_few c.loop-from.consumed c.args.input.now in
-    omega (arith, c.loop-from.invariant.1, few, further (goal.at.overflow_add-answered c).Else-end-input, c.line_end-end.ensures.low)
+    omega (arith, c.loop-from.invariant.1, few, further (goal.at.overflow_add-answered c).In-Some)
 
 pub loop-from-smaller : goal.loop-from-smaller
-loop-from-smaller c = omega (arith, c.line_end-end.ensures.low, further (goal.at.loop-from-smaller c).Else-end-input)
+loop-from-smaller c = omega (arith, further (goal.at.loop-from-smaller c).In-Some)
 
 pub loop-from-preserved : goal.loop-from-preserved
 loop-from-preserved c =
     let put = (goal.at.loop-from-preserved c).After-emit-n in
-    let more = further (goal.at.loop-from-preserved c).Else-end-input in
+    let some = (goal.at.loop-from-preserved c).In-Some in
     let long = c.answer-to.auto.line ∙ c.loop-from.invariant.0.long_line in (
-      answered (turn_out put) c.if-from-to.false c.line_end-end.ensures more long c.answer-to.ensures,
-      omega (arith, c.loop-from.invariant.1, counts_one c.line_end-end.ensures more),
+      answered (turn_out put) c.if-from-to.false (found some) long (rw take_rest at c.answer-to.ensures),
+      omega (arith, c.loop-from.invariant.1, counts_one c.args.input.now c.loop-from.consumed c.in-Some.end (found some)),
     )
 
 pub shape_of-output-then-from-to : goal.shape_of-output-then-from-to
@@ -88,16 +97,13 @@ returns-then-from-to c =
     let s = stepped (no_room (turn_out put) c.if-from-to.true (full ∙ inv.0.same)) (same_call put) inv.1 in
     record { state = s.0; consumed = s.1; produced = s.2; answered = s.3; output = s.4 }
 
-pub shape_of-output-then-end-input : goal.shape_of-output-then-end-input
-shape_of-output-then-end-input c = (turn_out (goal.at.shape_of-output-then-end-input c).After-emit-n).same
-
-pub returns-then-end-input : goal.returns-then-end-input
+pub returns-in_default : goal.returns-in_default
 unfolding model_of
-returns-then-end-input c =
-    let put = (goal.at.returns-then-end-input c).After-emit-n in
+returns-in_default c =
+    let put = (goal.at.returns-in_default c).After-emit-n in
     let room = c.if-from-to.false in
-    let ended = c.line_end-end.ensures in
+    let none = rw take_rest at c.in_default.ensures in
     let long = c.hold-len.auto.line ∙ c.loop-from.invariant.0.long_line in
-    let spent = exhausted (turn_out put) room ended c.hold-len.new.line c.hold-len.result long c.hold-len.ensures in
-    let s = stepped (no_input spent room c.if-end-input.true) (same_call put) (c.loop-from.invariant.1 ∙ sym (counts_none ended)) in
+    let spent = exhausted (turn_out put) room c.hold-len.new.line c.hold-len.result none long (rw take_rest at c.hold-len.ensures) in
+    let s = stepped (no_input spent room refl) (same_call put) (c.loop-from.invariant.1 ∙ sym (counts_none _ _ c.loop-from.invariant.0.taken none)) in
     record { state = s.0; consumed = s.1; produced = s.2; answered = s.3; output = s.4 }

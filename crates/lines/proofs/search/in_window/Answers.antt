@@ -1,23 +1,13 @@
--- `lines::search::in_window` meets its contract: after i turns the first i bytes of the window are seen.
--- Assumes nothing.
-use Prim.Native.Nat.{zero-le}
-use native.Mathlib.Omega.{arith}
-use Rattle.lines.proofs.Ends.{seen_more, seen_all}
+use Rattle.std.proofs.Common.{◌<◌, length, Some, ap, ◌∙◌, arith}
+use Rattle.lines.proofs.Ends.{end_is, no_end}
 use Rattle.lines.proofs.search.in_window.Goals as goal
 
-pub loop-i-init : goal.loop-i-init
-loop-i-init c =
-    record {
-      within = zero-le;
-      high = omega arith;
-      before = λ h. absurd (omega arith);
-      none = λ j l a b e. omega arith;
-      ends = λ h. absurd (omega arith);
-    }
+pub returns-then-first-lt128 : goal.returns-then-first-lt128
+returns-then-first-lt128 c =
+    let i = c.loop-i.invariant in
+    let f = i.ends c.if-first-lt128.true in
+    let h : c.loop-i.first < length c.args.window.now = omega arith in
+    ap Some c.from.ensures ∙ end_is _ _ h (λ j l. i.none j (omega (arith, f.0)) l) f.1
 
-pub loop-i-preserved : goal.loop-i-preserved
-loop-i-preserved c =
-    seen_more c.loop-i.invariant c.loop-i-test.true c.end_index.ensures c.earlier-first.ensures
-
-pub returns : goal.returns
-returns c = seen_all c.loop-i.invariant c.loop-i-test.false
+pub returns-else-first-lt128 : goal.returns-else-first-lt128
+returns-else-first-lt128 c = no_end _ (λ j l. c.loop-i.invariant.none j (omega arith) (omega arith))

@@ -1,21 +1,22 @@
--- `lines::search::line_end` meets its contract: the windows before the one at hand have no byte 10.
--- Assumes nothing.
-use native.Mathlib.Omega.{arith}
-use Rattle.lines.proofs.Ends.{end_on, end_within}
+use Rattle.std.proofs.Common.{◌-◌, length, refl, ◌∙◌, arith}
+use Rattle.lines.proofs.Ends.{no_end, none_more, found}
 use Rattle.lines.proofs.search.line_end.Goals as goal
 
-pub loop-at-init : goal.loop-at-init
-loop-at-init c = (omega arith, c.requires, λ j l k e. omega arith)
-
-pub returns-then-end-at-lt128 : goal.returns-then-end-at-lt128
-returns-then-end-at-lt128 c =
-    let i = c.loop-at.invariant in
-    end_on i.0 i.2 (end_within (omega arith) (omega (arith, c.if-end-at-lt128.true)) c.in_window-end.ensures)
+pub returns-in-Some : goal.returns-in-Some
+returns-in-Some c = found _ _ _ _ (omega arith) c.loop-at.invariant.none (c.in-Some.ensures)
 
 pub loop-at-preserved : goal.loop-at-preserved
 loop-at-preserved c =
-    let e = end_on c.loop-at.invariant.0 c.loop-at.invariant.2 c.in_window-end.ensures in
-    (e.low, omega (arith, e.high), e.none)
+    let i = c.loop-at.invariant in
+    record {
+      in_range = omega arith;
+      none = none_more _ _ _ _ (omega arith) (omega arith) i.none (c.in_default.ensures);
+    }
+
+pub returns-in_err-i : goal.returns-in_err-i
+returns-in_err-i c =
+    let i = c.loop-at.invariant in
+    c.from_residual.ensures ∙ no_end _ (λ j l. none_more _ _ _ (length c.args.input.now - c.loop-at.at) refl (omega arith) i.none c.in_err-i.ensures j (omega arith))
 
 pub returns : goal.returns
-returns c = end_on c.loop-at.invariant.0 c.loop-at.invariant.2 c.by_bytes.ensures
+returns c = found _ _ _ _ (omega arith) c.loop-at.invariant.none (c.in_ok-i.ensures)
