@@ -1,6 +1,6 @@
 -- The symbols of a word are below q where the highest of them is.
 -- Assumes nothing.
-use Rattle.std.proofs.Common.{◌≡◌, ℕ, ◌+◌, ◌<◌, ◌≤◌, true, T, ltb, List, [], ◌∷◌, length, get_or, refl, ⊎_elim, not-suc-le-zero, arith, ltb→lt, lt→ltb}
+use Rattle.std.proofs.Common.{◌≡◌, ℕ, max, ◌+◌, ◌<◌, ◌≤◌, true, T, ltb, List, [], ◌∷◌, length, get_or, refl, ⊎_elim, not-suc-le-zero, arith, ltb→lt, lt→ltb}
 use Rattle.modular_theory.proofs.Search.{le_or_lt, same_test, and_left}
 use Rattle.code_theory.specs.Component.{symbols_below}
 use Rattle.code_theory.proofs.Symbols.{symbol_below, symbols_below_lem}
@@ -18,28 +18,23 @@ positive q [] t l = absurd (not-suc-le-zero l)
 positive q (x ∷ w) t l = omega (arith, ltb→lt x q (and_left (ltb x q) (symbols_below q w) t))
 
 module _ {word : List ℕ} {highest i : ℕ} (h : Highest word highest i) where
-  pub highest_risen : highest < get_or word i 0 → Highest word (get_or word i 0) (i + 1)
-  highest_risen l =
+  -- one symbol more
+  pub highest_more : Highest word (max (get_or word i 0) highest) (i + 1)
+  highest_more =
       record {
         above = λ j k. ⊎_elim (λ (e : i ≤ j). at j (omega arith)) (below j) (le_or_lt i j);
-        lowest = λ b k f. f i (omega arith);
+        lowest =
+            λ b k f.
+            let passed : highest < b = h.lowest b k (λ j m. f j (omega arith)) in
+            let here : get_or word i 0 < b = f i (omega arith) in
+            omega arith;
       }
     where
-      at : (j : ℕ) → j ≡ i → get_or word j 0 ≤ get_or word i 0
+      at : (j : ℕ) → j ≡ i → get_or word j 0 ≤ max (get_or word i 0) highest
       at j e = rw e (omega arith)
 
-      below : (j : ℕ) → j < i → get_or word j 0 ≤ get_or word i 0
+      below : (j : ℕ) → j < i → get_or word j 0 ≤ max (get_or word i 0) highest
       below j m = let g : get_or word j 0 ≤ highest = h.above j m in omega arith
-
-  pub highest_kept : get_or word i 0 ≤ highest → Highest word highest (i + 1)
-  highest_kept l =
-      record {
-        above = λ j k. ⊎_elim (λ (e : i ≤ j). at j (omega arith)) (h.above j) (le_or_lt i j);
-        lowest = λ b k f. h.lowest b k (λ j m. f j (omega arith));
-      }
-    where
-      at : (j : ℕ) → j ≡ i → get_or word j 0 ≤ highest
-      at j e = rw e l
 
   pub highest_decides : (q : ℕ) → length word ≡ i → 1 ≤ i → ltb highest q ≡ symbols_below q word
   highest_decides q e some = same_test (ltb highest q) (symbols_below q word) to back

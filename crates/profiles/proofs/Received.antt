@@ -1,11 +1,11 @@
 -- The symbols of a received word, one after the other: all are levels or erasures where the highest of the numbers after them is at most q,
 -- and the next that is erased.
 -- Assumes nothing.
-use Rattle.std.proofs.Common.{◌≡◌, ℕ, suc, ◌+◌, ◌%◌, ◌<◌, ◌≤◌, Bool, ◌&&◌, ◌||◌, T, eqb, ltb, leb, ◌≢◌, List, [], ◌∷◌, length, get_or, drop, sym, ap, ◌∙◌, ⊎_elim, mod-eq_of_lt, add-one, arith, le→leb, eqb→eq, ltb→lt, lt→ltb, leb→le, drop_of_length-le, drop-cons, eq-eqb, ne_eqb}
-use mathlib.Core.Bool.{and-true, and_assoc, and_comm}
+use Rattle.std.proofs.Common.{◌≡◌, ℕ, suc, max, ◌+◌, ◌%◌, ◌<◌, ◌≤◌, Bool, ◌&&◌, ◌||◌, T, eqb, ltb, leb, ◌≢◌, List, [], ◌∷◌, length, get_or, drop, sym, ap, ◌∙◌, ⊎_elim, mod-eq_of_lt, add-one, arith, le→leb, eqb→eq, ltb→lt, lt→ltb, leb→le, drop_of_length-le, drop-cons, eq-eqb, ne_eqb}
+use mathlib.Core.Bool.{and-true, and_assoc}
 use native.Mathlib.Nat.{mod-le}
 use lib.Dec.{leb-zero}
-use Rattle.modular_theory.proofs.Search.{le_or_lt, same_test, and_right, and_intro, or_left, or_right, or_cases, eq_test}
+use Rattle.modular_theory.proofs.Search.{le_or_lt, same_test, and_left, and_right, and_intro, or_left, or_right, or_cases, eq_test}
 use Rattle.code_theory.specs.Component.{erasure, levels_or_erasures}
 use Rattle.code_theory.specs.Erasures.{erased_indices}
 use Rattle.profiles.specs.Refusal.{erased_from}
@@ -30,10 +30,13 @@ good_by_after q x h = same_test (ltb x q || eqb x erasure) (leb (after x) q) to 
         or_left (ltb x q) (eqb x erasure) (lt→ltb x q (omega (arith, leb→le (after x) q t, mod-eq_of_lt s)))) (le_or_lt erasure x)
 
 -- two numbers are both at most q where the higher is
-both_by_higher : (a b q : ℕ) → a ≤ b → (leb a q && leb b q) ≡ leb b q
-both_by_higher a b q h =
-    same_test (leb a q && leb b q) (leb b q) (and_right (leb a q) (leb b q))
-    (λ t. and_intro (leb a q) (leb b q) (le→leb a q (omega (arith, leb→le b q t))) t)
+both_by_max : (a b q : ℕ) → (leb a q && leb b q) ≡ leb (max b a) q
+both_by_max a b q =
+    same_test (leb a q && leb b q) (leb (max b a) q)
+    (λ t. le→leb (max b a) q (omega (arith, leb→le a q (and_left (leb a q) (leb b q) t), leb→le b q (and_right (leb a q) (leb b q) t))))
+    (λ t.
+    let l : max b a ≤ q = leb→le (max b a) q t in
+    and_intro (leb a q) (leb b q) (le→leb a q (omega arith)) (le→leb b q (omega arith)))
 
 -- the highest of the numbers after the first i symbols, or 0: for any q it says whether these are good
 pub record HighestAfter (word : List ℕ) (highest i : ℕ) : Type 0 where
@@ -56,11 +59,8 @@ module _ {word : List ℕ} {highest i : ℕ} (h : HighestAfter word highest i) w
         ∙ rw (drop-cons word i 0 l, add-one i)
         (ap (λ (b : Bool). leb highest q && (b && rest)) good ∙ sym (and_assoc (leb highest q) (leb n q) rest))
 
-    pub after_risen : highest < n → HighestAfter word n (i + 1)
-    after_risen r = record { decides = λ q. decides_next q ∙ rw (both_by_higher highest n q (omega arith)) }
-
-    pub after_kept : n ≤ highest → HighestAfter word highest (i + 1)
-    after_kept k = record { decides = λ q. decides_next q ∙ rw (and_comm (leb highest q) (leb n q), both_by_higher n highest q k) }
+    pub after_more : HighestAfter word (max n highest) (i + 1)
+    after_more = record { decides = λ q. decides_next q ∙ rw (both_by_max highest n q) }
 
 -- The erased symbols from index i on.
 module _ (u : List ℕ) (i : ℕ) where

@@ -1,6 +1,6 @@
 -- The table of profiles, by tests that are computed over its rows.
 -- Assumes nothing.
-use Rattle.std.proofs.Common.{◌≡◌, ℕ, suc, ◌-◌, ◌≤◌, Bool, true, false, ◌&&◌, T, eqb, leb, ◌⊎◌, List, [], ◌∷◌, map, length, get_or, sym, ap, ◌∙◌, ap₂, inl, inr, ⊎_elim, arith, eqb→eq, leb→le}
+use Rattle.std.proofs.Common.{◌≡◌, ℕ, suc, ◌-◌, ◌≤◌, Bool, true, false, ◌&&◌, T, eqb, leb, ◌⊎◌, List, [], ◌∷◌, map, length, get_or, sym, ap, ◌∙◌, ap₂, inl, inr, ⊎_elim, arith, eqb→eq, leb→le, Option, Some, None}
 use Rattle.modular_theory.specs.Search.{all_below}
 use Rattle.modular_theory.proofs.Search.{and_left, and_right, passes, fails}
 use Rattle.code_theory.specs.Parameters.{Edition, Parameters, in_edition, message_length, codeword_length, balancing_value, delta}
@@ -11,8 +11,6 @@ use Rattle.code_theory.proofs.Profiles.{every_profile, sized_in, profiles_fit}
 use Rattle.profiles.specs.declared.edition.Edition as declared
 use Rattle.profiles.specs.declared.row.Row.{Row}
 use Rattle.profiles.specs.declared.row.Entry.{Entry}
-use Rattle.profiles.specs.declared.row.Lookup.{Lookup}
-use Rattle.profiles.specs.declared.row.Lookup.TheVariants.{Found, NoProfile}
 use Rattle.profiles.specs.Edition.{edition_is}
 use Rattle.profiles.specs.Row.{parameters, numbers, entries, Widened, looked_up, table_at, RowOf}
 
@@ -70,13 +68,13 @@ abbrev found : Edition → ℕ → Bool → ℕ ⊎ (Edition × List ℕ)
 found o i b = elim b [ true ↦ inr (o, get_or table (i - 1) []) | false ↦ inl 1 ]
 
 pub lookup_found : (o : declared.Edition) (i : ℕ) → T (is_profile i) → (t : Row) → Widened o (entry_at (i - 1)) t
-    → looked_up i (Found t) ≡ table_at (edition_is o) i
+    → looked_up i (Some t) ≡ table_at (edition_is o) i
 unfolding table_at
 lookup_found o i h t w =
     ap₂ (λ (a : Edition) (l : List ℕ). inr (a, l)) (ap edition_is w.edition) (ap (λ (l : List ℕ). i ∷ l) w.are ∙ entry_is i h)
     ∙ ap (found (edition_is o) i) (sym (passes {b = is_profile i} h))
 
-pub lookup_none : (o : Edition) (i : ℕ) → is_profile i ≡ false → looked_up i NoProfile ≡ table_at o i
+pub lookup_none : (o : Edition) (i : ℕ) → is_profile i ≡ false → looked_up i None ≡ table_at o i
 unfolding table_at
 lookup_none o i e = ap (found o i) (sym e)
 
@@ -143,9 +141,9 @@ in_table : (o : Edition) (i : ℕ) (b : Bool) {l : Edition × List ℕ} → inr 
 in_table o i true e = tt
 in_table o i false e = let z : ◌≡◌ {A = ℕ} 0 1 = ap refusing e in absurd (omega arith)
 
-module _ (o : Edition) (i : ℕ) {r : Lookup} (e : looked_up i r ≡ table_at o i) where
+module _ (o : Edition) (i : ℕ) {r : Option Row} (e : looked_up i r ≡ table_at o i) where
   -- a row that is found is the profile's
-  pub row_found : {t : Row} → r ≡ Found t → RowOf o i t
+  pub row_found : {t : Row} → r ≡ Some t → RowOf o i t
   unfolding table_at
   row_found {t} f =
       let same : inr (edition_is t.edition, i ∷ numbers t) ≡ found o i (is_profile i) = sym (ap (looked_up i) f) ∙ e in
@@ -154,7 +152,7 @@ module _ (o : Edition) (i : ℕ) {r : Lookup} (e : looked_up i r ≡ table_at o 
       row_of_profile o i t h (ap (held_in o) is) (ap held is ∙ derived_is i h)
 
   -- where none is, the number is no profile's
-  pub none_found : r ≡ NoProfile → is_profile i ≡ false
+  pub none_found : r ≡ None → is_profile i ≡ false
   unfolding table_at
   none_found f =
       fails

@@ -1,6 +1,6 @@
 -- What the rows of the table of profiles hold.
 -- Assumes nothing.
-use Rattle.std.specs.Prelude.{◌≡◌, ℕ, ◌-◌, ◌≤◌, true, false, T, ◌⊎◌, List, [], ◌∷◌, slice_index_or}
+use Rattle.std.specs.Prelude.{◌≡◌, ℕ, ◌-◌, ◌≤◌, true, false, T, ◌⊎◌, List, [], ◌∷◌, slice_index_or, Option, Some, None}
 use Rattle.std.proofs.Common.{inl, inr}
 use Rattle.code_theory.specs.Parameters.{Edition, Parameters, in_edition, Sized, message_length, balanced_length, codeword_length}
 use Rattle.code_theory.specs.Parameters.{balancing_value, delta}
@@ -8,8 +8,6 @@ use Rattle.code_theory.specs.Profiles.{row, is_profile, profile, table}
 use Rattle.profiles.specs.declared.edition.Edition as declared
 use Rattle.profiles.specs.declared.row.Row.{Row}
 use Rattle.profiles.specs.declared.row.Entry.{Entry}
-use Rattle.profiles.specs.declared.row.Lookup.{Lookup}
-use Rattle.profiles.specs.declared.row.Lookup.TheVariants.{Found, NoProfile}
 use Rattle.profiles.specs.Edition.{edition_is}
 
 abbrev pub parameters : Row → Parameters
@@ -29,9 +27,9 @@ pub record Widened (o : declared.Edition) (e : Entry) (t : Row) : Type 0 where
   pub are : numbers t ≡ entries e
 
 -- what a number was looked up as: the edition and the row of 01's table, or 01's number 1
-abbrev pub looked_up : ℕ → Lookup → ℕ ⊎ (Edition × List ℕ)
-looked_up i (Found t) = inr (edition_is t.edition, i ∷ numbers t)
-looked_up i NoProfile = inl 1
+abbrev pub looked_up : ℕ → Option Row → ℕ ⊎ (Edition × List ℕ)
+looked_up i (Some t) = inr (edition_is t.edition, i ∷ numbers t)
+looked_up i None = inl 1
 
 -- the edition o and 01's table at a number, or 01's number 1 where the number is no profile's
 unfoldable pub table_at : Edition → ℕ → ℕ ⊎ (Edition × List ℕ)

@@ -2,29 +2,19 @@
 ghost use Rattle.std.specs.Prelude.{◌≡◌};
 ghost use Rattle.profiles.specs.Edition.{looked_up_edition, edition_at};
 
-#[derive(Clone, Copy)]
+#[derive(Clone, Copy, PartialEq, Eq, Debug)]
 pub enum Edition {
     Of2013,
     Of2018,
 }
 
-// What a number is looked up as.
-#[derive(Clone, Copy)]
-pub enum EditionLookup {
-    Known(Edition),
-    // 02: number 12.
-    NoEdition,
-}
-
-// The edition of a number, 13 or 18.
-pub fn edition_of(number: usize) -> EditionLookup
+// The edition of a number, 13 or 18; none, 02's number 12, for any other.
+pub fn edition_of(number: usize) -> Option<Edition>
     ensures { looked_up_edition result ≡ edition_at number }
 {
-    if number == 13 {
-        return EditionLookup::Known(Edition::Of2013);
+    match number {
+        13 => Some(Edition::Of2013),
+        18 => Some(Edition::Of2018),
+        _ => None,
     }
-    if number == 18 {
-        return EditionLookup::Known(Edition::Of2018);
-    }
-    EditionLookup::NoEdition
 }

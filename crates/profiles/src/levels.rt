@@ -2,19 +2,13 @@
 ghost use Rattle.std.specs.Prelude.{◌≡◌};
 ghost use Rattle.code_theory.specs.Component.{symbols_below, levels_or_erasures};
 
-use std::num::wrapping_add_u8;
-
 // Whether every symbol is below q, by the highest of them: a loop without another way out is done many symbols at a time.
 pub fn symbols_below(word: &[u8], q: u8) -> bool
     ensures { result ≡ symbols_below q word.now }
 {
     let mut highest = 0;
-    let mut i = 0;
-    while i < word.len() {
-        if highest < word[i] {
-            highest = word[i];
-        }
-        i += 1;
+    for x in word {
+        highest = (*x).max(highest);
     }
     word.len() == 0 || highest < q
 }
@@ -24,13 +18,8 @@ pub(crate) fn levels_or_erasures(word: &[u8], q: u8) -> bool
     ensures { result ≡ levels_or_erasures q word.now }
 {
     let mut highest = 0;
-    let mut i = 0;
-    while i < word.len() {
-        let next = wrapping_add_u8(word[i], 1);
-        if highest < next {
-            highest = next;
-        }
-        i += 1;
+    for x in word {
+        highest = x.wrapping_add(1).max(highest);
     }
     highest <= q
 }

@@ -5,11 +5,11 @@
 mod edition;
 mod erased;
 mod levels;
-mod refusals;
+mod refusal;
 mod row;
 
-pub use edition::{Edition, EditionLookup, edition_of};
-pub use erased::ERASURE;
+pub use edition::{Edition, edition_of};
+pub use erased::{ERASURE, Erasures};
 pub use levels::{is_received, symbols_below};
-pub use refusals::{Screened, encode_refusal, screen};
-pub use row::{Lookup, Row, row_in, row_of};
+pub use refusal::{encode_refusal, screen};
+pub use row::{Row, row_in, row_of};

@@ -6,7 +6,7 @@ ghost use Rattle.profiles.specs.Row.{numbers, entries, Widened, looked_up, table
 
 use crate::edition::Edition;
 
-#[derive(Clone, Copy)]
+#[derive(Clone, Copy, PartialEq, Eq, Debug)]
 pub struct Row {
     pub q: u8,
     pub r: usize,
@@ -23,14 +23,6 @@ pub struct Row {
     pub delta: u8,
     // 02, T-03
     pub edition: Edition,
-}
-
-// What a number is looked up as.
-#[derive(Clone, Copy)]
-pub enum Lookup {
-    Found(Row),
-    // 01: number 1.
-    NoProfile,
 }
 
 // A row as the table has it. The table is put on the stack at each lookup, so its numbers are as small as they can be.
@@ -96,31 +88,31 @@ fn widened(edition: Edition, e: Entry) -> Row
 {
     Row {
         q: e.q,
-        r: e.r as usize,
-        n: e.n as usize,
-        message: e.message as usize,
-        balanced: e.balanced as usize,
-        codeword: e.codeword as usize,
+        r: usize::from(e.r),
+        n: usize::from(e.n),
+        message: usize::from(e.message),
+        balanced: usize::from(e.balanced),
+        codeword: usize::from(e.codeword),
         target: e.target,
         delta: e.delta,
         edition,
     }
 }
 
-// The row of a profile in an edition, by the profile's number.
-pub fn row_in(edition: Edition, profile: usize) -> Lookup
+// The row of a profile in an edition, by the profile's number; none, 01's number 1, where the number is no profile's.
+pub fn row_in(edition: Edition, profile: usize) -> Option<Row>
     ensures { looked_up profile result ≡ table_at (edition_is edition) profile }
 {
     let rows = ROWS;
     if !((1 <= profile) & (profile <= rows.len())) {
-        return Lookup::NoProfile;
+        return None;
     }
     let i = profile - 1;
-    Lookup::Found(widened(edition, rows[i]))
+    Some(widened(edition, rows[i]))
 }
 
 // The same in edition 13, for those who ask for numbers that both editions have.
-pub fn row_of(profile: usize) -> Lookup
+pub fn row_of(profile: usize) -> Option<Row>
     ensures { looked_up profile result ≡ table_at edition13 profile }
 {
     row_in(Edition::Of2013, profile)

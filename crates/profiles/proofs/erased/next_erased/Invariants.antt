@@ -1,11 +1,8 @@
--- `profiles::erased::next_erased` meets its contract. The invariant: the symbols passed are not erased. The measure is what is left.
+-- `profiles::erased::next_erased` meets its contract. The invariant: the symbols passed are not erased.
 -- Assumes nothing.
-use Rattle.std.proofs.Common.{◌≡◌, ◌-◌, length}
+use Rattle.std.proofs.Common.{◌≡◌}
 use Rattle.profiles.specs.Refusal.{erased_from}
 use Rattle.profiles.proofs.erased.next_erased.Given as goal
 
 abbrev pub invariant-loop-i : goal.invariant-loop-i
-invariant-loop-i l = erased_from l.from l.word ≡ erased_from l.i l.word
-
-abbrev pub decreases-loop-i : goal.decreases-loop-i
-decreases-loop-i l = length l.word - l.i
+invariant-loop-i l = erased_from l.fn.from l.word ≡ erased_from l.i l.word

@@ -1,9 +1,9 @@
--- `profiles::refusals::screen` meets its contract: its tests are those of the definition, in the same order, and a word of levels passes
+-- `profiles::refusal::screen` meets its contract: its tests are those of the definition, in the same order, and a word of levels passes
 -- those of the symbols and of the erasures.
 -- Assumes nothing.
 use Rattle.std.proofs.Common.{sym, ◌∙◌, arith}
 use Rattle.profiles.proofs.Screening.{screens_length, screens_symbol, screens_received, screens_levels}
-use Rattle.profiles.proofs.refusals.screen.Goals as goal
+use Rattle.profiles.proofs.refusal.screen.Goals as goal
 
 pub returns-then-not-word-row : goal.returns-then-not-word-row
 returns-then-not-word-row c = screens_length _ _ _ _ (c.if-not-word-row.true)
