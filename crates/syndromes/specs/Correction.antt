@@ -3,6 +3,6 @@
 use Rattle.code_theory.specs.Reading.{Correction}
 use Rattle.syndromes.specs.declared.correction.Correction as declared
 
--- the code's struct, as the model has it; how many positions were tried stands beside
+-- the code's struct, as the model has it
 abbrev pub correction_of : declared.Correction → Correction
 correction_of c = record { position = c.position; symbol = c.symbol; error = c.error }

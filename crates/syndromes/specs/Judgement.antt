@@ -1,18 +1,21 @@
 -- What a balanced word is, by three tests.
 -- Assumes nothing.
-use Rattle.std.specs.Prelude.{Bool, true, false, ℕ, ◌+◌}
+use Rattle.std.specs.Prelude.{Bool, true, false, ℕ, ◌+◌, Option, Some, None, Result, Ok, Err}
 use Rattle.code_theory.specs.Reading.{correction_at, clean, corrected}
-use Rattle.code_theory.specs.Operations.{Report, failure, success}
+use Rattle.code_theory.specs.Operations.{Report, failure, refusal, success}
+use Rattle.refusals.specs.declared.Refusal.{Refusal}
+use Rattle.refusals.specs.declared.Refusal.TheVariants.{Unreadable}
+use Rattle.refusals.specs.Number.{number_of}
 use Rattle.symbols.specs.declared.checks.Checks.{Checks}
-use Rattle.syndromes.specs.declared.balanced.Judgement.{Judgement}
-use Rattle.syndromes.specs.declared.balanced.Judgement.TheVariants.{Clean, Corrected, Unreadable}
+use Rattle.syndromes.specs.declared.correction.Correction as declared
 use Rattle.syndromes.specs.Correction.{correction_of}
 
--- what each case says: a finding (01: kind, place and symbol; 02: the fault), or 4, and how many positions were tried
-abbrev pub judgement_report : Judgement → Report
-judgement_report Clean = success clean 0
-judgement_report (Corrected c) = success (corrected (correction_of c)) c.tried
-judgement_report Unreadable = failure 0
+-- what each case says: a finding (01: kind, place and symbol; 02: the fault), or 4, and that no position was tried
+abbrev pub judgement_report : Result (Option declared.Correction) Refusal → Report
+judgement_report (Ok None) = success clean 0
+judgement_report (Ok (Some c)) = success (corrected (correction_of c)) 0
+judgement_report (Err Unreadable) = failure 0
+judgement_report (Err r) = refusal (number_of r)
 
 -- the same by the tests, whether the syndromes are near, and whether each check symbol, α and β, agrees: the body has m symbols, asks
 -- for the first check symbols, and came with the second ones; no position is tried

@@ -6,18 +6,11 @@ ghost use Rattle.syndromes.specs.Judgement.{judgement_report, balanced_report};
 
 use crate::correction::{Correction, corrected};
 use crate::syndrome::near;
-use modular::wide;
+use refusals::Refusal;
 use symbols::{Checks, Syndrome};
 
-// Clean, or one check symbol is corrected.
-#[derive(Clone, Copy)]
-pub enum Judgement {
-    Clean,
-    Corrected(Correction),
-    Unreadable,
-}
-
-// That of a word whose body has m symbols: `asked` are the check symbols that the body asks for, `arrived` those received.
+// That of a word whose body has m symbols: clean, or one check symbol is corrected. `asked` are the check symbols that the body asks for,
+// `arrived` those received.
 pub fn judge_balanced(
     q: u8,
     n: usize,
@@ -26,22 +19,19 @@ pub fn judge_balanced(
     second: Syndrome,
     asked: Checks,
     arrived: Checks,
-) -> Judgement
+) -> Result<Option<Correction>, Refusal>
     ensures { judgement_report result
         ≡ balanced_report m asked arrived (near_syndromes (four_rows q n) (rows first) (rows second)) (eqb asked.alpha arrived.alpha)
         (eqb asked.beta arrived.beta) }
 {
     if !near(q, n, first, second) {
-        return Judgement::Unreadable;
+        return Err(Refusal::Unreadable);
     }
-    if asked.alpha == arrived.alpha {
-        if asked.beta != arrived.beta {
-            return Judgement::Corrected(corrected(wide(m) + 2, arrived.beta, asked.beta, 0));
-        }
-        return Judgement::Clean;
+    let body = usize::from(m);
+    match (asked.alpha == arrived.alpha, asked.beta == arrived.beta) {
+        (true, true) => Ok(None),
+        (true, false) => Ok(Some(corrected(body + 2, arrived.beta, asked.beta))),
+        (false, true) => Ok(Some(corrected(body + 1, arrived.alpha, asked.alpha))),
+        (false, false) => Err(Refusal::Unreadable),
     }
-    if asked.beta == arrived.beta {
-        return Judgement::Corrected(corrected(wide(m) + 1, arrived.alpha, asked.alpha, 0));
-    }
-    Judgement::Unreadable
 }

@@ -7,7 +7,7 @@ mod correction;
 mod plus;
 mod syndrome;
 
-pub use balanced::{Judgement, judge_balanced};
+pub use balanced::judge_balanced;
 pub use correction::{Correction, corrected};
 pub use plus::{plus_multiple, syndrome_plus};
 pub use syndrome::{is_zero, near, position};

@@ -3,14 +3,14 @@ ghost use Rattle.std.specs.Prelude.{◌≡◌, ◌+◌, ◌*◌};
 ghost use Rattle.modular.specs.Remainder.{residue};
 ghost use Rattle.syndromes.specs.Plus.{syndrome_plus};
 
-use modular::{remainder, wide};
+use modular::remainder;
 use symbols::Syndrome;
 
 // A check symbol or a row of a syndrome, s, with y times e added.
 pub fn plus_multiple(q: u8, y: u8, e: u8, s: u8) -> u8
     ensures { result ≡ residue q (s + y * e) }
 {
-    remainder(q, wide(s) + wide(y) * wide(e))
+    remainder(q, usize::from(s) + usize::from(y) * usize::from(e))
 }
 
 // A syndrome s with y times e added.
