@@ -2,8 +2,6 @@
 -- Assumes nothing.
 use mathlib.Core.Path.{◌≡◌, refl}
 use mathlib.Core.Bool.{Bool, true, false, ◌&&◌}
-use Prim.Native.Nat.{ℕ}
-use native.Mathlib.Omega.{arith}
 
 pub off : (a b : Bool) → a ≡ false → false ≡ (a && b)
 off a b e = rw e
@@ -20,6 +18,3 @@ swapped false false c = refl
 pub second_off : (a b c : Bool) → b ≡ false → false ≡ (a && (b && c))
 second_off true b c e = rw e
 second_off false b c e = refl
-
-pub no_truth : {A : Type 0} {b : Bool} → b ≡ true → b ≡ false → A
-no_truth e f = let z : ◌≡◌ {A = ℕ} 0 1 = cc in let y : ⊥ = omega arith in absurd y

@@ -2,16 +2,17 @@
 ghost use Rattle.std.specs.Prelude.{◌≡◌, T, length};
 ghost use Rattle.queue_theory.specs.Layout.{body_size, padded_size, is_queue_length, header};
 ghost use Rattle.queue_theory.specs.Sound.{is_padded, is_record, is_header, is_cell};
+ghost use Rattle.soundness.specs.Walked.{is_used};
 
 use cells::{BODY_SIZE, CELL_SIZE, all_zero, capacity};
-use profiles::{Lookup, is_received, row_of};
+use profiles::{is_received, row_of};
 
 // Whether the bytes after box and profile are a word as the profile receives it, of levels or erasures, and then zeros.
 fn is_padded(bytes: &[u8], profile: usize) -> bool
     requires { length bytes.now ≡ padded_size }
     ensures { result ≡ is_padded profile bytes.now }
 {
-    let Lookup::Found(row) = row_of(profile) else {
+    let Some(row) = row_of(profile) else {
         return false;
     };
     let q = row.q;
@@ -51,19 +52,25 @@ pub(crate) fn is_header(queue: &[u8]) -> bool
     all_zero(&queue[2..CELL_SIZE])
 }
 
-// Whether a number is a cell's, and the cell is as a used or a free one has to be.
-pub(crate) fn is_cell(queue: &[u8], used: bool, cell: usize) -> bool
+// Which of the two lists a cell is on.
+#[derive(Clone, Copy, PartialEq, Eq, Debug)]
+pub(crate) enum Kind {
+    Used,
+    Free,
+}
+
+// Whether a number is a cell's, and the cell is as one of that kind has to be.
+pub(crate) fn is_cell(queue: &[u8], kind: Kind, cell: usize) -> bool
     requires { T (is_queue_length (length queue.now)) }
-    ensures { result ≡ is_cell queue.now used cell }
+    ensures { result ≡ is_cell queue.now (is_used kind) cell }
 {
     if cell > capacity(queue) {
         return false;
     }
     let a = cell * CELL_SIZE + 1;
     let body = &queue[a..a + BODY_SIZE];
-    if used {
-        is_record(body)
-    } else {
-        all_zero(body)
+    match kind {
+        Kind::Used => is_record(body),
+        Kind::Free => all_zero(body),
     }
 }

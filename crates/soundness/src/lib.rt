@@ -8,27 +8,16 @@ ghost use Rattle.std.specs.Prelude.{◌≡◌};
 ghost use Rattle.soundness.specs.Checked.{checked_report, check_answer};
 
 use cells::is_length;
+pub use lists::Walked;
+use refusals::Refusal;
 
-#[derive(Clone, Copy)]
-pub enum Checked {
-    // 01, number 5: the length is not a queue's
-    WrongLength,
-    // 01, number 6
-    Unsound,
-    // the cell of the record asked for, or the last used cell where there are fewer records, and how many there are
-    Sound(usize, usize),
-}
-
-// Checks a queue, and finds the cell of a record, counted from 1.
-pub fn check(queue: &[u8], number: usize) -> Checked
+// Checks a queue: the cell of a record, counted from 1, or the last used cell where there are fewer, and how many there are. Refused are
+// a length that is not a queue's (01, number 5), and what is not sound (6).
+pub fn check(queue: &[u8], number: usize) -> Result<Walked, Refusal>
     ensures { checked_report result ≡ check_answer queue.now number }
 {
     if !is_length(queue.len()) {
-        return Checked::WrongLength;
+        return Err(Refusal::SheetLength);
     }
-    let walked = lists::walk_both(queue, number);
-    if !walked.good {
-        return Checked::Unsound;
-    }
-    Checked::Sound(walked.cell, walked.records)
+    lists::walk_both(queue, number).ok_or(Refusal::Unsound)
 }

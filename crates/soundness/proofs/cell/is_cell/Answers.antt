@@ -13,6 +13,7 @@ use Rattle.queue_theory.specs.Sound.{is_body, is_cell, is_record}
 use Rattle.queue_theory.specs.Lists.{all_zero}
 use Rattle.queue_theory.proofs.Lists.{size_of}
 use Rattle.cells.proofs.Bytes.{lent_part}
+use Rattle.soundness.specs.Walked.{is_used}
 use Rattle.soundness.proofs.Conditions.{off, on}
 use Rattle.soundness.proofs.cell.is_cell.Goals as goal
 use Rattle.soundness.proofs.cell.is_cell.Goals.{Else-cell-capacity}
@@ -40,7 +41,7 @@ unfolding is_cell
 returns-then-cell-capacity c =
     let s = c.args.queue.now in
     let i = c.args.cell in
-    off (leb i (capacity s)) (is_body c.args.used (cell_body s i))
+    off (leb i (capacity s)) (is_body (is_used c.args.kind) (cell_body s i))
     (lt-leb _ _ (subst (λ (n : ℕ). n < i) c.capacity.ensures c.if-cell-capacity.true))
 
 pub overflow_mul-a : goal.overflow_mul-a
@@ -55,12 +56,12 @@ overflow_add-body c = omega (arith, fits (goal.at.overflow_add-body c).Else-cell
 pub slice_bounds-body-end : goal.slice_bounds-body-end
 slice_bounds-body-end c = fits (goal.at.slice_bounds-body-end c).Else-cell-capacity
 
-pub returns-then-used : goal.returns-then-used
+pub returns-in-Used : goal.returns-in-Used
 unfolding is_cell
-returns-then-used c =
-    rw c.if-used.true (by_body (goal.at.returns-then-used c).Else-cell-capacity is_record c.is_record.result c.is_record.ensures)
+returns-in-Used c =
+    rw c.in-Used.is (by_body (goal.at.returns-in-Used c).Else-cell-capacity is_record c.is_record.result c.is_record.ensures)
 
-pub returns-else-used : goal.returns-else-used
+pub returns-in-Free : goal.returns-in-Free
 unfolding is_cell
-returns-else-used c =
-    rw c.if-used.false (by_body (goal.at.returns-else-used c).Else-cell-capacity all_zero c.all_zero.result c.all_zero.ensures)
+returns-in-Free c =
+    rw c.in-Free.is (by_body (goal.at.returns-in-Free c).Else-cell-capacity all_zero c.all_zero.result c.all_zero.ensures)

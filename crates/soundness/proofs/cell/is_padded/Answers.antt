@@ -19,13 +19,13 @@ use Rattle.cells.proofs.Bytes.{lent_rest}
 use Rattle.soundness.proofs.Conditions.{on, off}
 use Rattle.soundness.proofs.Rows.{received_is}
 use Rattle.soundness.proofs.cell.is_padded.Goals as goal
-use Rattle.soundness.proofs.cell.is_padded.Goals.{In-Found}
+use Rattle.soundness.proofs.cell.is_padded.Goals.{In-Some}
 
 -- the row is the profile's
-of : (c : In-Found) → RowOf edition13 c.args.profile c.in-Found.row
-of c = row_found _ _ c.row_of.ensures c.in-Found.is
+of : (c : In-Some) → RowOf edition13 c.args.profile c.in-Some.row
+of c = row_found _ _ c.row_of.ensures c.in-Some.is
 
-fits : (c : In-Found) → c.in-Found.row.codeword ≤ length c.args.bytes.now
+fits : (c : In-Some) → c.in-Some.row.codeword ≤ length c.args.bytes.now
 fits c = omega (arith, codeword_is (of c), word_fits c.args.profile (of c).known, c.requires)
 
 pub returns-in_default : goal.returns-in_default
@@ -34,21 +34,21 @@ returns-in_default c = off (is_profile c.args.profile) _ (none_found _ _ c.row_o
 
 pub slice_bounds-is_received-end : goal.slice_bounds-is_received-end
 slice_bounds-is_received-end c =
-    sym (length-take-le c.in-Found.row.codeword c.args.bytes.now (fits (goal.at.slice_bounds-is_received-end c).In-Found))
+    sym (length-take-le c.in-Some.row.codeword c.args.bytes.now (fits (goal.at.slice_bounds-is_received-end c).In-Some))
 
 pub slice_bounds-all_zero-count : goal.slice_bounds-all_zero-count
-slice_bounds-all_zero-count c = fits (goal.at.slice_bounds-all_zero-count c).In-Found
+slice_bounds-all_zero-count c = fits (goal.at.slice_bounds-all_zero-count c).In-Some
 
 pub slice_bounds-all_zero-start : goal.slice_bounds-all_zero-start
-slice_bounds-all_zero-start c = fits (goal.at.slice_bounds-all_zero-start c).In-Found
+slice_bounds-all_zero-start c = fits (goal.at.slice_bounds-all_zero-start c).In-Some
 
 pub returns : goal.returns
 unfolding is_padded
 returns c =
     let w = c.args.bytes.now in
     let p = c.args.profile in
-    let n = c.in-Found.row.codeword in
-    let found = of (goal.at.returns c).In-Found in
+    let n = c.in-Some.row.codeword in
+    let found = of (goal.at.returns c).In-Some in
     let symbols = c.is_received.ensures ∙ received_is found (take n w) in
     let rest = c.all_zero.ensures ∙ ap all_zero (lent_rest w n) in
     on (is_profile p) _ _ (passes found.known)
