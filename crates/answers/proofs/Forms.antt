@@ -1,14 +1,12 @@
 -- Reading a line: what the functions of src/form.rt find.
 -- Assumes nothing.
-use Rattle.std.proofs.Common.{◌≡◌, ℕ, ◌+◌, ◌-◌, ◌%◌, ◌<◌, ◌≤◌, true, false, ◌&&◌, T, eqb, leb, List, [], ◌∷◌, ◌++◌, map, length, get_or, take, drop, set, sym, refl, ap, ◌∙◌, subst, ⊎_elim, zero-le, add_comm, add-one, arith, le→leb, eqb→eq, leb→le, length-drop, length-set, get_or-drop, take_all, take-suc, take-suc-set, ne_eqb}
+use Rattle.std.proofs.Common.{◌≡◌, ℕ, Option, Some, None, max, ◌+◌, ◌-◌, ◌%◌, ◌<◌, ◌≤◌, true, false, ◌&&◌, T, eqb, leb, List, [], ◌∷◌, ◌++◌, map, length, get_or, take, drop, set, sym, refl, ap, ◌∙◌, subst, ⊎_elim, zero-le, add-one, arith, le→leb, eqb→eq, leb→le, length-drop, length-set, take_all, take-suc, take-suc-set, ne_eqb}
 use mathlib.Core.List.{map-append}
 use Rattle.modular_theory.proofs.Search.{and_intro, and_left, and_right, and_four, and_parts, or_left, or_cases}
-use Rattle.modular_theory.proofs.Search.{eq_test, passes, fails, le_or_lt}
+use Rattle.modular_theory.proofs.Search.{eq_test, passes, fails}
 use Rattle.code_theory.proofs.Merge.{cases}
 use Rattle.lines_theory.specs.Line.{is_digit, is_question_mark, is_symbol, symbols_only, symbol_value, symbols_of, has_form, is_short, profile_of}
-use Rattle.answers.specs.declared.form.Form.{Form}
-use Rattle.answers.specs.declared.form.Form.TheVariants.{Good, Bad}
-use Rattle.answers.specs.Forms.{form_of, Valued, SymbolRead, Higher, SymbolValues, Parsed}
+use Rattle.answers.specs.Forms.{form_of, Valued, SymbolRead, SymbolValues, Parsed}
 
 -- The value of a byte: 48 less, and round from 0 to 255.
 
@@ -49,10 +47,6 @@ snoc_symbols (c ∷ x) b h =
     let p : T (symbols_only x) × T (is_symbol b) = snoc_symbols x b (and_right (is_symbol c) (symbols_only (x ++ b ∷ [])) h) in
     (and_intro (is_symbol c) (symbols_only x) (and_left (is_symbol c) (symbols_only (x ++ b ∷ [])) h) p.0, p.1)
 
--- the symbol at index i stands two bytes on
-pub two_on : (l : List ℕ) (i : ℕ) → get_or (drop 2 l) i 0 ≡ get_or l (i + 2) 0
-two_on l i = get_or-drop 2 l i 0 ∙ ap (λ (n : ℕ). get_or l n 0) (add_comm 2 i)
-
 -- the first i bytes of s are read into a word
 pub record Taken (s word₀ word : List ℕ) (highest i : ℕ) : Type 0 where
   pub within : i ≤ length s
@@ -62,7 +56,7 @@ pub record Taken (s word₀ word : List ℕ) (highest i : ℕ) : Type 0 where
   pub text : highest ≤ 9 → take i word ≡ map symbol_value (take i s)
 
 pub taken_more : {s word₀ word : List ℕ} {highest i : ℕ} (v height highest' : ℕ) → Taken s word₀ word highest i → i < length s
-    → length s ≤ length word₀ → SymbolRead (get_or s i 0) v height → Higher highest height highest'
+    → length s ≤ length word₀ → SymbolRead (get_or s i 0) v height → highest' ≡ max highest height
     → Taken s word₀ (set word i v) highest' (i + 1)
 taken_more {s} {word₀} {word} {highest} {i} v height highest' t h k w m =
     let x = take i s in
@@ -71,18 +65,14 @@ taken_more {s} {word₀} {word} {highest} {i} v height highest' t h k w m =
     record {
       within = omega arith;
       same = simp length-set t.same;
-      low = rw e (λ d. let (first, last) = snoc_symbols x b d in higher_low (t.low first) (w.low last));
-      symbols = rw e (λ l. symbols_snoc x b (t.symbols (omega (arith, m.left))) (w.symbol (omega (arith, m.right))));
+      low = rw e (λ d. let (first, last) = snoc_symbols x b d in omega (arith, t.low first, w.low last, m));
+      symbols = rw e (λ l. symbols_snoc x b (t.symbols (omega (arith, m))) (w.symbol (omega (arith, m))));
       text =
           rw (e, map-append symbol_value x (b ∷ []), add-one i)
           (λ l. take-suc-set word i v (omega (arith, t.same))
-          ∙ joined (t.text (omega (arith, m.left))) (w.is (omega (arith, m.right))));
+          ∙ joined (t.text (omega (arith, m))) (w.is (omega (arith, m))));
     }
   where
-    higher_low : highest ≤ 9 → height ≤ 9 → highest' ≤ 9
-    higher_low a b =
-        ⊎_elim (λ (n : highest' ≤ highest). omega arith) (λ (n : highest < highest'). omega (arith, m.is n)) (le_or_lt highest' highest)
-
     joined : {x : List ℕ} {y : ℕ} → take i word ≡ x → v ≡ y → take i word ++ v ∷ [] ≡ x ++ y ∷ []
     joined a b = rw (a, b)
 
@@ -107,7 +97,7 @@ has_length l e =
     let t : T (is_short l && leb 3 (length l)) = subst T (sym e) tt in
     (leb→le 3 (length l) (and_right (is_short l) (leb 3 (length l)) t), leb→le (length l) 101 (and_left (is_short l) (leb 3 (length l)) t))
 
-pub parsed_bad : (l word : List ℕ) → (T (is_short l && has_form l) → ⊥) → Parsed l Bad word
+pub parsed_bad : (l word : List ℕ) → (T (is_short l && has_form l) → ⊥) → Parsed l None word
 parsed_bad l word f = record { form = let e : is_short l && has_form l ≡ false = fails f in rw (e, form_of); text = λ t. absurd (f t) }
 
 pub bad_length : (l : List ℕ) → is_short l && leb 3 (length l) ≡ false → T (is_short l && has_form l) → ⊥
@@ -123,7 +113,7 @@ pub bad_symbols : (l word : List ℕ) (highest : ℕ) → SymbolValues (drop 2 l
 bad_symbols l word highest s h t = omega (arith, s.low (tests_passed l t).1.3)
 
 pub parsed_good : (l word : List ℕ) (v highest : ℕ) → is_short l && leb 3 (length l) ≡ true → Valued (get_or l 0 0) v → v ≤ 9
-    → get_or l 1 0 ≡ 32 → SymbolValues (drop 2 l) word highest → highest ≤ 9 → Parsed l (Good v) word
+    → get_or l 1 0 ≡ 32 → SymbolValues (drop 2 l) word highest → highest ≤ 9 → Parsed l (Some v) word
 unfolding has_form
 parsed_good l word v highest e w h f s k =
     let t : T (is_short l && leb 3 (length l)) = subst T (sym e) tt in
@@ -133,15 +123,15 @@ parsed_good l word v highest e w h f s k =
     and_four (leb 3 (length l)) (is_digit (get_or l 0 0)) (eqb (get_or l 1 0) 32) (symbols_only (drop 2 l)) q (w.digit h) (eq_test f)
     (s.symbols k) in
     let g : is_short l && has_form l ≡ true = passes (and_intro (is_short l) (has_form l) p four) in
-    record { form = rw (g, form_of) (ap Good (w.is h)); text = λ t. rw length-drop at (s.text k) }
+    record { form = rw (g, form_of) (ap Some (w.is h)); text = λ t. rw length-drop at (s.text k) }
 
 -- What a reading says of the line.
 
-pub bad_line : {l word : List ℕ} {r : Form} → Parsed l r word → r ≡ Bad → is_short l && has_form l ≡ false
+pub bad_line : {l word : List ℕ} {r : Option ℕ} → Parsed l r word → r ≡ None → is_short l && has_form l ≡ false
 bad_line {l} p b =
     cases (is_short l && has_form l) (λ e. absurd (let z : ◌≡◌ {A = ℕ} 0 1 = cc (p.form, b, form_good e) in omega arith)) (λ e. e)
   where
-    form_good : is_short l && has_form l ≡ true → form_of l ≡ Good (profile_of l)
+    form_good : is_short l && has_form l ≡ true → form_of l ≡ Some (profile_of l)
     form_good e = rw (e, form_of)
 
 pub record GoodLine (l : List ℕ) (i : ℕ) (word : List ℕ) : Type 0 where
@@ -152,14 +142,14 @@ pub record GoodLine (l : List ℕ) (i : ℕ) (word : List ℕ) : Type 0 where
   pub small : i ≤ 9
   pub text : take (length l - 2) word ≡ symbols_of l
 
-pub good_line : {l word : List ℕ} {i : ℕ} {r : Form} → Parsed l r word → r ≡ Good i → GoodLine l i word
+pub good_line : {l word : List ℕ} {i : ℕ} {r : Option ℕ} → Parsed l r word → r ≡ Some i → GoodLine l i word
 good_line {l} {word} {i} h g =
     cases (is_short l && has_form l) passed (λ e. absurd (let z : ◌≡◌ {A = ℕ} 0 1 = cc (h.form, g, form_bad e) in omega arith))
   where
-    form_bad : is_short l && has_form l ≡ false → form_of l ≡ Bad
+    form_bad : is_short l && has_form l ≡ false → form_of l ≡ None
     form_bad e = rw (e, form_of)
 
-    form_good : is_short l && has_form l ≡ true → form_of l ≡ Good (profile_of l)
+    form_good : is_short l && has_form l ≡ true → form_of l ≡ Some (profile_of l)
     form_good e = rw (e, form_of)
 
     passed : is_short l && has_form l ≡ true → GoodLine l i word

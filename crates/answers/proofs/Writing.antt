@@ -1,8 +1,7 @@
 -- Writing field after field: what the functions of src/text.rt leave in the buffer.
 -- Assumes nothing.
-use Rattle.std.proofs.Common.{◌≡◌, ℕ, zero, suc, ◌+◌, ◌/◌, ◌%◌, ◌<◌, ◌≤◌, true, false, ltb, ◌≢◌, List, [], ◌∷◌, ◌++◌, map, length, get_or, take, drop, set, ℤ, pos, negsuc, nat_abs, sym, refl, ap, ◌∙◌, append_assoc, zero-add, add-one, arith, length-append, length-drop, length-set, take-append-drop, length-take-le, take_all, take-suc, drop-drop, take_at, ltb-true, le-ltb, lt-ltb}
+use Rattle.std.proofs.Common.{◌≡◌, ℕ, zero, suc, ◌+◌, ◌/◌, ◌%◌, ◌<◌, ◌≤◌, ltb, List, [], ◌∷◌, ◌++◌, map, length, get_or, take, drop, set, ℤ, pos, negsuc, sym, refl, ap, ◌∙◌, append_assoc, zero-add, add-one, arith, length-append, length-drop, length-set, take-append-drop, length-take-le, take_all, take-suc, drop-drop, take_at, le-ltb, lt-ltb}
 use mathlib.Core.List.{map-append}
-use lib.Signed.{lt_z}
 use lib.ListN.{length-map}
 use lib.Seq.{set_split, drop-append-add}
 use Rattle.code_theory.specs.Reading.{Change}
@@ -84,29 +83,6 @@ number_one {n} {last} h w = rw (decimal_one n (last ∷ []) h) w
 pub number_two : (out : List ℕ) {new : List ℕ} {end n last : ℕ} (at : ℕ) → at < length out → 10 ≤ n → n ≤ 99
     → Written (set out at (48 + n / 10)) new (at + 1) end ((48 + n % 10) ∷ last ∷ []) → Written out new at end (decimal n (last ∷ []))
 number_two out {n} {last} at h k l w = rw (decimal_two n (last ∷ []) k l) (onward out at (48 + n / 10) h w)
-
--- A number with its sign.
-
-minus_sign : (z : ℤ) (after : List ℕ) → lt_z z (pos 0) ≡ true → signed_decimal z after ≡ 45 ∷ decimal (nat_abs z) after
-minus_sign (pos n) after t = absurd (let l : n < 0 = ltb-true n 0 t in omega arith)
-minus_sign (negsuc n) after t = refl
-
-plus_sign : (z : ℤ) (after : List ℕ) → z ≢ pos 0 → lt_z z (pos 0) ≡ false → signed_decimal z after ≡ 43 ∷ decimal (nat_abs z) after
-plus_sign (pos zero) after n t = absurd (n refl)
-plus_sign (pos (suc k)) after n t = refl
-plus_sign (negsuc k) after n t = absurd (let e : ◌≡◌ {A = ℕ} 0 1 = cc in omega arith)
-
-pub zero_written : {out new : List ℕ} {at end : ℕ} {z : ℤ} → z ≡ pos 0 → Written out new at end (decimal 0 (32 ∷ []))
-    → Written out new at end (signed_decimal z (32 ∷ []))
-zero_written e w = rw e w
-
-pub minus_written : (out : List ℕ) {new : List ℕ} {end : ℕ} (at : ℕ) (z : ℤ) → at < length out → lt_z z (pos 0) ≡ true
-    → Written (set out at 45) new (at + 1) end (decimal (nat_abs z) (32 ∷ [])) → Written out new at end (signed_decimal z (32 ∷ []))
-minus_written out at z h t w = rw (minus_sign z (32 ∷ []) t) (onward out at 45 h w)
-
-pub plus_written : (out : List ℕ) {new : List ℕ} {end : ℕ} (at : ℕ) (z : ℤ) → at < length out → z ≢ pos 0 → lt_z z (pos 0) ≡ false
-    → Written (set out at 43) new (at + 1) end (decimal (nat_abs z) (32 ∷ [])) → Written out new at end (signed_decimal z (32 ∷ []))
-plus_written out at z h n t w = rw (plus_sign z (32 ∷ []) n t) (onward out at 43 h w)
 
 -- A word.
 

@@ -1,25 +1,15 @@
 // The reading of a line: whether it has its form (01; 02 for question marks), its profile, and its symbols.
 ghost use Rattle.std.specs.Prelude.{◌≡◌, ◌+◌, ◌≤◌, ◌&&◌, length, drop, nat_le};
 ghost use Rattle.lines_theory.specs.Line.{is_short};
-ghost use Rattle.answers.specs.Forms.{Valued, SymbolRead, Higher, SymbolValues, Parsed};
+ghost use Rattle.answers.specs.Forms.{Valued, SymbolRead, SymbolValues, Parsed};
 
 use profiles::ERASURE;
-
-// 01: "A line not of this form gives 9". Of the form: its profile.
-#[derive(Clone, Copy)]
-pub(crate) enum Form {
-    Good(usize),
-    Bad,
-}
 
 // Whether a line is long enough for a profile, a space and a symbol, and 01: "a line of at most 101 bytes".
 fn has_length(line: &[u8]) -> bool
     ensures { result ≡ (is_short line.now && nat_le 3 (length line.now)) }
 {
-    if line.len() < 3 {
-        return false;
-    }
-    line.len() <= 101
+    line.len() <= 101 && line.len() >= 3
 }
 
 // The value of a digit. Of any other byte it is more than 9.
@@ -53,46 +43,32 @@ fn symbol_of(byte: u8) -> Symbol
     }
 }
 
-fn higher(a: u8, b: u8) -> u8
-    ensures { Higher a b result }
+// The symbols of a line's bytes, at the front of a word, and the highest of their heights: one pass with no way out, which the
+// compiler does sixteen bytes at a time.
+fn symbol_values(bytes: &[u8], word: &mut [u8]) -> u8
+    requires { length bytes.now ≤ length word.old }
+    ensures { SymbolValues bytes.now word.new result }
 {
-    if a < b { b } else { a }
-}
-
-// The symbols of the bytes after the first two, at the front of a word, and the highest of their heights: one pass with
-// no way out, which the compiler does sixteen bytes at a time.
-fn symbol_values(line: &[u8], word: &mut [u8]) -> u8
-    requires { (2 ≤ length line.now) × (length line.now ≤ length word.old + 2) }
-    ensures { SymbolValues (drop 2 line.now) word.new result }
-{
-    let mut highest = 0;
-    let mut i = 0;
-    while i < line.len() - 2 {
-        let symbol = symbol_of(line[i + 2]);
+    let mut highest = 0u8;
+    for (i, byte) in bytes.iter().enumerate() {
+        let symbol = symbol_of(*byte);
         word[i] = symbol.value;
-        highest = higher(highest, symbol.height);
-        i += 1;
+        highest = highest.max(symbol.height);
     }
     highest
 }
 
-// The form of a line. Of a good one the symbols stand at the front of the word.
-pub(crate) fn parse(line: &[u8], word: &mut [u8]) -> Form
+// 01: "A line not of this form gives 9". Of a line of the form: its profile, and its symbols stand at the front of the word.
+pub(crate) fn parse(line: &[u8], word: &mut [u8]) -> Option<usize>
     requires { length word.old ≡ 99 }
     ensures { Parsed line.now result word.new }
 {
     if !has_length(line) {
-        return Form::Bad;
+        return None;
     }
     let profile = digit_value(line[0]);
-    if profile > 9 {
-        return Form::Bad;
+    if profile > 9 || line[1] != b' ' || symbol_values(&line[2..], word) > 9 {
+        return None;
     }
-    if line[1] != b' ' {
-        return Form::Bad;
-    }
-    if symbol_values(line, word) > 9 {
-        return Form::Bad;
-    }
-    Form::Good(profile as usize)
+    Some(usize::from(profile))
 }

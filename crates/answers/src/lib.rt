@@ -9,8 +9,6 @@ ghost use Rattle.std.specs.Prelude.{◌≡◌, ◌≤◌, length};
 ghost use Rattle.lines_theory.specs.Line.{line_answer};
 ghost use Rattle.lines_theory.specs.Feed.{overwritten};
 
-use crate::form::Form;
-
 // What an answer is written into. The longest, of profile 4 with two filled places of two digits, has 108 bytes, byte 10 included.
 pub type AnswerBuffer = [u8; 128];
 
@@ -22,7 +20,7 @@ pub fn answer(line: &[u8], out: &mut AnswerBuffer) -> usize
     ensures bytes { out.new ≡ overwritten (line_answer line.now) out.old }
 {
     let mut word = [0u8; 99];
-    let Form::Good(profile) = form::parse(line, &mut word) else {
+    let Some(profile) = form::parse(line, &mut word) else {
         return text::refusal_line(out, 9);
     };
     let n = line.len() - 2;

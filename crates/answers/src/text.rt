@@ -25,10 +25,10 @@ fn decimal(out: &mut [u8], at: usize, n: usize, last: u8) -> usize
     ensures short { result ≤ at + 3 }
 {
     if n < 10 {
-        return pair(out, at, 48 + n as u8, last);
+        return pair(out, at, b'0' + n as u8, last);
     }
-    out[at] = 48 + (n / 10) as u8;
-    pair(out, at + 1, 48 + (n % 10) as u8, last)
+    out[at] = b'0' + (n / 10) as u8;
+    pair(out, at + 1, b'0' + (n % 10) as u8, last)
 }
 
 // A number of at most two digits "with its sign", and 0 "plain" (02), and a space.
@@ -37,15 +37,12 @@ fn signed_decimal(out: &mut [u8], at: usize, z: i16) -> usize
     ensures text { Written out.old out.new at result (signed_decimal z (32 ∷ [])) }
     ensures short { result ≤ at + 4 }
 {
+    let size = usize::from(z.unsigned_abs());
     if z == 0 {
-        return decimal(out, at, 0, b' ');
+        return decimal(out, at, size, b' ');
     }
-    if z < 0 {
-        out[at] = b'-';
-        return decimal(out, at + 1, (0 - z) as usize, b' ');
-    }
-    out[at] = b'+';
-    decimal(out, at + 1, z as usize, b' ')
+    out[at] = if z < 0 { b'-' } else { b'+' };
+    decimal(out, at + 1, size, b' ')
 }
 
 // The digits of a word run together, and one more byte.
@@ -53,13 +50,12 @@ fn word(out: &mut [u8], at: usize, symbols: &[u8], last: u8) -> usize
     requires { (at + length symbols.now < length out.old) × Below 10 symbols.now }
     ensures { Written out.old out.new at result (map digit_byte symbols.now ++ last ∷ []) }
 {
-    let mut i = 0;
-    while i < symbols.len() {
-        out[at + i] = 48 + symbols[i];
-        i += 1;
+    for (i, symbol) in symbols.iter().enumerate() {
+        out[at + i] = b'0' + *symbol;
     }
-    out[at + i] = last;
-    at + i + 1
+    let end = at + symbols.len();
+    out[end] = last;
+    end + 1
 }
 
 // 01: "For a refused one: R, a space and the number."
@@ -68,7 +64,7 @@ pub(crate) fn refusal_line(out: &mut [u8], n: u8) -> usize
     ensures { Written out.old out.new 0 result (refusal_line n) }
 {
     let at = pair(out, 0, b'R', b' ');
-    decimal(out, at, n as usize, b'\n')
+    decimal(out, at, usize::from(n), b'\n')
 }
 
 // The place of a change and the symbol sent there, each with a space.
@@ -78,7 +74,7 @@ fn one_change(out: &mut [u8], at: usize, c: Change) -> usize
     ensures short { result ≤ at + 5 }
 {
     let next = decimal(out, at, c.position, b' ');
-    pair(out, next, 48 + c.symbol, b' ')
+    pair(out, next, b'0' + c.symbol, b' ')
 }
 
 // The same of one change or of two.
@@ -102,7 +98,7 @@ fn heading(out: &mut [u8], profile: usize, kind: u8, changes: Changes) -> usize
     ensures text { Written out.old out.new 0 result (heading_of profile kind (changes_in changes)) }
     ensures short { result ≤ 14 }
 {
-    let a = pair(out, 0, 48 + profile as u8, b' ');
+    let a = pair(out, 0, b'0' + profile as u8, b' ');
     let b = pair(out, a, kind, b' ');
     all_changes(out, b, changes)
 }

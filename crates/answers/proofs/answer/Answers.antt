@@ -6,13 +6,13 @@ use Rattle.answers.proofs.Forms.{GoodLine, bad_line, good_line}
 use Rattle.answers.proofs.Writing.{reworded, overwrites}
 use Rattle.answers.proofs.Answers.{line_read}
 use Rattle.answers.proofs.answer.Goals as goal
-use Rattle.answers.proofs.answer.Goals.{In-Good}
+use Rattle.answers.proofs.answer.Goals.{In-Some}
 
-good : (c : In-Good) → GoodLine c.args.line.now c.in-Good.profile c.parse.new.word
-good c = good_line c.parse.ensures c.in-Good.is
+good : (c : In-Some) → GoodLine c.args.line.now c.in-Some.profile c.parse.new.word
+good c = good_line c.parse.ensures c.in-Some.is
 
 -- the line's symbols lie within the word
-within : (c : In-Good) → length c.args.line.now - 2 ≤ length c.parse.new.word
+within : (c : In-Some) → length c.args.line.now - 2 ≤ length c.parse.new.word
 within c = omega (arith, c.parse.auto.word, (good c).high)
 
 pub returns-in_default : goal.returns-in_default
@@ -22,18 +22,18 @@ returns-in_default c =
     record { length = written.0; fits = written.1.0; bytes = written.1.1 }
 
 pub overflow_sub-n : goal.overflow_sub-n
-overflow_sub-n c = omega (arith, (good (goal.at.overflow_sub-n c).In-Good).low)
+overflow_sub-n c = omega (arith, (good (goal.at.overflow_sub-n c).In-Some).low)
 
 pub slice_bounds-word-end : goal.slice_bounds-word-end
-slice_bounds-word-end c = within (goal.at.slice_bounds-word-end c).In-Good
+slice_bounds-word-end c = within (goal.at.slice_bounds-word-end c).In-Some
 
 pub slice_bounds-respond-end : goal.slice_bounds-respond-end
-slice_bounds-respond-end c = sym (length-take-le _ _ (within (goal.at.slice_bounds-respond-end c).In-Good))
+slice_bounds-respond-end c = sym (length-take-le _ _ (within (goal.at.slice_bounds-respond-end c).In-Some))
 
 pub respond-requires : goal.respond-requires
-respond-requires c = ((good (goal.at.respond-requires c).In-Good).small, search rules)
+respond-requires c = ((good (goal.at.respond-requires c).In-Some).small, search rules)
 
 pub returns : goal.returns
 returns c =
-    let written = overwrites (search rules) (reworded (line_read (good (goal.at.returns c).In-Good)) c.respond.ensures) in
+    let written = overwrites (search rules) (reworded (line_read (good (goal.at.returns c).In-Some)) c.respond.ensures) in
     record { length = written.0; fits = written.1.0; bytes = written.1.1 }

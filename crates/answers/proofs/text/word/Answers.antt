@@ -1,6 +1,6 @@
 -- `answers::text::word` meets its contract: after i turns the digits of the first i symbols are written.
 -- Assumes nothing.
-use Rattle.std.proofs.Common.{refl, arith, length-set}
+use Rattle.std.proofs.Common.{◌≡◌, length, refl, arith, length-set}
 use Rattle.answers.proofs.Writing.{first_none, word_more, word_end}
 use Rattle.answers.proofs.text.word.Goals as goal
 
@@ -23,4 +23,7 @@ pub shape_of-out : goal.shape_of-out
 shape_of-out c = simp length-set c.loop-i.invariant.same
 
 pub returns : goal.returns
-returns c = word_end _ _ _ _ _ _ c.loop-i-test.false (omega (arith, c.loop-i.invariant.same)) c.loop-i.invariant.text
+returns c =
+    let inv = c.loop-i.invariant in
+    let e : c.loop-i.i ≡ length c.args.symbols.now = omega (arith, inv.within) in
+    rw e at (word_end _ _ _ _ _ c.args.last c.loop-i-test.false (omega (arith, inv.same)) inv.text)
