@@ -32,9 +32,6 @@ pub record Made (q : ℕ) (s column x r : List ℕ) (j : ℕ) : Type 0 where
   pub at : (k : ℕ) → k < j → PartialSum q (get_or s k 0 + get_or column k 0 * get_or x k 0) (get_or r k 0)
   pub kept : (k : ℕ) → j ≤ k → get_or r k 0 ≡ get_or s k 0
 
-pub made_none : (q : ℕ) (s column x : List ℕ) → length s ≡ 16 → Made q s column x s 0
-made_none q s column x e = record { size = e; at = λ k h. absurd (omega arith); kept = λ k h. refl }
-
 module _ {q : ℕ} {s column x r : List ℕ} {j : ℕ} (m : Made q s column x r j) where
   pub made_more : j < 16 → {y : ℕ} → PartialSum q (get_or s j 0 + get_or column j 0 * get_or x j 0) y → Made q s column x (set r j y) (j + 1)
   made_more h {y} a =
@@ -47,9 +44,6 @@ module _ {q : ℕ} {s column x r : List ℕ} {j : ℕ} (m : Made q s column x r 
       either : (k : ℕ) → k ≤ j → Dec (k ≡ j) → PartialSum q (get_or s k 0 + get_or column k 0 * get_or x k 0) (get_or (set r j y) k 0)
       either k l (yes e) = rw (e, get_or-set_same r j y 0 (omega (arith, m.size))) a
       either k l (no d) = rw (get_or-set_other r j k y 0 d) (m.at k (omega (arith, d)))
-
-  pub made_all : 16 ≤ j → LanesAccumulated q s column x r
-  made_all h = record { size = m.size; at = λ k l. m.at k (omega arith) }
 
 -- The lanes of a column and of two symbols.
 

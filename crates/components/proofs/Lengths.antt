@@ -1,15 +1,18 @@
 -- The tests of the profile and of the lengths, by the row that the code asks for.
 -- Assumes nothing.
 use mathlib.Core.Path.{◌≡◌, sym, ap, ◌∙◌}
+use mathlib.Core.Logic.{◌⊎◌, inl, inr, ◌≢◌}
 use mathlib.Core.Bool.{Bool, true, false, ◌&&◌}
 use mathlib.Core.List.{List, ◌++◌}
 use Prim.Native.Nat.{ℕ, suc, ◌-◌, ◌≤◌}
 use native.Mathlib.Omega.{arith}
-use lib.Dec.{T, eqb, leb, eqb→eq, leb→le}
+use lib.Dec.{T, eqb, leb, leb→le}
 use lib.ListN.{length, take, replicate}
 use lib.Seq.{take-append_seam}
+use borrow.Author.Tests.{ne_eqb}
+use Rattle.std.proofs.Math.Bool.{and-false}
 use Rattle.modular_theory.specs.Search.{all_below}
-use Rattle.modular_theory.proofs.Search.{holds, and_intro, and_left, and_right, eq_test, passes}
+use Rattle.modular_theory.proofs.Search.{and_intro, and_left, and_right, eq_test, passes}
 use Rattle.code_theory.specs.Parameters.{edition13, Parameters, message_length, balanced_length}
 use Rattle.code_theory.specs.Component.{component}
 use Rattle.code_theory.specs.Profiles.{profiles, is_profile, profile}
@@ -77,25 +80,28 @@ module _ (i : ℕ) (a b : List ℕ) where
         ap (λ (p : Bool). tested p t.message) (sym (passes {b = is_profile i} of.known))
         ∙ ap (tested (is_profile i)) (message_is of)
 
-    pub no_fit : both_long t.message (length a) (length b) ≡ false → replicate 97 0 ≡ components_of i a b
-    no_fit e = ap array (sym e) ∙ by_row
+    -- a length is another
+    unfit : (length a ≢ t.message) ⊎ ((length a ≡ t.message) × (length b ≢ t.message)) → both_long t.message (length a) (length b) ≡ false
+    unfit (inl h) = rw (ne_eqb (length a) t.message h)
+    unfit (inr (e, h)) = rw (ne_eqb (length b) t.message h) (and-false (eqb (length a) t.message))
 
-    module _ (e : both_long t.message (length a) (length b) ≡ true) where
-      lengths : T (both_long t.message (length a) (length b))
-      lengths = holds (both_long t.message (length a) (length b)) e
+    pub no_fit : (length a ≢ t.message) ⊎ ((length a ≡ t.message) × (length b ≢ t.message)) → replicate 97 0 ≡ components_of i a b
+    no_fit e = ap array (sym (unfit e)) ∙ by_row
+
+    module _ (first : length a ≡ t.message) (second : length b ≡ t.message) where
+      fit : both_long t.message (length a) (length b) ≡ true
+      fit = passes (and_intro (eqb (length a) t.message) (eqb (length b) t.message) (eq_test first) (eq_test second))
 
       pub right_length : Valid t × (3 ≤ t.r) × (t.q ≤ 9) × (length a ≡ message_length (parameters t))
           × (length b ≡ message_length (parameters t))
-      right_length =
-          let first : Bool = eqb (length a) t.message in
-          let second : Bool = eqb (length b) t.message in (
-            of.valid,
-            rw (ap (λ (p : Parameters). p.r) of.same) (profile_roomy i of.known).0,
-            rw (ap (λ (p : Parameters). p.q) of.same) (profile_roomy i of.known).1,
-            eqb→eq (length a) t.message (and_left first second lengths) ∙ of.valid.message,
-            eqb→eq (length b) t.message (and_right first second lengths) ∙ of.valid.message,
-          )
+      right_length = (
+        of.valid,
+        rw (ap (λ (p : Parameters). p.r) of.same) (profile_roomy i of.known).0,
+        rw (ap (λ (p : Parameters). p.q) of.same) (profile_roomy i of.known).1,
+        first ∙ of.valid.message,
+        second ∙ of.valid.message,
+      )
 
       pub right_components : {x : List ℕ} → x ≡ padded (parameters t) a b → x ≡ components_of i a b
       unfolding profile
-      right_components f = f ∙ ap (λ (p : Parameters). padded p a b) of.same ∙ ap array (sym e) ∙ by_row
+      right_components f = f ∙ ap (λ (p : Parameters). padded p a b) of.same ∙ ap array (sym fit) ∙ by_row

@@ -35,19 +35,17 @@ fn placed(row: Row, first: &[u8], second: &[u8]) -> Body
         × (length second.now ≡ message_length (parameters row)) }
     ensures { Placed row first.now second.now result }
 {
-    let q = row.q as usize;
-    let mut x = [0u8; 97];
-    let mut power: usize = 1;
+    let q = usize::from(row.q);
+    let mut x = [0; 97];
+    let mut power = 1;
     let mut next = 0;
-    let mut position = 1;
-    while position <= row.n {
+    for position in 1..=row.n {
         if position == power {
             power *= q;
         } else if position != 2 {
             set_pair(&mut x, position, first[next], second[next]);
             next += 1;
         }
-        position += 1;
     }
     x
 }
@@ -83,7 +81,7 @@ fn filled(row: Row, x: Body, first: CheckSymbols, second: CheckSymbols) -> Body
     requires { Valid row × (3 ≤ row.r) }
     ensures { Filled row x (check_symbols first) (check_symbols second) result }
 {
-    let q = row.q as usize;
+    let q = usize::from(row.q);
     let mut y = x;
     set_pair(&mut y, 2, first.two, second.two);
     set_pair(&mut y, 1, first.one, second.one);

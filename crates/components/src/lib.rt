@@ -19,7 +19,7 @@ pub fn components(profile: usize, first: &[u8], second: &[u8]) -> Body
     let Lookup::Found(row) = row_of(profile) else {
         return [0u8; 97];
     };
-    if !((first.len() == row.message) & (second.len() == row.message)) {
+    if first.len() != row.message || second.len() != row.message {
         return [0u8; 97];
     }
     interleaved(row, first, second)

@@ -44,10 +44,8 @@ fn accumulate_all(q: u8, s: &mut Lanes, column: &Lanes, x: &Lanes)
     requires { (q ≤ 9) × (length s.old ≡ 16) × LanesBelow q s.old × LanesBelow q column.now × LanesBelow q x.now }
     ensures { LanesAccumulated q s.old column.now x.now s.new }
 {
-    let mut j = 0;
-    while j < 16 {
+    for j in 0..16 {
         s[j] = accumulated(q, s[j], column[j], x[j]);
-        j += 1;
     }
 }
 
@@ -55,9 +53,7 @@ fn accumulate_all(q: u8, s: &mut Lanes, column: &Lanes, x: &Lanes)
 fn column_lanes(digits: [u8; 3]) -> Lanes
     ensures { result ≡ column_lanes digits }
 {
-    let a = digits[0];
-    let b = digits[1];
-    let c = digits[2];
+    let [a, b, c] = digits;
     [a, b, c, 1, a, b, c, 1, 0, 0, 0, 0, 0, 0, 0, 0]
 }
 
@@ -88,13 +84,11 @@ pub(crate) fn component_sums(q: u8, n: usize, x: &Body) -> Syndromes
         × PartialSums q (part false n x.now) (rows result.second) }
 {
     let matrix = columns(q, n);
-    let mut s = [0u8; 16];
-    let mut i = 0;
-    while i < n {
+    let mut s = [0; 16];
+    for i in 0..n {
         let column = column_lanes(matrix[i]);
         let pair = symbol_lanes(x[2 * i + 1], x[2 * i + 2]);
         accumulate_all(q, &mut s, &column, &pair);
-        i += 1;
     }
     Syndromes {
         first: syndrome_from(s, 0),
@@ -103,18 +97,15 @@ pub(crate) fn component_sums(q: u8, n: usize, x: &Body) -> Syndromes
 }
 
 // The symbols mod q. Levels are their own remainders, and then nothing is divided.
-pub(crate) fn residues(q: u8, x: Body) -> Body
+pub(crate) fn residues(q: u8, mut x: Body) -> Body
     requires { 1 ≤ q }
     ensures { result ≡ residues q x }
 {
     if symbols_below(&x, q) {
         return x;
     }
-    let mut y = [0u8; 97];
-    let mut i = 0;
-    while i < 97 {
-        y[i] = x[i] % q;
-        i += 1;
+    for symbol in &mut x {
+        *symbol %= q;
     }
-    y
+    x
 }

@@ -14,13 +14,14 @@ of c = row_found _ _ c.row_of.ensures c.in-Found.is
 pub returns-in_default : goal.returns-in_default
 returns-in_default c = no_profile _ _ _ (none_found _ _ c.row_of.ensures c.in_default.is)
 
-pub returns-then-not-first-row : goal.returns-then-not-first-row
-returns-then-not-first-row c = no_fit _ _ _ (of (goal.at.returns-then-not-first-row c).In-Found) (c.if-not-first-row.true)
+pub returns-then-first-row : goal.returns-then-first-row
+returns-then-first-row c = no_fit _ _ _ (of (goal.at.returns-then-first-row c).In-Found) c.then-first-row.either
 
 pub interleaved-requires : goal.interleaved-requires
 interleaved-requires c =
-    right_length _ c.args.first.now c.args.second.now (of (goal.at.interleaved-requires c).In-Found) (c.if-not-first-row.false)
+    right_length _ c.args.first.now c.args.second.now (of (goal.at.interleaved-requires c).In-Found) c.if-first-row.false
+    c.if-second-row.false
 
 pub returns : goal.returns
 returns c =
-    right_components _ _ _ (of (goal.at.returns c).In-Found) (c.if-not-first-row.false) c.interleaved.ensures
+    right_components _ _ _ (of (goal.at.returns c).In-Found) c.if-first-row.false c.if-second-row.false c.interleaved.ensures

@@ -1,4 +1,4 @@
--- `components::sums::accumulate_all` meets its contract. The invariant: a step is made in the lanes passed. The measure is what is left.
+-- `components::sums::accumulate_all` meets its contract. The invariant: a step is made in the lanes passed.
 -- Assumes nothing.
 use native.Mathlib.Nat.{le_refl}
 use native.Mathlib.Omega.{arith}
@@ -7,6 +7,5 @@ use Rattle.components.proofs.sums.accumulate_all.Goals as goal
 
 pub loop-j-preserved : goal.loop-j-preserved
 loop-j-preserved c =
-    let inv = c.loop-j.invariant.0 in
-    let j = c.loop-j.j in
-    (made_more inv (omega arith) (rw (inv.kept j (le_refl j)) at c.accumulated.ensures), omega arith)
+    let inv = c.loop-j.invariant in
+    made_more inv (omega arith) (rw (inv.kept c.loop-j.j (le_refl c.loop-j.j)) at c.accumulated.ensures)

@@ -1,5 +1,5 @@
 -- `components::sums::component_sums` meets its contract. The invariant: what is carried, in each row of each component, is below q and
--- equal mod q to the sum of the symbols passed. The measure is what is left.
+-- equal mod q to the sum of the symbols passed.
 -- Assumes nothing.
 use mathlib.Core.Path.{◌≡◌}
 use mathlib.Core.List.{[]}
@@ -28,7 +28,7 @@ position c = (right (goal.at.In-loop-i c).After-columns-matrix).at c.loop-i.i (o
 
 pub accumulate_all-requires : goal.accumulate_all-requires
 accumulate_all-requires c =
-    let inv = c.loop-i.invariant.0 in
+    let inv = c.loop-i.invariant in
     let is = position (goal.at.accumulate_all-requires c).In-loop-i in (
       c.requires.1,
       inv.size,
@@ -39,13 +39,10 @@ accumulate_all-requires c =
 
 pub loop-i-preserved : goal.loop-i-preserved
 loop-i-preserved c =
-    let is = position (goal.at.loop-i-preserved c).In-loop-i in (
-      carrying_more c.loop-i.invariant.0 (omega arith) c.column_lanes-column.ensures is c.symbol_lanes-pair.ensures
-          c.accumulate_all.ensures,
-      omega arith,
-    )
+    let is = position (goal.at.loop-i-preserved c).In-loop-i in
+    carrying_more c.loop-i.invariant (omega arith) c.column_lanes-column.ensures is c.symbol_lanes-pair.ensures c.accumulate_all.ensures
 
 pub returns : goal.returns
 returns c =
-    let inv = c.loop-i.invariant.0 in
+    let inv = c.loop-i.invariant in
     (first_sums inv (omega arith) c.syndrome_from.ensures, second_sums inv (omega arith) c.syndrome_from-2.ensures)

@@ -1,13 +1,11 @@
--- `components::sums::residues` meets its contract: levels are their own residues. The invariant: those of the symbols passed are there. The
--- measure is what is left.
+-- `components::sums::residues` meets its contract: levels are their own residues. The invariant: the symbols passed are reduced, and the
+-- others are as they were.
 -- Assumes nothing.
-use Prim.Native.Nat.{◌-◌, ◌%◌, ◌≤◌}
+use mathlib.Core.Path.{◌≡◌}
+use Prim.Native.Nat.{ℕ, ◌%◌, ◌≤◌, ◌<◌}
 use lib.ListN.{get_or}
-use Rattle.modular.proofs.Filling.{FilledTo}
 use Rattle.components.proofs.sums.residues.Given as goal
 
-abbrev pub invariant-loop-i : goal.invariant-loop-i
-invariant-loop-i l = FilledTo (λ k. get_or l.x k 0 % l.q) 97 l.y l.i × (l.i ≤ 97)
-
-abbrev pub decreases-loop-i : goal.decreases-loop-i
-decreases-loop-i l = 97 - l.i
+abbrev pub invariant-loop-symbol : goal.invariant-loop-symbol
+invariant-loop-symbol l = ((k : ℕ) → k < l.symbol-index → get_or l.symbol-items k 0 ≡ get_or l.fn.x k 0 % l.q)
+    × ((k : ℕ) → l.symbol-index ≤ k → get_or l.symbol-items k 0 ≡ get_or l.fn.x k 0)
