@@ -8,7 +8,7 @@ ghost use Rattle.std.specs.Prelude.{◌≡◌};
 ghost use Rattle.components.specs.Components.{components_of};
 
 use component::interleaved;
-use profiles::{Lookup, row_of};
+use profiles::row_of;
 use symbols::Body;
 
 // 01: x of a pair of user words: 0, then the symbols of their halves in turn; zeros after them, and zeros alone where the number
@@ -16,11 +16,11 @@ use symbols::Body;
 pub fn components(profile: usize, first: &[u8], second: &[u8]) -> Body
     ensures { result ≡ components_of profile first.now second.now }
 {
-    let Lookup::Found(row) = row_of(profile) else {
-        return [0u8; 97];
+    let Some(row) = row_of(profile) else {
+        return [0; 97];
     };
     if first.len() != row.message || second.len() != row.message {
-        return [0u8; 97];
+        return [0; 97];
     }
     interleaved(row, first, second)
 }
