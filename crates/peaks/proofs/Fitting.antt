@@ -33,9 +33,10 @@ module _ (q m first step : ℕ) (d : List ℕ) {b : Bool} (is : b ≡ searchable
   abbrev answered : Bool → LeastPeaks
   answered c = elim c [ true ↦ found q first step (take m d) m | false ↦ record { costs = replicate 8 no_cost; indices = replicate 8 0 } ]
 
-  pub answered_found : b ≡ true → found q first step (take m d) m ≡ least_peaks q m first step d
+  pub answered_found : b ≡ true → {p f s : ℕ} → p ≡ q → f ≡ first → s ≡ step → {r : LeastPeaks} → r ≡ found p f s (take m d) m
+      → r ≡ least_peaks q m first step d
   unfolding least_peaks
-  answered_found passed = ap answered (sym passed ∙ is)
+  answered_found passed e g h k = k ∙ rw (e, g, h) (ap answered (sym passed ∙ is))
 
   pub answered_none : b ≡ false → record { costs = replicate 8 no_cost; indices = replicate 8 0 } ≡ least_peaks q m first step d
   unfolding least_peaks

@@ -14,9 +14,10 @@ use Rattle.peaks_theory.specs.Costs.{prefix_peak, balanced_at, cost_at}
 use Rattle.peaks_theory.specs.Lowest.{lowest_cost, lowest_index, pick}
 use Rattle.peaks_theory.proofs.Lowest.{Searched, searched_more, searched_all}
 use Rattle.peaks.specs.declared.prefix.Lane.{Lane}
+use Rattle.peaks.specs.declared.prefix.LaneArrays.{LaneArrays}
 use Rattle.peaks.specs.Lanes.{LanesAre, raised_lane, taken_off}
 use Rattle.peaks.specs.Sums.{Summed, tail_lane}
-use Rattle.peaks.specs.Steps.{cost_of, better_than, step_lane, lane_at, LaneRoom, LanesHold}
+use Rattle.peaks.specs.Steps.{cost_of, better_than, step_lane, lane_at, EightLanes, LaneRoom, LanesHold}
 use Rattle.peaks.specs.LeastPeaks.{found}
 use Rattle.peaks.proofs.SideBySide.{lanes_list}
 use Rattle.peaks.proofs.Stepping.{lane_held}
@@ -34,26 +35,22 @@ pub record LaneIs (q first step : ℕ) (w : List ℕ) (i t : ℕ) (s : Lane) : T
   pub lowest : Searched (balanced_at q w t) (cost_at q first step w t) (length w) i s.cost s.index
 
 -- and so does every lane
-pub record Forward (q first step : ℕ) (w sums heads totals costs indices : List ℕ) (i : ℕ) : Type 0 where
-  pub sums_size : length sums ≡ 8
-  pub heads_size : length heads ≡ 8
-  pub totals_size : length totals ≡ 8
-  pub costs_size : length costs ≡ 8
-  pub indices_size : length indices ≡ 8
-  pub lanes : (t : ℕ) → t < 8 → LaneIs q first step w i t (lane_at sums heads totals costs indices t)
+pub record Forward (q first step : ℕ) (w : List ℕ) (a : LaneArrays) (i : ℕ) : Type 0 where
+  pub sizes : EightLanes a
+  pub lanes : (t : ℕ) → t < 8 → LaneIs q first step w i t (lane_at a t)
 
 module _ (q first step : ℕ) (w : List ℕ) where
   -- at the end
-  pub forward_all : {m i : ℕ} {sums heads totals costs indices : List ℕ} → length w ≡ m → i ≡ m
-      → Forward q first step w sums heads totals costs indices i → record { costs = costs; indices = indices } ≡ found q first step w m
-  forward_all {m} {i} {costs = costs} {indices} size e f =
+  pub forward_all : {m i : ℕ} {a : LaneArrays} → length w ≡ m → i ≡ m → Forward q first step w a i
+      → record { costs = a.costs; indices = a.indices } ≡ found q first step w m
+  forward_all {m} {i} {a} size e f =
       ap₂ {A = List ℕ} {B = List ℕ} (λ c k. record { costs = c; indices = k })
-      (lanes_list (record { size = f.costs_size; at = λ t h. (all t h).0 }))
-      (lanes_list (record { size = f.indices_size; at = λ t h. (all t h).1 }))
+      (lanes_list (record { size = f.sizes.costs_size; at = λ t h. (all t h).0 }))
+      (lanes_list (record { size = f.sizes.indices_size; at = λ t h. (all t h).1 }))
     where
       all : (t : ℕ) → t < 8
-          → (get_or costs t 0 ≡ lowest_cost (balanced_at q w t) (cost_at q first step w t) m)
-          × (get_or indices t 0 ≡ lowest_index (balanced_at q w t) (cost_at q first step w t) m)
+          → (get_or a.costs t 0 ≡ lowest_cost (balanced_at q w t) (cost_at q first step w t) m)
+          × (get_or a.indices t 0 ≡ lowest_index (balanced_at q w t) (cost_at q first step w t) m)
       all t h = searched_all (balanced_at q w t) (cost_at q first step w t) m (rw (size, e) at (f.lanes t h).lowest)
 
   -- One symbol more, with what the table has for it.
@@ -111,29 +108,31 @@ module _ (q first step : ℕ) (w : List ℕ) where
             }
 
     module _ {up next : List ℕ} (row : LanesAre (raised_lane q 0 1 symbol) up) (row_next : LanesAre (raised_lane q 0 1 (symbol + 1)) next)
-        {sums heads totals costs indices : List ℕ} (f : Forward q first step w sums heads totals costs indices i) where
+        {s : LaneArrays} (f : Forward q first step w s i) where
       next_at : (t : ℕ) → t < 8 → get_or next t 0 ≡ 2 * ((symbol + suc t) % q)
       next_at t h =
           let e : symbol + 1 + t ≡ symbol + suc t = omega arith in
           shifted_lane q (symbol + 1) row_next t h ∙ ap (λ (n : ℕ). 2 * (n % q)) e
 
-      pub forward_room : (t : ℕ) → t < 8 → LaneRoom (lane_at sums heads totals costs indices t) (q - 1) (get_or up t 0) (get_or next t 0)
+      pub forward_room : (t : ℕ) → t < 8 → LaneRoom (lane_at s t) (q - 1) (get_or up t 0) (get_or next t 0)
       forward_room t h = lane_room (f.lanes t h) (shifted_lane q symbol row t h) (next_at t h)
 
       pub forward_more : {tails checks : List ℕ} → LanesAre (tail_lane q w i) tails → LanesAre (raised_lane q first step (taken_off q i)) checks
-          → {sums' heads' totals' costs' indices' : List ℕ}
+          → {r : LaneArrays}
           → LanesHold
-          (λ t. step_lane i (lane_at sums heads totals costs indices t) (q - 1) (get_or up t 0) (get_or next t 0) (get_or tails t 0) (get_or checks t 0))
-          sums' heads' totals' costs' indices'
-          → Forward q first step w sums' heads' totals' costs' indices' (i + 1)
+          (λ t. step_lane i (lane_at s t) (q - 1) (get_or up t 0) (get_or next t 0) (get_or tails t 0) (get_or checks t 0)) r
+          → Forward q first step w r (i + 1)
       forward_more tail check a =
           rw (add-one i)
           (record {
-            sums_size = a.sums_are.size;
-            heads_size = a.heads_are.size;
-            totals_size = a.totals_are.size;
-            costs_size = a.costs_are.size;
-            indices_size = a.indices_are.size;
+            sizes =
+                record {
+                  sums_size = a.sums_are.size;
+                  heads_size = a.heads_are.size;
+                  totals_size = a.totals_are.size;
+                  costs_size = a.costs_are.size;
+                  indices_size = a.indices_are.size;
+                };
             lanes = λ t h.
                 subst⁻¹ (LaneIs q first step w (suc i) t) (lane_held a t h)
                 (lane_more (f.lanes t h) (shifted_lane q symbol row t h) (next_at t h) (tail.at t h) (check.at t h));

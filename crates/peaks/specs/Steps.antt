@@ -1,9 +1,10 @@
 -- What a step does in each lane.
 -- Assumes nothing.
-use Rattle.std.specs.Prelude.{Bool, ◌&&◌, List, ℕ, ◌+◌, ◌-◌, ◌≤◌, ◌<◌, max, eqb, ltb, get_or}
+use Rattle.std.specs.Prelude.{◌≡◌, Bool, ◌&&◌, List, ℕ, ◌+◌, ◌-◌, ◌≤◌, ◌<◌, max, eqb, ltb, length, get_or}
 use Rattle.peaks_theory.specs.Costs.{gap}
 use Rattle.peaks_theory.specs.Lowest.{pick}
 use Rattle.peaks.specs.declared.prefix.Lane.{Lane}
+use Rattle.peaks.specs.declared.prefix.LaneArrays.{LaneArrays}
 use Rattle.peaks.specs.Lanes.{LanesAre}
 use Rattle.peaks.specs.Sums.{zero_sum}
 
@@ -48,15 +49,29 @@ pub record LaneRoom (s : Lane) (h up next : ℕ) : Type 0 where
   pub total_low : next ≤ s.total + up
   pub total_high : s.total + up < 65536
 
--- lane t of five arrays
-abbrev pub lane_at : List ℕ → List ℕ → List ℕ → List ℕ → List ℕ → ℕ → Lane
-lane_at sums heads totals costs indices t =
-    record { sum = get_or sums t 0; head = get_or heads t 0; total = get_or totals t 0; cost = get_or costs t 0; index = get_or indices t 0 }
+-- lane t of the arrays
+abbrev pub lane_at : LaneArrays → ℕ → Lane
+lane_at a t =
+    record {
+      sum = get_or a.sums t 0;
+      head = get_or a.heads t 0;
+      total = get_or a.totals t 0;
+      cost = get_or a.costs t 0;
+      index = get_or a.indices t 0;
+    }
+
+-- there are eight
+pub record EightLanes (a : LaneArrays) : Type 0 where
+  pub sums_size : length a.sums ≡ 8
+  pub heads_size : length a.heads ≡ 8
+  pub totals_size : length a.totals ≡ 8
+  pub costs_size : length a.costs ≡ 8
+  pub indices_size : length a.indices ≡ 8
 
 -- they hold the lanes that f gives
-pub record LanesHold (f : ℕ → Lane) (sums heads totals costs indices : List ℕ) : Type 0 where
-  pub sums_are : LanesAre (λ t. (f t).sum) sums
-  pub heads_are : LanesAre (λ t. (f t).head) heads
-  pub totals_are : LanesAre (λ t. (f t).total) totals
-  pub costs_are : LanesAre (λ t. (f t).cost) costs
-  pub indices_are : LanesAre (λ t. (f t).index) indices
+pub record LanesHold (f : ℕ → Lane) (a : LaneArrays) : Type 0 where
+  pub sums_are : LanesAre (λ t. (f t).sum) a.sums
+  pub heads_are : LanesAre (λ t. (f t).head) a.heads
+  pub totals_are : LanesAre (λ t. (f t).total) a.totals
+  pub costs_are : LanesAre (λ t. (f t).cost) a.costs
+  pub indices_are : LanesAre (λ t. (f t).index) a.indices

@@ -1,26 +1,11 @@
 // Numbers of sixteen bits, eight side by side: the compiler works on all of them at once, by comparisons and with no branch.
-ghost use Rattle.std.specs.Prelude.{◌≡◌, Bool, ◌+◌, ◌%◌, ◌≤◌, ◌<◌, max};
-ghost use Rattle.peaks_theory.specs.Costs.{gap};
-ghost use Rattle.peaks_theory.specs.Lowest.{pick};
+ghost use Rattle.std.specs.Prelude.{◌≡◌, ◌+◌, ◌%◌, ◌≤◌, ◌<◌};
 
 // A number for each of the shifts 0 to 7.
 pub type Lanes = [u16; 8];
 
 // What stands for a running digital sum of 0, so that no lane is signed: 97 symbols below 8 move it by 679 at most.
 pub(crate) const ZERO_SUM: u16 = 2048;
-
-pub(crate) fn larger(a: u16, b: u16) -> u16
-    ensures { result ≡ max a b }
-{
-    if a < b { b } else { a }
-}
-
-// The size of a - b.
-pub(crate) fn gap(a: u16, b: u16) -> u16
-    ensures { result ≡ gap a b }
-{
-    if a < b { b - a } else { a - b }
-}
 
 // y + t mod q.
 pub(crate) fn raised(q: u16, y: u16, t: u16) -> u16
@@ -29,10 +14,4 @@ pub(crate) fn raised(q: u16, y: u16, t: u16) -> u16
 {
     let x = y + t;
     if x < q { x } else { x - q }
-}
-
-pub(crate) fn selected(first: bool, a: u16, b: u16) -> u16
-    ensures { result ≡ pick first a b }
-{
-    if first { a } else { b }
 }

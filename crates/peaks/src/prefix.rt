@@ -1,12 +1,12 @@
 // The pass from the front: the peaks of the word raised by each shift, up to each index, and with them the cost of each index.
-ghost use Rattle.std.specs.Prelude.{◌≡◌, ℕ, suc, ◌+◌, ◌-◌, ◌%◌, ◌≤◌, ◌<◌, length, get_or, take};
+ghost use Rattle.std.specs.Prelude.{◌≡◌, ℕ, suc, ◌+◌, ◌-◌, ◌%◌, ◌≤◌, ◌<◌, get_or, take};
 ghost use Rattle.code_theory.specs.Balance.{shifted};
 ghost use Rattle.peaks.specs.Lanes.{RowsAre, raised_lane, taken_off};
 ghost use Rattle.peaks.specs.Sums.{SymbolsFit, SumsAre, tail_lane};
-ghost use Rattle.peaks.specs.Steps.{is_better, step_lane, lane_at, LaneRoom, LanesHold};
+ghost use Rattle.peaks.specs.Steps.{is_better, step_lane, lane_at, EightLanes, LaneRoom, LanesHold};
 ghost use Rattle.peaks.specs.LeastPeaks.{found};
 
-use crate::lanes::{Lanes, ZERO_SUM, gap, larger, selected};
+use crate::lanes::{Lanes, ZERO_SUM};
 use crate::rows::{Rows, raised_rows};
 use crate::search::{LeastPeaks, NO_COST};
 use crate::suffix::Tails;
@@ -29,66 +29,60 @@ fn is_better(total: u16, cost: u16, least: u16) -> bool
     (total == ZERO_SUM) & (cost < least)
 }
 
-// The cost of index `here`, and one symbol more.
-fn stepped(here: u16, s: Lane, h: u16, up: u16, next: u16, tail: u16, check: u16) -> Lane
-    requires { LaneRoom s h up next }
-    ensures { result ≡ step_lane here s h up next tail check }
-{
-    let cost = larger(larger(s.head, tail), gap(check, h));
-    let better = is_better(s.total, cost, s.cost);
-    let sum = s.sum + up - h;
-    Lane {
-        sum,
-        head: larger(s.head, gap(sum, ZERO_SUM)),
-        total: s.total + up - next,
-        cost: selected(better, cost, s.cost),
-        index: selected(better, here, s.index),
+impl Lane {
+    // The cost of index `here`, and one symbol more.
+    fn stepped(self, here: u16, h: u16, up: u16, next: u16, tail: u16, check: u16) -> Lane
+        requires { LaneRoom self h up next }
+        ensures { result ≡ step_lane here self h up next tail check }
+    {
+        let cost = self.head.max(tail).max(check.abs_diff(h));
+        let better = is_better(self.total, cost, self.cost);
+        let sum = self.sum + up - h;
+        Lane {
+            sum,
+            head: self.head.max(sum.abs_diff(ZERO_SUM)),
+            total: self.total + up - next,
+            cost: if better { cost } else { self.cost },
+            index: if better { here } else { self.index },
+        }
     }
 }
 
-// The same in every lane, all of it in one loop: of several the compiler works on one lane at a time, which takes twice as long.
-fn forward(
-    here: u16,
-    h: u16,
-    up: &Lanes,
-    next: &Lanes,
-    tails: &Lanes,
-    checks: &Lanes,
-    sums: &mut Lanes,
-    heads: &mut Lanes,
-    totals: &mut Lanes,
-    costs: &mut Lanes,
-    indices: &mut Lanes,
-)
-    requires { (length sums.old ≡ 8)
-        × (length heads.old ≡ 8)
-        × (length totals.old ≡ 8)
-        × (length costs.old ≡ 8)
-        × (length indices.old ≡ 8)
-        × ((t : ℕ) → t < 8
-        → LaneRoom (lane_at sums.old heads.old totals.old costs.old indices.old t) h (get_or up.now t 0) (get_or next.now t 0)) }
-    ensures { LanesHold
-        (λ t. step_lane here
-        (lane_at sums.old heads.old totals.old costs.old indices.old t) h
-        (get_or up.now t 0) (get_or next.now t 0) (get_or tails.now t 0) (get_or checks.now t 0))
-        sums.new heads.new totals.new costs.new indices.new }
-{
-    let mut t = 0;
-    while t < 8 {
-        let lane = Lane {
-            sum: sums[t],
-            head: heads[t],
-            total: totals[t],
-            cost: costs[t],
-            index: indices[t],
-        };
-        let r = stepped(here, lane, h, up[t], next[t], tails[t], checks[t]);
-        sums[t] = r.sum;
-        heads[t] = r.head;
-        totals[t] = r.total;
-        costs[t] = r.cost;
-        indices[t] = r.index;
-        t += 1;
+// What all lanes carry, an array for each of a lane's numbers: so the compiler works on all lanes at once.
+#[derive(Drop)]
+pub(crate) struct LaneArrays {
+    pub(crate) sums: Lanes,
+    pub(crate) heads: Lanes,
+    pub(crate) totals: Lanes,
+    pub(crate) costs: Lanes,
+    pub(crate) indices: Lanes,
+}
+
+impl LaneArrays {
+    // The same in every lane, all of it in one loop: of several the compiler works on one lane at a time, which takes twice as long.
+    fn step(&mut self, here: u16, h: u16, up: &Lanes, next: &Lanes, tails: &Lanes, checks: &Lanes)
+        requires { EightLanes self.old
+            × ((t : ℕ) → t < 8 → LaneRoom (lane_at self.old t) h (get_or up.now t 0) (get_or next.now t 0)) }
+        ensures { LanesHold
+            (λ t. step_lane here (lane_at self.old t) h
+            (get_or up.now t 0) (get_or next.now t 0) (get_or tails.now t 0) (get_or checks.now t 0))
+            self.new }
+    {
+        for t in 0..8 {
+            let lane = Lane {
+                sum: self.sums[t],
+                head: self.heads[t],
+                total: self.totals[t],
+                cost: self.costs[t],
+                index: self.indices[t],
+            };
+            let r = lane.stepped(here, h, up[t], next[t], tails[t], checks[t]);
+            self.sums[t] = r.sum;
+            self.heads[t] = r.head;
+            self.totals[t] = r.total;
+            self.costs[t] = r.cost;
+            self.indices[t] = r.index;
+        }
     }
 }
 
@@ -112,7 +106,7 @@ pub(crate) fn prefix_search(
     rows: &Rows,
     d: &Body,
     tails: &Tails,
-    mut totals: Lanes,
+    totals: Lanes,
 ) -> LeastPeaks
     requires { SymbolsFit q m d.now
         × (first < q)
@@ -123,29 +117,28 @@ pub(crate) fn prefix_search(
     ensures { result ≡ found q first step (take m d.now) m }
 {
     let checks = raised_rows(q, first, step);
-    let mut sums = [ZERO_SUM; 8];
-    let mut heads = [0u16; 8];
-    let mut costs = [NO_COST; 8];
-    let mut indices = [m as u16; 8];
-    let mut k: usize = 0;
-    let mut i = 0;
-    while i < m {
-        let symbol = d[i] as usize;
-        forward(
+    let mut lanes = LaneArrays {
+        sums: [ZERO_SUM; 8],
+        heads: [0; 8],
+        totals,
+        costs: [NO_COST; 8],
+        indices: [m as u16; 8],
+    };
+    let mut k = 0;
+    for i in 0..m {
+        let symbol = usize::from(d[i]);
+        lanes.step(
             i as u16,
             q - 1,
             &rows[symbol],
             &rows[symbol + 1],
             &tails[i],
             &checks[k],
-            &mut sums,
-            &mut heads,
-            &mut totals,
-            &mut costs,
-            &mut indices,
         );
-        k = next_check(q as usize, i, k);
-        i += 1;
+        k = next_check(usize::from(q), i, k);
     }
-    LeastPeaks { costs, indices }
+    LeastPeaks {
+        costs: lanes.costs,
+        indices: lanes.indices,
+    }
 }

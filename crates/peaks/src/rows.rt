@@ -14,11 +14,9 @@ fn progression(q: u16, first: u16, step: u16) -> Lanes
 {
     let mut r = [0u16; 8];
     let mut y = first;
-    let mut t = 0;
-    while t < 8 {
-        r[t] = y;
+    for lane in &mut r {
+        *lane = y;
         y = raised(q, step, y);
-        t += 1;
     }
     r
 }
@@ -27,13 +25,11 @@ fn raised_row(q: u16, y: u16, symbols: &Lanes) -> Lanes
     requires { (q ≤ 8) × (y ≤ q) × LanesBelow q symbols.now }
     ensures { LanesAre (λ t. 2 * ((y + get_or symbols.now t 0) % q)) result }
 {
-    let mut r = [0u16; 8];
-    let mut t = 0;
-    while t < 8 {
-        r[t] = 2 * raised(q, y, symbols[t]);
-        t += 1;
+    let mut row = *symbols;
+    for lane in &mut row {
+        *lane = 2 * raised(q, y, *lane);
     }
-    r
+    row
 }
 
 // Twice first + t · step + y mod q in lane t of row y.
@@ -43,12 +39,8 @@ pub(crate) fn raised_rows(q: u16, first: u16, step: u16) -> Rows
 {
     let symbols = progression(q, first, step);
     let mut rows = [[0u16; 8]; 9];
-    let mut at: u16 = 0;
-    let mut y: usize = 0;
-    while at <= q {
-        rows[y] = raised_row(q, at, &symbols);
-        at += 1;
-        y += 1;
+    for y in 0..=q {
+        rows[usize::from(y)] = raised_row(q, y, &symbols);
     }
     rows
 }

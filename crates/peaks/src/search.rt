@@ -47,7 +47,7 @@ pub fn least_peaks(q: u8, m: usize, first: u8, step: u8, d: &Body) -> LeastPeaks
     ensures { result ≡ least_peaks q m first step d.now }
 {
     if searchable(q, m, first, step, d) {
-        searched(q as u16, m, first as u16, step as u16, *d)
+        searched(u16::from(q), m, u16::from(first), u16::from(step), *d)
     } else {
         LeastPeaks {
             costs: [NO_COST; 8],

@@ -5,7 +5,7 @@ ghost use Rattle.peaks.specs.Lanes.{LanesAre, RowsAre, raised_lane};
 ghost use Rattle.peaks.specs.Sums.{SymbolsFit, SumsAre, tail_lane};
 ghost use Rattle.peaks.specs.Steps.{next_sum, next_peak, SumRoom};
 
-use crate::lanes::{Lanes, ZERO_SUM, gap, larger};
+use crate::lanes::{Lanes, ZERO_SUM};
 use crate::rows::Rows;
 use symbols::Body;
 
@@ -18,12 +18,10 @@ fn backward(h: u16, up: &Lanes, sums: &mut Lanes, peaks: &mut Lanes)
     ensures { LanesAre (next_sum h up.now sums.old) sums.new
         × LanesAre (next_peak h up.now sums.old peaks.old) peaks.new }
 {
-    let mut t = 0;
-    while t < 8 {
+    for t in 0..8 {
         let sum = sums[t] + up[t] - h;
         sums[t] = sum;
-        peaks[t] = larger(peaks[t], gap(sum, ZERO_SUM));
-        t += 1;
+        peaks[t] = peaks[t].max(sum.abs_diff(ZERO_SUM));
     }
 }
 
@@ -36,10 +34,8 @@ pub(crate) fn suffix_peaks(q: u16, m: usize, rows: &Rows, d: &Body, tails: &mut 
     let h = q - 1;
     let mut totals = [ZERO_SUM; 8];
     let mut peaks = [0u16; 8];
-    let mut i = m;
-    while 0 < i {
-        i -= 1;
-        let up = rows[d[i] as usize + 1];
+    for i in (0..m).rev() {
+        let up = rows[usize::from(d[i]) + 1];
         backward(h, &up, &mut totals, &mut peaks);
         tails[i] = peaks;
     }

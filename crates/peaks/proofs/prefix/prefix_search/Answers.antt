@@ -1,5 +1,5 @@
 -- `peaks::prefix::prefix_search` meets its contract. The invariant: in each lane the sum, the peak and the whole sum are those of the index,
--- and of the indices passed the lowest cost is known. The measure is what is left.
+-- and of the indices passed the lowest cost is known.
 -- Assumes nothing.
 use mathlib.Core.Path.{◌≡◌}
 use mathlib.Core.List.{List, []}
@@ -64,18 +64,15 @@ module _ (c : In-loop-i) where
       (get_or c.raised_rows-checks.result c.loop-i.k [])
   check = rw (← c.loop-i.invariant.1) (c.raised_rows-checks.ensures.at c.loop-i.k (omega (arith, check_below)))
 
-pub forward-requires : goal.forward-requires
-forward-requires c =
-    let turn = (goal.at.forward-requires c).In-loop-i in
+pub step-requires : goal.step-requires
+step-requires c =
+    let turn = (goal.at.step-requires c).In-loop-i in
     let a = start turn in
     let f = c.loop-i.invariant.0 in
     let p = c.requires.0 in (
-      f.sums_size,
-      f.heads_size,
-      f.totals_size,
-      f.costs_size,
-      f.indices_size,
-      forward_room c.args.q c.args.first c.args.step (word a) p.some p.few (short a) (inside turn) (row turn) (row_next turn) f,
+      f.sizes,
+      rw c.from-symbol.ensures
+          (forward_room c.args.q c.args.first c.args.step (word a) p.some p.few (short a) (inside turn) (row turn) (row_next turn) f),
     )
 
 pub loop-i-preserved : goal.loop-i-preserved
@@ -85,13 +82,12 @@ loop-i-preserved c =
     let f = c.loop-i.invariant.0 in
     let p = c.requires.0 in (
       forward_more c.args.q c.args.first c.args.step (word a) p.some p.few (short a) (inside turn) (row turn) (row_next turn) f
-          (tail turn) (check turn) c.forward.ensures,
-      c.next_check-k.ensures,
-      omega (arith, c.loop-i-test.true),
+          (tail turn) (check turn) (rw c.from-symbol.ensures at c.step.ensures),
+      rw c.from.ensures at c.next_check-k.ensures,
     )
 
 pub returns : goal.returns
 returns c =
     let a = (goal.at.returns c).Start in
-    let e : c.loop-i.i ≡ c.args.m = omega (arith, c.loop-i-test.false, c.loop-i.invariant.2) in
+    let e : c.loop-i.i ≡ c.args.m = omega (arith, c.loop-i-test.false, c.loop-i.auto.i-end) in
     forward_all c.args.q c.args.first c.args.step (word a) (size a) e c.loop-i.invariant.0

@@ -1,5 +1,4 @@
--- `peaks::suffix::suffix_peaks` meets its contract. The invariant: the sums and the peaks from the index on are in their lanes and rows. The
--- measure is what is left.
+-- `peaks::suffix::suffix_peaks` meets its contract. The invariant: the sums and the peaks from the index on are in their lanes and rows.
 -- Assumes nothing.
 use mathlib.Core.Path.{◌≡◌}
 use mathlib.Core.List.{List, []}
@@ -59,7 +58,7 @@ backward-requires c =
     let p = c.requires.0 in (
       c.loop-i.invariant.sums.size,
       c.loop-i.invariant.here.size,
-      backward_room c.args.q (word a) (inside turn) (row turn) p.some p.few (short a) (known turn),
+      backward_room c.args.q (word a) (inside turn) (rw c.from.ensures (row turn)) p.some p.few (short a) (known turn),
     )
 
 pub loop-i-preserved : goal.loop-i-preserved
@@ -68,4 +67,4 @@ loop-i-preserved c =
     let a = start turn in
     let p = c.requires.0 in
     let made = c.backward.ensures in
-    backward_more c.args.q (word a) (inside turn) (row turn) p.some p.few (short a) (known turn) made.0 made.1
+    backward_more c.args.q (word a) (inside turn) (rw c.from.ensures (row turn)) p.some p.few (short a) (known turn) made.0 made.1
