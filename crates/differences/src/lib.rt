@@ -13,21 +13,15 @@ use symbols::{Body, available};
 fn neighbour_difference(backward: bool, q: u8, a: u8, b: u8) -> u8
     ensures { result ≡ difference_of backward q a b }
 {
-    if backward {
-        return sub(q, a, b);
-    }
-    sub(q, b, a)
+    if backward { sub(q, a, b) } else { sub(q, b, a) }
 }
 
 // The differences of the first m symbols, 97 at most, into x. The first symbol has none.
 pub fn difference_body(backward: bool, q: u8, m: usize, word: &[u8], x: &mut Body)
     ensures { x.new ≡ differences_at (λ j. ltb j (min m 97)) backward q word.now x.old }
 {
-    let end = available(m, word.len());
-    let mut i = 1;
-    while i < end {
+    for i in 1..available(m, word.len()) {
         x[i] = neighbour_difference(backward, q, word[i - 1], word[i]);
-        i += 1;
     }
 }
 
