@@ -6,33 +6,25 @@ use mathlib.Core.List.{List, [], ◌∷◌}
 use Prim.Native.Nat.{ℕ, ◌<◌}
 use native.Mathlib.Omega.{arith}
 use lib.Dec.{ltb}
+use lib.ListN.{get_or}
 use borrow.Author.Tests.{lt-ltb, le-ltb}
 use Rattle.modular_theory.proofs.Search.{holds, le_of_not_lt, least_hit, least_is}
 use Rattle.code_theory.specs.Parameters.{Parameters}
 use Rattle.decoding_theory.specs.Decoded.{Sums}
 use Rattle.decoding_theory.specs.Filled.{Erased, sums_with, fillable, Filling, fills, nothing, fill_one, first_level, fill_two}
 use Rattle.decoding_theory.proofs.Tests.{false_test}
-use Rattle.fillings.specs.declared.fill.Filling as declared
-use Rattle.fillings.specs.declared.fill.Filling.TheVariants.{One, Two, Nothing}
-use Rattle.symbols.specs.declared.sums.Syndromes.{Syndromes}
-use Rattle.fillings.specs.Filling.{filling_of}
-
--- an answer that is not one symbol
-not_one : (r : declared.Filling) → ((y : ℕ) (s : Syndromes) → r ≡ One y s → ⊥)
-    → {y : ℕ} {S S' : List ℕ} → filling_of r ≡ fills (y ∷ []) S S' → ⊥
-not_one (One z s) h e = h z s refl
-not_one (Two z x s) h e = let no : ◌≡◌ {A = ℕ} 0 1 = cc in omega arith
-not_one Nothing h e = let no : ◌≡◌ {A = ℕ} 0 1 = cc in omega arith
 
 module _ (p : Parameters) (d : Erased) (t : Sums) where
-  -- so the symbol that d wants does not fill it
-  pub unfilled : (r : declared.Filling) → ((y : ℕ) (s : Syndromes) → r ≡ One y s → ⊥)
-      → filling_of r ≡ fill_one p d t → fillable p d t ≡ false
+  -- where nothing fills d, the symbol that it wants does not
+  pub unfilled : nothing ≡ fill_one p d t → fillable p d t ≡ false
   unfolding fill_one
-  unfilled r h e = at (fillable p d t) refl
+  unfilled e = at (fillable p d t) refl
     where
       at : (b : Bool) → fillable p d t ≡ b → fillable p d t ≡ false
-      at true k = absurd (not_one r h (rw (k, fill_one) at e))
+      at true k =
+          let is = rw (k, fill_one) at e in
+          let no : ◌≡◌ {A = ℕ} 0 1 = cc in
+          absurd (omega arith)
       at false k = k
 
   -- and where something fills it, that symbol does
@@ -47,9 +39,9 @@ module _ (p : Parameters) (d : Erased) (t : Sums) where
           let no : ◌≡◌ {A = ℕ} 0 1 = cc in
           absurd (omega arith)
 
--- a symbol y before the others
+-- a symbol y before the first
 abbrev preceded : ℕ → Filling → Filling
-preceded y (fills ys S S') = fills (y ∷ ys) S S'
+preceded y (fills ys S S') = fills (y ∷ get_or ys 0 0 ∷ []) S S'
 preceded y nothing = nothing
 
 module _ (p : Parameters) (d d' : Erased) (t : Sums) where
@@ -63,8 +55,8 @@ module _ (p : Parameters) (d d' : Erased) (t : Sums) where
       let past = le_of_not_lt (λ l. false_test (none _ l) (least_hit test p.q l)) in
       rw (le-ltb (first_level p d d' t) p.q past, fill_two)
 
-  pub two_found : (y : ℕ) → y < p.q → ((j : ℕ) → j < y → test j ≡ false) → {z : ℕ} {S S' : List ℕ}
-      → fills (z ∷ []) S S' ≡ fill_one p d' (sums_with p d y t) → fills (y ∷ z ∷ []) S S' ≡ fill_two p d d' t
+  pub two_found : (y : ℕ) → y < p.q → ((j : ℕ) → j < y → test j ≡ false) → {zs S S' : List ℕ}
+      → fills zs S S' ≡ fill_one p d' (sums_with p d y t) → fills (y ∷ get_or zs 0 0 ∷ []) S S' ≡ fill_two p d d' t
   unfolding fill_two first_level fill_one
   two_found y l none e =
       let hit : test y ≡ true = fillable_of p d' (sums_with p d y t) e in

@@ -3,6 +3,7 @@
 use mathlib.Core.Path.{◌≡◌, refl, sym, ◌∙◌}
 use mathlib.Core.Logic.{⊎_elim}
 use mathlib.Core.Bool.{Bool, true, false, ◌&&◌}
+use Rattle.std.specs.Prelude.{Option}
 use Prim.Native.Nat.{ℕ, ◌≤◌, ◌<◌}
 use native.Mathlib.Omega.{arith}
 use lib.Dec.{T, ltb, ltb→lt}
@@ -57,7 +58,7 @@ module _ (q n : ℕ) {m : Numbers} {s : Syndromes} {t : Sums} (has : sums_by m s
           ⊎_elim (λ (l : q ≤ y). rw (← met, le-ltb y q l))
           (λ (l : y < q). tests q n m s e met l ∙ rw (rw (lt-ltb y q l) at (sym tested ∙ h))) (le_or_lt q y)
 
-  pub suited : b ≡ true → {s' : Syndromes} → s' ≡ syndromes_with q e y s → {r : Filling} → r ≡ one_if_near q n y s'
+  pub suited : b ≡ true → {s' : Syndromes} → s' ≡ syndromes_with q e y s → {r : Option (Filling 1)} → r ≡ one_if_near q n y s'
       → filling_of r ≡ fill_one (four_rows q n) (erased_of e) t
   unfolding fill_one one_if_near
   suited h {s'} after {r} is = rw (← has, is, after) (by (near_with q n m s e y) refl)

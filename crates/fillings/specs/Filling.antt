@@ -1,6 +1,6 @@
 -- The code's sums, erased symbols and fillings, as the definitions of crate decoding_theory have them, with syndromes of four rows.
 -- Assumes nothing.
-use Rattle.std.specs.Prelude.{true, false, [], ◌∷◌}
+use Rattle.std.specs.Prelude.{true, false, ℕ, Option, Some, None}
 use Rattle.decoding_theory.specs.Decoded.{Sums}
 use Rattle.decoding_theory.specs.Filled.{Erased, in_body, as_check, Filling, fills, nothing}
 use Rattle.symbols.specs.Syndromes.{rows}
@@ -9,7 +9,6 @@ use Rattle.fillings.specs.declared.sums.Sums as declared-sums
 use Rattle.fillings.specs.declared.sums.Erased as declared-erased
 use Rattle.fillings.specs.declared.sums.Erased.TheVariants.{Odd, Even, Alpha, Beta}
 use Rattle.fillings.specs.declared.fill.Filling as declared
-use Rattle.fillings.specs.declared.fill.Filling.TheVariants.{One, Two, Nothing}
 
 abbrev pub erased_of : declared-erased.Erased → Erased
 erased_of (Odd s) = in_body true (rows s.first) (rows s.second)
@@ -27,7 +26,7 @@ four_row_sums t =
       second = rows t.syndromes.second;
     }
 
-abbrev pub filling_of : declared.Filling → Filling
-filling_of (One y s) = fills (y ∷ []) (rows s.first) (rows s.second)
-filling_of (Two y z s) = fills (y ∷ z ∷ []) (rows s.first) (rows s.second)
-filling_of Nothing = nothing
+-- of any number of symbols
+abbrev pub filling_of : {N : ℕ} → Option (declared.Filling N) → Filling
+filling_of (Some f) = fills f.symbols (rows f.syndromes.first) (rows f.syndromes.second)
+filling_of None = nothing

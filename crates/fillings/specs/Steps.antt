@@ -1,6 +1,6 @@
 -- The steps of a filling: what a symbol put where 0 stood does to the numbers and to the syndromes, and which symbol that can be.
 -- Assumes nothing.
-use Rattle.std.specs.Prelude.{◌≡◌, Bool, true, false, ◌&&◌, ℕ, ◌+◌, ◌≤◌, eqb, pos, nat_abs, ◌+ℤ◌, ◌-ℤ◌}
+use Rattle.std.specs.Prelude.{◌≡◌, Bool, true, false, ◌&&◌, [], ◌∷◌, Option, Some, None, ℕ, ◌+◌, ◌≤◌, eqb, pos, nat_abs, ◌+ℤ◌, ◌-ℤ◌}
 use Rattle.modular_theory.specs.Level.{level_of, is_zero}
 use Rattle.decoding_theory.specs.Syndromes.{near_syndromes}
 use Rattle.modular.specs.Remainder.{residue}
@@ -13,7 +13,6 @@ use Rattle.fillings.specs.declared.sums.Numbers.{Numbers}
 use Rattle.fillings.specs.declared.sums.Erased.{Erased}
 use Rattle.fillings.specs.declared.sums.Erased.TheVariants.{Odd, Even, Alpha, Beta}
 use Rattle.fillings.specs.declared.fill.Filling.{Filling}
-use Rattle.fillings.specs.declared.fill.Filling.TheVariants.{One, Nothing}
 use Rattle.symbols.specs.Weight.{check_of}
 
 -- the numbers of the sums
@@ -65,5 +64,9 @@ unfoldable pub consistent_numbers : Numbers → Bool
 consistent_numbers m = is_zero m.excess && eqb m.asked.alpha m.arrived.alpha && eqb m.asked.beta m.arrived.beta
 
 -- the symbol y, if the syndromes s are near
-unfoldable pub one_if_near : ℕ → ℕ → ℕ → Syndromes → Filling
-one_if_near q n y s = elim (near_syndromes (four_rows q n) (rows s.first) (rows s.second)) [ true ↦ One y s | false ↦ Nothing ]
+unfoldable pub one_if_near : ℕ → ℕ → ℕ → Syndromes → Option (Filling 1)
+one_if_near q n y s =
+    elim (near_syndromes (four_rows q n) (rows s.first) (rows s.second)) [
+      | true ↦ Some (record { symbols = y ∷ []; syndromes = s })
+      | false ↦ None
+    ]

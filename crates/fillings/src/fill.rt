@@ -9,60 +9,63 @@ use crate::sums::{Erased, Sums, numbers_of, numbers_with, suits, syndromes_with,
 use symbols::Syndromes;
 use syndromes::near;
 
-// What erased symbols are filled with, and the syndromes then.
-#[derive(Clone, Copy)]
-pub enum Filling {
-    One(u8, Syndromes),
-    Two(u8, u8, Syndromes),
-    Nothing,
+// What N erased symbols are filled with, and the syndromes then.
+#[derive(Clone, Copy, PartialEq, Eq, Debug)]
+pub struct Filling<const N: usize> {
+    pub symbols: [u8; N],
+    pub syndromes: Syndromes,
 }
 
 // The symbol y, if the syndromes that it gives are near.
-fn one_if_near(q: u8, n: usize, y: u8, s: Syndromes) -> Filling
+fn one_if_near(q: u8, n: usize, y: u8, s: Syndromes) -> Option<Filling<1>>
     ensures { result ≡ one_if_near q n y s }
 {
     if near(q, n, s.first, s.second) {
-        return Filling::One(y, s);
+        return Some(Filling {
+            symbols: [y],
+            syndromes: s,
+        });
     }
-    Filling::Nothing
+    None
 }
 
 // One erased symbol: what is wanted there, if it makes a codeword.
-pub fn fill_one(q: u8, n: usize, erased: Erased, sums: Sums) -> Filling
+pub fn fill_one(q: u8, n: usize, erased: Erased, sums: Sums) -> Option<Filling<1>>
     ensures { filling_of result ≡ fill_one (four_rows q n) (erased_of erased) (four_row_sums sums) }
 {
     let numbers = numbers_of(sums);
     let y = wanted(q, erased, numbers);
     if !suits(q, erased, y, numbers) {
-        return Filling::Nothing;
+        return None;
     }
     one_if_near(q, n, y, syndromes_with(q, erased, y, sums.syndromes))
 }
 
 // The second of two, once y stands at the first.
-fn fill_second(q: u8, n: usize, first: Erased, second: Erased, y: u8, sums: Sums) -> Filling
+fn fill_second(q: u8, n: usize, first: Erased, second: Erased, y: u8, sums: Sums) -> Option<Filling<1>>
     requires { y < q }
     ensures { filling_of result ≡ fill_one (four_rows q n) (erased_of second) (sums_with (four_rows q n) (erased_of first) y (four_row_sums sums)) }
 {
     let numbers = numbers_with(q, first, y, numbers_of(sums));
     let z = wanted(q, second, numbers);
     if !suits(q, second, z, numbers) {
-        return Filling::Nothing;
+        return None;
     }
     let after = syndromes_with(q, first, y, sums.syndromes);
     one_if_near(q, n, z, syndromes_with(q, second, z, after))
 }
 
 // Two: the first level of the first for which the second can be filled.
-pub fn fill_two(q: u8, n: usize, first: Erased, second: Erased, sums: Sums) -> Filling
+pub fn fill_two(q: u8, n: usize, first: Erased, second: Erased, sums: Sums) -> Option<Filling<2>>
     ensures { filling_of result ≡ fill_two (four_rows q n) (erased_of first) (erased_of second) (four_row_sums sums) }
 {
-    let mut y = 0;
-    while y < q {
-        if let Filling::One(z, s) = fill_second(q, n, first, second, y, sums) {
-            return Filling::Two(y, z, s);
+    for y in 0..q {
+        if let Some(f) = fill_second(q, n, first, second, y, sums) {
+            return Some(Filling {
+                symbols: [y, f.symbols[0]],
+                syndromes: f.syndromes,
+            });
         }
-        y += 1;
     }
-    Filling::Nothing
+    None
 }
