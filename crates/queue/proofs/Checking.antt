@@ -10,6 +10,10 @@ use native.Mathlib.Omega.{arith}
 use lib.Dec.{eqb, leb}
 use lib.ListN.{length, get_or, take}
 use lib.Seq.{take_all}
+use Rattle.std.specs.Prelude.{Err}
+use Rattle.refusals.specs.declared.Refusal.{Refusal}
+use Rattle.refusals.specs.Number.{number_of}
+use Rattle.refusals.proofs.Claims.{none_is_success}
 use Rattle.code_theory.specs.Refusal.{Test, first_refusal, on_success}
 use Rattle.code_theory.proofs.Refusal.{refused_first}
 use Rattle.queue_theory.specs.Lists.{last_of}
@@ -20,8 +24,6 @@ use Rattle.queue_theory.proofs.Lists.{lists_of, fill}
 use Rattle.queue_theory.proofs.Answers.{queue_by}
 use Rattle.queue_theory.proofs.Laws.{length_records}
 use Rattle.queue_theory.proofs.Rule.{found_same}
-use Rattle.soundness.specs.declared.Checked.{Checked}
-use Rattle.soundness.specs.declared.Checked.TheVariants.{WrongLength, Unsound, Sound}
 use Rattle.soundness.specs.Checked.{reached, CheckReport, check_report, checked_report, check_answer}
 
 -- a sound queue with the cell and the number of records that the check gave
@@ -34,12 +36,6 @@ pub record SoundAnswer (s : List ℕ) (k cell n : ℕ) : Type 0 where
 pub record Refused (s : List ℕ) (n : ℕ) : Type 0 where
   pub nonzero : n ≢ 0
   pub answer : (own : List Test) → n ≡ first_refusal (sound_tests s ++ own)
-
--- a check that is not `Sound` has a number that is not 0
-unsound_number : (x : Checked) → ((cell n : ℕ) → x ≢ Sound cell n) → (checked_report x).number ≢ 0
-unsound_number WrongLength h = omega arith
-unsound_number Unsound h = omega arith
-unsound_number (Sound cell n) h = absurd (h cell n refl)
 
 module _ (s : List ℕ) (k : ℕ) where
   -- the report of a sound queue
@@ -67,12 +63,11 @@ module _ (s : List ℕ) (k : ℕ) where
       record { queue = w.0; cell_is = ap CheckReport.cell (e ∙ w.1); records_is = ap CheckReport.records (e ∙ w.1) })
       (λ (r : Refused s (check_answer s k).number). absurd (r.nonzero (ap CheckReport.number (sym e)))) either
 
-  pub told_unsound : (x : Checked) → checked_report x ≡ check_answer s k → ((cell n : ℕ) → x ≢ Sound cell n)
-      → Refused s (checked_report x).number
-  told_unsound x e h =
+  pub told_unsound : (r : Refusal) → checked_report (Err r) ≡ check_answer s k → Refused s (number_of r)
+  told_unsound r e =
       ⊎_elim
-      (λ (w : Queue s × (check_answer s k ≡ found)). absurd (unsound_number x h (ap CheckReport.number (e ∙ w.1))))
-      (λ (r : Refused s (check_answer s k).number). subst (λ (y : CheckReport). Refused s y.number) (sym e) r) either
+      (λ (w : Queue s × (check_answer s k ≡ found)). absurd (none_is_success r (ap CheckReport.number (e ∙ w.1))))
+      (λ (f : Refused s (check_answer s k).number). subst (λ (y : CheckReport). Refused s y.number) (sym e) f) either
 
 -- the cell that the list leads to in k steps is record k's
 at_step : (l : List ℕ) (a k : ℕ) → k ≤ length l → get_or (a ∷ l) k 0 ≡ last_of a (take k l)

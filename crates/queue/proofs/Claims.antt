@@ -4,37 +4,21 @@
 use mathlib.Core.Path.{◌≡◌, refl, sym, ap, ap₂, subst, ◌∙◌}
 use mathlib.Core.List.{List, [], ◌∷◌}
 use Prim.Native.Nat.{ℕ}
-use lib.ListN.{get_or}
+use Rattle.std.specs.Prelude.{Ok, Err}
 use Rattle.queue_theory.specs.Chains.{records}
 use Rattle.queue_theory.specs.Sound.{Queue}
 use Rattle.queue_theory.specs.Operations.{format_queue, enqueue_queue, dequeue_queue}
 use Rattle.queue_theory.specs.Model.{Call, enqueue, peek, dequeue, Reply, reply, queue_reply, queue_after, replies, left}
 use Rattle.queue_theory.proofs.Rule.{format_succeeds, list_rule}
-use Rattle.queue.specs.declared.Answer.{Answer}
-use Rattle.queue.specs.declared.Answer.TheVariants.{Done, NoProfile, Length, Symbol, QueueLength, Unsound, BoxNumber, Full, NoRecord}
-use Rattle.queue.specs.Answer.{number_of}
+use Rattle.refusals.proofs.Claims.{numbers_differ as refusals_differ, none_is_success}
 use Rattle.queue.proofs.Refusals.{refusals}
 use Rattle.queue.specs.Claims.{NumbersDiffer, Run, over, enqueues, peeks, dequeues, RunsExist, ContractsListRule, Claims}
 
--- the answer that has a number; no answer has 4 or 9
-answer_of : ℕ → Answer
-answer_of n =
-    get_or (Done ∷ NoProfile ∷ Length ∷ Symbol ∷ Done ∷ QueueLength ∷ Unsound ∷ BoxNumber ∷ Full ∷ Done ∷ NoRecord ∷ []) n Done
-
-answer_of_lem : (a : Answer) → answer_of (number_of a) ≡ a
-unfolding answer_of
-answer_of_lem Done = refl
-answer_of_lem NoProfile = refl
-answer_of_lem Length = refl
-answer_of_lem Symbol = refl
-answer_of_lem QueueLength = refl
-answer_of_lem Unsound = refl
-answer_of_lem BoxNumber = refl
-answer_of_lem Full = refl
-answer_of_lem NoRecord = refl
-
 numbers_differ : NumbersDiffer
-numbers_differ a a' e = sym (answer_of_lem a) ∙ ap answer_of e ∙ answer_of_lem a'
+numbers_differ (Ok u) (Ok v) e = refl
+numbers_differ (Ok u) (Err r) e = absurd (none_is_success r (sym e))
+numbers_differ (Err r) (Ok v) e = absurd (none_is_success r e)
+numbers_differ (Err r) (Err r') e = ap Err (refusals_differ r r' e)
 
 -- the replies and the bytes left that the definitions have
 record Defined (s : List ℕ) (calls : List Call) (rs : List Reply) (t : List ℕ) : Type 0 where

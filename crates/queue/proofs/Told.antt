@@ -1,19 +1,17 @@
--- What a `let else` on an answer tells of its number.
+-- What a `?` hands on.
 -- Assumes nothing.
-use mathlib.Core.Path.{refl}
-use mathlib.Core.Logic.{◌≢◌}
-use native.Mathlib.Omega.{arith}
-use Rattle.queue.specs.declared.Answer.{Answer}
-use Rattle.queue.specs.declared.Answer.TheVariants.{Done, NoProfile, Length, Symbol, QueueLength, Unsound, BoxNumber, Full, NoRecord}
-use Rattle.queue.specs.Answer.{number_of}
+use mathlib.Core.Path.{◌≡◌, refl, ap, ◌∙◌}
+use Rattle.std.specs.Prelude.{Option, Some, None, Result, Err, IsErrAnd}
+use Rattle.std.specs.Option.{ok_or}
+use Rattle.std.proofs.lemmas.Result.{err_from_is_err_and}
+use Rattle.refusals.specs.declared.Refusal.{Refusal}
+use Rattle.refusals.specs.Number.{number_of, answer_number}
 
-pub told_refused : (a : Answer) → a ≢ Done → number_of a ≢ 0
-told_refused Done h = absurd (h refl)
-told_refused NoProfile h = omega arith
-told_refused Length h = omega arith
-told_refused Symbol h = omega arith
-told_refused QueueLength h = omega arith
-told_refused Unsound h = omega arith
-told_refused BoxNumber h = omega arith
-told_refused Full h = omega arith
-told_refused NoRecord h = omega arith
+-- the refusal that it was
+pub handed_on : (r : Result (Unit {0}) Refusal) (e : Refusal) → IsErrAnd r (λ y. y ≡ e) → answer_number r ≡ number_of e
+handed_on r e h = let p = err_from_is_err_and r h in ap answer_number p.1 ∙ ap number_of p.2
+
+-- the refusal that stands for none
+pub none_of : {A : Type 0} (o : Option A) (x e : Refusal) → ok_or o x ≡ Err e → (o ≡ None) × (e ≡ x)
+none_of None x e h = (refl, cc)
+none_of (Some v) x e h = cc

@@ -1,6 +1,7 @@
 -- What is claimed of the open functions, each claim a named type, all of them fields of one record. proofs/Claims.antt has a term of it.
 -- Assumes nothing.
-use Rattle.std.specs.Prelude.{◌≡◌, ◌≢◌, false, List, [], ◌∷◌, ℕ, T, eqb, length}
+use Rattle.std.specs.Prelude.{◌≡◌, ◌≢◌, false, List, [], ◌∷◌, ℕ, T, eqb, length, Result}
+use Rattle.refusals.specs.declared.Refusal.{Refusal}
 use Rattle.code_theory.specs.Parameters.{codeword_length}
 use Rattle.code_theory.specs.Component.{is_received}
 use Rattle.code_theory.specs.Profiles.{is_profile, profile}
@@ -9,13 +10,12 @@ use Rattle.queue_theory.specs.Chains.{records}
 use Rattle.queue_theory.specs.Sound.{is_box, sound, Queue}
 use Rattle.queue_theory.specs.Operations.{cell_of}
 use Rattle.queue_theory.specs.Model.{Call, enqueue, peek, dequeue, Reply, reply, list_reply, list_after, replies, left}
-use Rattle.queue.specs.declared.Answer.{Answer}
 use Rattle.queue_theory.specs.Allowed.{FormatAllows, EnqueueAllows, PeekAllows, DequeueAllows}
 use Rattle.queue.specs.Answer.{number_of}
 
 -- No two answers have the same number.
 abbrev pub NumbersDiffer : Type 0
-NumbersDiffer = (a a' : Answer) → number_of a ≡ number_of a' → a ≡ a'
+NumbersDiffer = (a a' : Result (Unit {0}) Refusal) → number_of a ≡ number_of a' → a ≡ a'
 
 -- A run of calls on the bytes s, each answered in a way that its contract allows: the calls, the replies, and the bytes that are left.
 pub data Run : List ℕ → List Call → List Reply → List ℕ → Type 0 where

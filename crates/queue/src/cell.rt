@@ -12,7 +12,7 @@ pub(crate) fn store(queue: &mut [u8], last: usize, boxno: u8, profile: u8, word:
     ensures { queue.new ≡ enqueued queue.old (record_of boxno profile word.now) }
 {
     let first = queue[1];
-    let at = first as usize * CELL_SIZE;
+    let at = usize::from(first) * CELL_SIZE;
     let end = last * CELL_SIZE;
     queue[1] = queue[at];
     queue[at] = 0;

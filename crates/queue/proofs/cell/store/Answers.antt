@@ -99,5 +99,6 @@ returns c =
     let a = (goal.at.returns c).Start in
     let same = c.copy.auto.to in
     let long : length c.copy.new.to ≡ length (W a) = omega (arith, fit a) in
-    stored a c.copy.new.to (c.copy.ensures ∙ copied_same _ (W a) (sym same ∙ long))
-    ∙ ap (λ (z : ℕ). set_body (links (Q a) (X a) z) (X a) (record_of (B a) (P a) (W a))) c.requires.1
+    rw c.from-at.ensures
+    (stored a c.copy.new.to (c.copy.ensures ∙ copied_same _ (W a) (sym same ∙ long))
+    ∙ ap (λ (z : ℕ). set_body (links (Q a) (X a) z) (X a) (record_of (B a) (P a) (W a))) c.requires.1)
