@@ -1,7 +1,6 @@
 -- The four rows moved by a column, given by its digits, and the syndromes so moved.
 -- Assumes nothing.
 use mathlib.Core.Path.{◌≡◌, sym, ap, ap₂, ◌∙◌}
-use mathlib.Core.Logic.{◌≢◌}
 use mathlib.Core.Bool.{true, false}
 use mathlib.Core.List.{List, [], ◌∷◌}
 use Prim.Native.Nat.{ℕ, zero, suc, ◌+◌, ◌-◌, ◌*◌, ◌/◌, ◌%◌, ◌≤◌, ◌<◌}
@@ -23,7 +22,7 @@ use Rattle.syndromes.specs.Rows.{FourRows, rows_of, Moved}
 use Rattle.syndromes.proofs.Moving.{moved_some}
 use Rattle.locating_theory.specs.ErrorPosition.{near_with}
 
-module _ (t : Row) (v : Valid t) (s : Syndrome) (w : FourRows t (rows s)) (f a : ℕ) (some : a ≢ 0) (within : a ≤ t.n) {c : Syndrome}
+module _ (t : Row) (v : Valid t) (s : Syndrome) (w : FourRows t (rows s)) (f a : ℕ) (some : 1 ≤ a) (within : a ≤ t.n) {c : Syndrome}
     (column : rows c ≡ a % t.q ∷ a / t.q % t.q ∷ a / t.q / t.q % t.q ∷ 1 ∷ []) {r : Syndrome}
     (e : r ≡ syndrome_plus t.q f c s) where
   -- row j of the column

@@ -2,14 +2,14 @@
 -- Assumes nothing.
 use mathlib.Core.Path.{◌≡◌, refl, sym, ap, ◌∙◌}
 use mathlib.Core.Logic.{◌⊎◌, inl, inr}
-use mathlib.Core.Bool.{Bool, true, false}
+use mathlib.Core.Bool.{Bool, true}
 use Prim.Native.Nat.{ℕ, zero, suc, ◌+◌, ◌-◌, ◌*◌, ◌%◌, ◌≤◌, ◌<◌}
-use native.Mathlib.Nat.{mod-lt, mod-eq_of_lt, mul-zero, zero-mod, zero-add, one-mul, not-le_of_lt}
+use native.Mathlib.Nat.{mod-lt, mod-eq_of_lt, mul-zero, zero-mod, zero-add, one-mul}
 use native.Mathlib.Omega.{arith}
-use lib.Dec.{T, ltb, ltb→lt, lt→ltb}
+use lib.Dec.{T, ltb, ltb→lt}
 use lib.ListN.{get_or}
 use borrow.Author.Tests.{lt-ltb, le-ltb}
-use Rattle.modular_theory.proofs.Search.{same_test, all_at, all_of, fails, holds}
+use Rattle.modular_theory.proofs.Search.{all_at, holds}
 use Rattle.code_theory.proofs.Columns.{q_positive, r_large}
 use Rattle.decoding_theory.specs.Syndromes.{tabulate, from_digits, column_position}
 use Rattle.modular.specs.Remainder.{residue}
@@ -115,21 +115,6 @@ module _ (t : Row) (v : Valid t) (s : Syndrome) {mid high : ℕ} (m : mid ≡ di
 module _ (q : ℕ) (s : Syndrome) where
   abbrev is_level : ℕ → Bool
   is_level j = ltb (get_or (rows s) j 0) q
-
-  pub not_levels : (j : ℕ) → j < 4 → q ≤ get_or (rows s) j 0 → false ≡ level_rows q (rows s)
-  unfolding level_rows
-  not_levels j l h = sym (fails (λ t. not-le_of_lt (ltb→lt _ _ (all_at is_level 4 t j l)) h))
-
-  pub levels_last : s.low < q → s.mid < q → s.high < q → ltb s.ones q ≡ level_rows q (rows s)
-  unfolding level_rows
-  levels_last l m h = same_test _ _ (λ t. all_of is_level 4 (at t)) (λ t. all_at is_level 4 t 3 (omega arith))
-    where
-      at : T (ltb s.ones q) → (j : ℕ) → j < 4 → T (ltb (get_or (rows s) j 0) q)
-      at t zero k = lt→ltb _ _ l
-      at t (suc zero) k = lt→ltb _ _ m
-      at t (suc (suc zero)) k = lt→ltb _ _ h
-      at t (suc (suc (suc zero))) k = t
-      at t (suc (suc (suc (suc j)))) k = absurd (omega arith)
 
   below_levels : T (level_rows q (rows s)) → (j : ℕ) → j < 4 → get_or (rows s) j 0 < q
   unfolding level_rows

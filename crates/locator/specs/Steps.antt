@@ -1,11 +1,12 @@
 -- What the steps to the position of an error promise each other.
 -- Assumes nothing.
-use Rattle.std.specs.Prelude.{◌≡◌, Bool, true, false, List, ℕ, ◌+◌, ◌%◌, ◌≤◌, ◌<◌, eqb, ltb, get_or, ℤ}
+use Rattle.std.specs.Prelude.{◌≡◌, Bool, true, false, List, ℕ, ◌+◌, ◌%◌, ◌≤◌, ◌<◌, eqb, ltb, get_or, ℤ, Option, Some, None}
 use Rattle.modular_theory.specs.Search.{all_below}
 use Rattle.code_theory.specs.Parameters.{Parameters}
 use Rattle.decoding_theory.specs.Syndromes.{times}
-use Rattle.locating_theory.specs.ErrorPosition.{gain_without}
-use Rattle.locating_theory.specs.Candidates.{inverse_of, located}
+use Rattle.decoding_theory.specs.Decoded.{position_count}
+use Rattle.locating_theory.specs.ErrorPosition.{gain_without, error_index}
+use Rattle.locating_theory.specs.Candidates.{inverse_of}
 use Rattle.modular.specs.Remainder.{residue}
 use Rattle.profiles.specs.declared.row.Row.{Row}
 use Rattle.profiles.specs.Row.{parameters}
@@ -16,10 +17,10 @@ pub record Gain (t : Row) (e : ℤ) (g : ℕ) : Type 0 where
   pub is : g ≡ gain_without (parameters t) e
   pub upto : g ≤ t.q
 
--- i is the inverse of g mod q, or q
-pub record Inverse (q g i : ℕ) : Type 0 where
-  pub is : i ≡ inverse_of q g
-  pub upto : i ≤ q
+-- i is the inverse of g mod q, if there is one
+abbrev pub Inverse : ℕ → ℕ → Option ℕ → Type 0
+Inverse q g (Some i) = (i ≡ inverse_of q g) × (i < q)
+Inverse q g None = q ≤ inverse_of q g
 
 -- a digit row that only a profile of `fewest` rows or more has
 abbrev pub digit_row : ℕ → ℕ → ℕ → ℕ
@@ -38,7 +39,7 @@ pub record ReducedRows (t : Row) (s s' : List ℕ) : Type 0 where
 abbrev pub ones_vanish : Row → Bool → ℕ → ℕ → Bool
 ones_vanish t b g s = eqb (residue t.q (s + times (parameters t) true b g)) 0
 
--- k is the index of the error by the two candidates, in one order of them
-pub record LocatedIndex (p : Parameters) (b : Bool) (e : ℤ) (S S' : List ℕ) (k : ℕ) : Type 0 where
-  pub order : Bool
-  pub is : k ≡ located order p b e S S'
+-- k is the index of the error, if it has one of the parity
+abbrev pub LocatedIndex : Parameters → Bool → ℤ → List ℕ → List ℕ → Option ℕ → Type 0
+LocatedIndex p b e S S' (Some k) = (k ≡ error_index p b e S S') × (k < position_count p b)
+LocatedIndex p b e S S' None = position_count p b ≤ error_index p b e S S'

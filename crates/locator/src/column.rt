@@ -29,21 +29,20 @@ fn column(q: u8, a: u8) -> Syndrome
 }
 
 // A syndrome with f times column a added. There is no column 0 and none past n.
+#[tactic(auto, using(syndromes::proofs::Moving::moved_still))]
 fn moved(row: Row, f: u8, a: usize, s: Syndrome) -> Syndrome
     requires { Valid row × FourRows row (rows s) }
     ensures { Moved row f a (rows s) (rows result) }
 {
-    if a == 0 {
-        return s;
+    if 1 <= a && a <= row.n {
+        syndrome_plus(row.q, f, column(row.q, a as u8), s)
+    } else {
+        s
     }
-    if row.n < a {
-        return s;
-    }
-    let narrow = a as u8;
-    syndrome_plus(row.q, f, column(row.q, narrow), s)
 }
 
 // Whether the syndromes are near once the components gain g at index k of the parity.
+#[tactic(auto, using(syndromes::proofs::FourRows::near_same, crate::proofs::Moving::near_odd, crate::proofs::Moving::near_even))]
 pub(crate) fn near_with(
     row: Row,
     odd: bool,
@@ -59,9 +58,10 @@ pub(crate) fn near_with(
     if odd {
         let a = moved(row, less, k + 1, first);
         let b = moved(row, g, k, second);
-        return near(row.q, row.n, a, b);
+        near(row.q, row.n, a, b)
+    } else {
+        let a = moved(row, g, k + 1, first);
+        let b = moved(row, less, k + 1, second);
+        near(row.q, row.n, a, b)
     }
-    let a = moved(row, g, k + 1, first);
-    let b = moved(row, less, k + 1, second);
-    near(row.q, row.n, a, b)
 }

@@ -8,29 +8,22 @@ use modular::negative;
 use profiles::{Edition, Row};
 
 // Whether e is an error (02, T-02): from -(q - 1) to q - 1, and never 0.
+#[tactic(auto, unfolding(locating_theory::specs::ErrorPosition::is_error))]
 pub(crate) fn is_error(q: u8, e: i32) -> bool
     ensures { result ≡ is_error q e }
 {
-    if e == 0 {
-        return false;
-    }
-    let levels = q as i32;
-    if e < 0 {
-        return 0 - levels < e;
-    }
-    e < levels
+    e != 0 && e.unsigned_abs() < u32::from(q)
 }
 
 // What the components gain where the error e is taken out of a symbol: in the edition of 2018 they lose it (02, T-03).
+#[tactic(auto, using(crate::proofs::Erring::lack_upto, crate::proofs::Erring::gain_13, crate::proofs::Erring::gain_18))]
 pub(crate) fn gain_without(row: Row, e: i32) -> u8
     requires { Valid row }
     ensures { Gain row e result }
 {
     let lack = negative(row.q, e);
-    let turned = row.q - lack;
-    let edition = row.edition;
-    match edition {
+    match row.edition {
         Edition::Of2013 => lack,
-        Edition::Of2018 => turned,
+        Edition::Of2018 => row.q - lack,
     }
 }

@@ -7,4 +7,4 @@ mod column;
 mod error;
 mod position;
 
-pub use position::{Location, error_position};
+pub use position::error_position;

@@ -1,27 +1,23 @@
 // The position of an error.
-ghost use Rattle.std.specs.Prelude.{◌≡◌, ◌≤◌};
+ghost use Rattle.std.specs.Prelude.{◌≡◌, T, ◌+◌, ◌≤◌};
+ghost use Rattle.modular_theory.specs.Residue.{Prime};
 ghost use Rattle.decoding_theory.specs.Decoded.{position_count};
+ghost use Rattle.decoding_theory.specs.Syndromes.{index};
 ghost use Rattle.profiles.specs.Edition.{edition_is};
 ghost use Rattle.profiles.specs.Row.{Valid, parameters};
 ghost use Rattle.symbols.specs.Syndromes.{rows};
 ghost use Rattle.syndromes.specs.Rows.{FourRows, rows_of};
-ghost use Rattle.locating_theory.specs.Candidates.{holds_with, position_of};
-ghost use Rattle.locator.specs.Location.{location_of, ErrorPositionAllows};
+ghost use Rattle.locating_theory.specs.Candidates.{holds_with};
+ghost use Rattle.locating_theory.specs.ErrorPosition.{is_error};
+ghost use Rattle.locator.specs.Location.{ErrorPositionAllows};
 ghost use Rattle.locator.specs.Steps.{digit_row, level_rows, ReducedRows, ones_vanish, LocatedIndex};
 
-use crate::candidate::{ZERO, candidate, inverse};
+use crate::candidate::{candidate, inverse};
 use crate::column::near_with;
 use crate::error::{gain_without, is_error};
-use profiles::{Edition, Lookup, Row, row_in};
+use profiles::{Edition, Row, row_in};
 use symbols::Syndrome;
 use syndromes::{plus_multiple, syndrome_plus};
-
-// A position of w, from 1, or none.
-#[derive(Clone, Copy)]
-pub enum Location {
-    At(usize),
-    Nowhere,
-}
 
 // A digit row that profiles of fewer than `fewest` rows do not have: there it is 0.
 fn digit_row(r: usize, fewest: usize, x: u8) -> u8
@@ -31,19 +27,11 @@ fn digit_row(r: usize, fewest: usize, x: u8) -> u8
 }
 
 // Whether every row is a level.
+#[tactic(auto, unfolding(crate::specs::Steps::level_rows))]
 fn has_levels(q: u8, s: Syndrome) -> bool
     ensures { result ≡ level_rows q (rows s) }
 {
-    if q <= s.low {
-        return false;
-    }
-    if q <= s.mid {
-        return false;
-    }
-    if q <= s.high {
-        return false;
-    }
-    s.ones < q
+    s.low < q && s.mid < q && s.high < q && s.ones < q
 }
 
 // The rows of a syndrome as levels, without the digit rows that the profile does not have. Those of a word are levels already.
@@ -58,9 +46,10 @@ fn reduced(row: Row, s: Syndrome) -> Syndrome
         ones: s.ones,
     };
     if has_levels(row.q, kept) {
-        return kept;
+        kept
+    } else {
+        syndrome_plus(row.q, 1, kept, Syndrome::ZERO)
     }
-    syndrome_plus(row.q, 1, kept, ZERO)
 }
 
 // How many positions the parity has.
@@ -68,21 +57,16 @@ fn position_count(row: Row, odd: bool) -> usize
     requires { Valid row }
     ensures { result ≡ position_count (parameters row) odd }
 {
-    if odd {
-        return row.n + 1;
-    }
-    row.n
+    if odd { row.n + 1 } else { row.n }
 }
 
 // Whether index k is one of the parity, and the syndromes are near once the components gain g there.
+#[tactic(auto, unfolding(locating_theory::specs::Candidates::holds_with))]
 fn holds_at(row: Row, odd: bool, g: u8, k: usize, first: Syndrome, second: Syndrome) -> bool
     requires { Valid row × FourRows row (rows first) × FourRows row (rows second) × (g ≤ row.q) }
     ensures { result ≡ holds_with (parameters row) odd g (rows_of row (rows first)) (rows_of row (rows second)) k }
 {
-    if position_count(row, odd) <= k {
-        return false;
-    }
-    near_with(row, odd, g, k, first, second)
+    k < position_count(row, odd) && near_with(row, odd, g, k, first, second)
 }
 
 // Whether the first component's candidate is tested before the second's: whether its row of ones, s, is 0 once the components gain g, as
@@ -92,50 +76,39 @@ fn begins_with_first(row: Row, odd: bool, g: u8, s: u8) -> bool
     requires { g ≤ row.q }
     ensures { result ≡ ones_vanish row odd g s }
 {
-    if odd {
-        return plus_multiple(row.q, row.q - g, 1, s) == 0;
-    }
-    plus_multiple(row.q, g, 1, s) == 0
+    let gained = if odd { row.q - g } else { g };
+    plus_multiple(row.q, gained, 1, s) == 0
 }
 
-// The index of the error, by the two candidates in turn: the one tested last is worked out only where the other does not hold. The number
-// of indices where neither does.
-fn error_index(row: Row, odd: bool, error: i32, first: Syndrome, second: Syndrome) -> usize
-    requires { Valid row × FourRows row (rows first) × FourRows row (rows second) }
+// The index of the error, by the two candidates in turn: the one tested last is worked out only where the other does not hold.
+fn error_index(row: Row, odd: bool, error: i32, first: Syndrome, second: Syndrome) -> Option<usize>
+    requires { Valid row × Prime row.q × T (is_error row.q error) × FourRows row (rows first) × FourRows row (rows second) }
     ensures { LocatedIndex (parameters row) odd error (rows_of row (rows first)) (rows_of row (rows second)) result }
 {
     let g = gain_without(row, error);
-    let i = inverse(row.q, g);
+    let i = inverse(row.q, g)?;
     let first_before = begins_with_first(row, odd, g, first.ones);
     let k = candidate(row, first_before, odd, i, first, second);
     if holds_at(row, odd, g, k, first, second) {
-        return k;
+        return Some(k);
     }
     let l = candidate(row, !first_before, odd, i, first, second);
     if holds_at(row, odd, g, l, first, second) {
-        return l;
+        return Some(l);
     }
-    position_count(row, odd)
+    None
 }
 
-// The position of index k of the parity; none past the last.
-fn location_of(row: Row, odd: bool, k: usize) -> Location
-    requires { Valid row }
-    ensures { location_of result ≡ position_of (parameters row) odd k }
+// The position of index k of the parity.
+fn position_of(odd: bool, k: usize) -> usize
+    requires { k ≤ 48 }
+    ensures { result ≡ index odd k + 1 }
 {
-    if position_count(row, odd) <= k {
-        return Location::Nowhere;
-    }
-    if odd {
-        let first = 2 * k + 1;
-        return Location::At(first);
-    }
-    let second = 2 * k + 2;
-    Location::At(second)
+    if odd { 2 * k + 1 } else { 2 * k + 2 }
 }
 
 // 02, T-09: where the error is in w, in the edition and the profile of that number; `odd` where the check sum over the odd positions
-// disagrees, not `odd` where that over the even ones does. Nowhere where no position of w explains the syndromes, where the number is no
+// disagrees, not `odd` where that over the even ones does. None where no position of w explains the syndromes, where the number is no
 // error, and where that of the profile is none.
 pub fn error_position(
     edition: Edition,
@@ -144,15 +117,13 @@ pub fn error_position(
     error: i32,
     first: Syndrome,
     second: Syndrome,
-) -> Location
+) -> Option<usize>
     ensures { ErrorPositionAllows (edition_is edition) profile odd error first second result }
 {
-    let Lookup::Found(row) = row_in(edition, profile) else {
-        return Location::Nowhere;
-    };
+    let row = row_in(edition, profile)?;
     if !is_error(row.q, error) {
-        return Location::Nowhere;
+        return None;
     }
-    let k = error_index(row, odd, error, reduced(row, first), reduced(row, second));
-    location_of(row, odd, k)
+    let k = error_index(row, odd, error, reduced(row, first), reduced(row, second))?;
+    Some(position_of(odd, k))
 }

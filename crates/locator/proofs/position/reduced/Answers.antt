@@ -6,16 +6,7 @@ use Rattle.locator.proofs.position.reduced.Goals as goal
 
 pub returns-then-has_levels : goal.returns-then-has_levels
 returns-then-has_levels c =
-    let tested = c.before in
-    let high = tested.before in
-    let mid = high.before in
-    let start = mid.before in
-    levels_kept _ start.requires start.args.s mid.digit_row.ensures high.digit_row-2.ensures tested.has_levels.ensures
-    c.if-has_levels.true
+    levels_kept _ c.requires c.args.s c.digit_row.ensures c.digit_row-2.ensures c.has_levels.ensures c.if-has_levels.true
 
-pub returns : goal.returns
-returns c =
-    let high = c.before.before.before in
-    let mid = high.before in
-    let start = mid.before in
-    reduced_is _ start.requires start.args.s mid.digit_row.ensures high.digit_row-2.ensures c.syndrome_plus.ensures
+pub returns-else-has_levels : goal.returns-else-has_levels
+returns-else-has_levels c = reduced_is _ c.requires c.args.s c.digit_row.ensures c.digit_row-2.ensures c.syndrome_plus.ensures
