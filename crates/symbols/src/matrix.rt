@@ -14,14 +14,15 @@ fn next(q: u8, d: [u8; 3]) -> [u8; 3]
 {
     let [first, second, third] = d;
     if first + 1 < q {
-        [first + 1, second, third]
-    } else if second + 1 < q {
-        [0, second + 1, third]
-    } else if third + 1 < q {
-        [0, 0, third + 1]
-    } else {
-        [0, 0, 0]
+        return [first + 1, second, third];
     }
+    if second + 1 < q {
+        return [0, second + 1, third];
+    }
+    if third + 1 < q {
+        return [0, 0, third + 1];
+    }
+    [0, 0, 0]
 }
 
 // How many positions have a column.

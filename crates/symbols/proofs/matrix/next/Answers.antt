@@ -14,6 +14,6 @@ pub returns-then-third-q : goal.returns-then-third-q
 returns-then-third-q c i is =
     next_third (omega (arith, c.requires.first)) _ i is c.if-first-q.false c.if-second-q.false c.if-third-q.true
 
-pub returns-else-third-q : goal.returns-else-third-q
-returns-else-third-q c i is =
+pub returns : goal.returns
+returns c i is =
     next_none (omega (arith, c.requires.first)) _ i is c.if-first-q.false c.if-second-q.false c.if-third-q.false
