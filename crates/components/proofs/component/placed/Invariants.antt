@@ -7,4 +7,3 @@ use Rattle.components.proofs.component.placed.Given as goal
 
 abbrev pub invariant-loop-position : goal.invariant-loop-position
 invariant-loop-position l = Pair (parameters l.fn.row) l.first l.second l.x l.power l.next l.position
-
