@@ -1,115 +1,83 @@
 // The calls that a line can name.
-ghost use Rattle.std.specs.Prelude.{◌≤◌};
+ghost use Rattle.std.specs.Prelude.{◌≤◌, length};
 
-use crate::text::{after, digest, fill, parse_number, print, unhex};
+use crate::text::{number, report, unhex};
 
-// The smaller of two.
-fn smaller(a: usize, b: usize) -> usize
-    ensures { (result ≤ a) × (result ≤ b) }
-{
-    if a < b { a } else { b }
-}
+// What a buffer holds before a call.
+const UNTOUCHED: u8 = 170;
 
 // A new buffer: answers its size.
-fn renew(line: &[u8], space: &mut [u8]) -> usize {
-    let size = smaller(parse_number(line, 2).value, space.len());
-    blank(&mut space[0..size]);
+fn renew(rt: &impl Print, fields: &[u8], space: &mut [u8]) -> usize
+    ensures { result ≤ length space.old }
+{
+    let (size, _) = number(fields);
+    let size = size.min(space.len());
+    let queue = &mut space[..size];
+    queue.fill(UNTOUCHED);
+    report(rt, Ok(()), queue, &[]);
     size
 }
 
-fn blank(queue: &mut [u8]) {
-    fill(queue);
-    print(0, digest(queue), 1);
+fn format(rt: &impl Print, queue: &mut [u8]) {
+    let answer = queue::format(queue);
+    report(rt, answer, queue, &[]);
 }
 
-fn format(queue: &mut [u8]) {
-    let a = queue::format(queue);
-    print(queue::number(a), digest(queue), 1);
+fn enqueue(rt: &impl Print, fields: &[u8], queue: &mut [u8]) {
+    let mut word = [0; 128];
+    let (boxno, fields) = number(fields);
+    let (profile, fields) = number(fields);
+    let n = unhex(fields, &mut word);
+    let answer = queue::enqueue(queue, boxno, profile, &word[..n]);
+    report(rt, answer, queue, &[]);
 }
 
-fn enqueue(line: &[u8], queue: &mut [u8]) {
-    let mut word = [0u8; 128];
-    let b = parse_number(line, 2);
-    let boxno = b.value;
-    let p = parse_number(line, after(b));
-    let profile = p.value;
-    let n = smaller(unhex(line, after(p), &mut word), 128);
-    let a = queue::enqueue(queue, boxno, profile, &word[0..n]);
-    print(queue::number(a), digest(queue), 1);
+fn peek(rt: &impl Print, fields: &[u8], queue: &[u8]) {
+    let mut space = [UNTOUCHED; 208];
+    let (record, fields) = number(fields);
+    let (size, _) = number(fields);
+    let out = &mut space[..size.min(208)];
+    let answer = queue::peek(queue, record, out);
+    report(rt, answer, queue, out);
 }
 
-fn peek(queue: &[u8], record: usize, out: &mut [u8]) {
-    fill(out);
-    let a = queue::peek(queue, record, out);
-    print(queue::number(a), digest(queue), digest(out));
-}
-
-fn dequeue(queue: &mut [u8], out: &mut [u8]) {
-    fill(out);
-    let a = queue::dequeue(queue, out);
-    print(queue::number(a), digest(queue), digest(out));
-}
-
-fn peek_line(line: &[u8], queue: &[u8]) {
-    let mut space = [0u8; 208];
-    let k = parse_number(line, 2);
-    let record = k.value;
-    let n = smaller(parse_number(line, after(k)).value, 208);
-    peek(queue, record, &mut space[0..n]);
-}
-
-fn dequeue_line(line: &[u8], queue: &mut [u8]) {
-    let mut space = [0u8; 208];
-    let n = smaller(parse_number(line, 2).value, 208);
-    dequeue(queue, &mut space[0..n]);
+fn dequeue(rt: &impl Print, fields: &[u8], queue: &mut [u8]) {
+    let mut space = [UNTOUCHED; 208];
+    let (size, _) = number(fields);
+    let out = &mut space[..size.min(208)];
+    let answer = queue::dequeue(queue, out);
+    report(rt, answer, queue, out);
 }
 
 // Writes one byte, if there is such a byte.
-fn write(queue: &mut [u8], at: usize, value: u8) {
-    if at < queue.len() {
-        queue[at] = value;
+fn poke(rt: &impl Print, fields: &[u8], queue: &mut [u8]) {
+    let (at, fields) = number(fields);
+    let (value, _) = number(fields);
+    if let Some(byte) = queue.get_mut(at) {
+        *byte = (value % 256) as u8;
     }
-}
-
-fn poke(line: &[u8], queue: &mut [u8]) {
-    let i = parse_number(line, 2);
-    let at = i.value;
-    let value = parse_number(line, after(i)).value;
-    write(queue, at, (value % 256) as u8);
-    print(0, digest(queue), 1);
-}
-
-// Runs the call of a line on a queue.
-fn call(line: &[u8], kind: u8, queue: &mut [u8]) {
-    if kind == b'F' {
-        format(queue);
-        return;
-    }
-    if kind == b'E' {
-        enqueue(line, queue);
-        return;
-    }
-    if kind == b'L' {
-        peek_line(line, queue);
-        return;
-    }
-    if kind == b'T' {
-        dequeue_line(line, queue);
-        return;
-    }
-    poke(line, queue);
+    report(rt, Ok(()), queue, &[]);
 }
 
 // Runs a line on the first `size` bytes; answers the size after it.
-pub(crate) fn run(line: &[u8], space: &mut [u8], size: usize) -> usize {
-    if line.len() == 0 {
+pub(crate) fn run(rt: &impl Print, line: &[u8], space: &mut [u8], size: usize) -> usize
+    requires { size ≤ length space.old }
+    ensures { result ≤ length space.old }
+{
+    let Some((kind, rest)) = line.split_first() else {
         return size;
+    };
+    let fields = rest.get(1..).unwrap_or(&[]);
+    if *kind == b'N' {
+        return renew(rt, fields, space);
     }
-    let kind = line[0];
-    if kind == b'N' {
-        return renew(line, space);
+    let queue = &mut space[..size];
+    match *kind {
+        b'F' => format(rt, queue),
+        b'E' => enqueue(rt, fields, queue),
+        b'L' => peek(rt, fields, queue),
+        b'T' => dequeue(rt, fields, queue),
+        _ => poke(rt, fields, queue),
     }
-    let used = smaller(size, space.len());
-    call(line, kind, &mut space[0..used]);
-    used
+    size
 }

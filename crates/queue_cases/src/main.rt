@@ -5,99 +5,58 @@
 mod calls;
 mod text;
 
+ghost use Rattle.std.specs.Prelude.{◌≤◌};
+
 use std::io::{Read, Stdin};
 
-// Where the run stands: the bytes of the line so far, the size of the queue, and whether there may be more input.
-#[derive(Clone, Copy)]
+// Where the run stands: the bytes of the line so far and the queue, each in the front of its array.
+#[derive(Drop)]
 struct Session {
+    line: [u8; 4096],
     held: usize,
+    queue: [u8; 65536],
     size: usize,
-    more: bool,
+    ghost held_fits: { held ≤ 4096 },
+    ghost size_fits: { size ≤ 65536 },
 }
 
-// Takes one byte of input: a line's end runs its call, and any other byte is added to the line, if there is room.
-fn take(byte: u8, line: &mut [u8], queue: &mut [u8], session: Session) -> Session {
-    let held = session.held;
-    let size = session.size;
-    if byte == 10 {
-        if held <= line.len() {
-            let next = calls::run(&line[0..held], queue, size);
-            return Session {
-                held: 0,
-                size: next,
-                more: true,
-            };
-        }
-        return Session {
+impl Session {
+    fn new() -> Session {
+        Session {
+            line: io::buffer(),
             held: 0,
-            size,
-            more: true,
-        };
+            queue: io::large_buffer(),
+            size: 0,
+        }
     }
-    if held < line.len() {
-        line[held] = byte;
-        return Session {
-            held: held + 1,
-            size,
-            more: true,
-        };
-    }
-    Session {
-        held,
-        size,
-        more: true,
+
+    // Takes one byte of input: a line's end runs its call, and any other byte is added to the line, if there is room.
+    fn take(&mut self, rt: &impl Print, byte: u8) {
+        if byte == b'\n' {
+            self.size = calls::run(rt, &self.line[..self.held], &mut self.queue, self.size);
+            self.held = 0;
+        } else if self.held < self.line.len() {
+            self.line[self.held] = byte;
+            self.held += 1;
+        }
     }
 }
 
-// Takes some bytes of input.
-fn feed(bytes: &[u8], line: &mut [u8], queue: &mut [u8], session: Session) -> Session {
-    let mut now = session;
-    let mut i = 0;
-    while i < bytes.len() {
-        now = take(bytes[i], line, queue, now);
-        i += 1;
-    }
-    now
-}
-
-// Reads once, and takes what came. A read that fails is taken for the end of the input.
-fn turn(input: &mut Stdin, line: &mut [u8], queue: &mut [u8], session: Session) -> Session {
+// A proved loop has to end, so the reads are counted, up to a number that no run reaches. One that fails is taken for the end of the input.
+fn run(rt: &impl Print, input: &mut Stdin) {
+    let mut session = Session::new();
     let mut space = io::large_buffer();
-    let n = match input.read(&mut space) {
-        Ok(n) => n,
-        Err(_) => 0,
-    };
-    if n == 0 {
-        return Session {
-            held: session.held,
-            size: session.size,
-            more: false,
-        };
-    }
-    feed(&space[0..n], line, queue, session)
-}
-
-// A proved loop has to end, so it counts its turns down, from a number that no run uses up.
-fn run(input: &mut Stdin, line: &mut [u8], queue: &mut [u8]) {
-    let mut session = Session {
-        held: 0,
-        size: 0,
-        more: true,
-    };
-    let mut turns = u64::MAX;
-    while turns > 0 {
-        session = turn(input, line, queue, session);
-        let more = session.more;
-        if !more {
+    for _ in 0..u64::MAX {
+        let n = input.read(&mut space).unwrap_or(0);
+        if n == 0 {
             return;
         }
-        turns -= 1;
+        for byte in &space[..n] {
+            session.take(rt, *byte);
+        }
     }
 }
 
 fn main(rt: HostRuntime) {
-    let mut input = rt.stdin();
-    let mut line = io::buffer();
-    let mut queue = io::large_buffer();
-    run(&mut input, &mut line, &mut queue);
+    run(&rt, &mut rt.stdin());
 }
