@@ -9,6 +9,7 @@ use native.Mathlib.Omega.{arith}
 use lib.Dec.{T, ltb, ltb→lt}
 use lib.IntN.{ℤ}
 use Rattle.std.proofs.Common.{Some, None}
+use Rattle.std.specs.Bool.{then_some}
 use Rattle.modular_theory.specs.Residue.{Prime}
 use Rattle.modular_theory.proofs.Search.{holds, and_left, and_right}
 use Rattle.code_theory.specs.Parameters.{Parameters, Sized}
@@ -53,15 +54,16 @@ module _ (p : Parameters) (sized : Sized p) (prime : Prime p.q) {e z : ℤ} (rea
         let near = and_right (ltb k (position_count p b)) (near_without p b e S S' k) test in
         (sym (index_is p b e S S' sized (error_within p.q e error) unit k within near), within)
 
-    -- the two candidates, in the order o
-    pub index_nowhere : {i : ℕ} → i ≡ inverse_of p.q g → (o : Bool)
+    -- the two candidates, in the order o, of which the first does not pass
+    pub index_last : {i : ℕ} → i ≡ inverse_of p.q g → (o : Bool)
         → {k l : ℕ} → k ≡ candidate p o b i (syndrome_of o S S') → l ≡ candidate p (not o) b i (syndrome_of (not o) S S')
-        → {t t' : Bool} → t ≡ holds_with p b g S S' k → t ≡ false → t' ≡ holds_with p b g S S' l → t' ≡ false
-        → LocatedIndex p b e S S' None
+        → {t : Bool} → t ≡ holds_with p b g S S' k → t ≡ false → (t' : Bool) → t' ≡ holds_with p b g S S' l
+        → LocatedIndex p b e S S' (then_some t' l)
     unfolding located
-    index_nowhere {i} inverse o {k} {l} first second h f h' f' =
+    index_last inverse o {k} {l} first second h f true h' = index_holds l h' refl
+    index_last {i} inverse o {k} {l} first second h f false h' =
         let chosen : choose (holds_with p b g S S') k l (position_count p b) ≡ located o p b e S S' = rw (first, second, inverse, gained) refl in
-        let none = choose_neither (holds_with p b g S S') k l (position_count p b) (sym h ∙ f) (sym h' ∙ f') in
+        let none = choose_neither (holds_with p b g S S') k l (position_count p b) (sym h ∙ f) (sym h') in
         omega (arith, sym none ∙ chosen ∙ located_error o p sized prime b e error S S')
 
 pub count_upto : (t : Row) (b : Bool) → position_count (parameters t) b ≤ t.n + 1

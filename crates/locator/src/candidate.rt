@@ -1,11 +1,12 @@
 // The index that a syndrome names, once it is divided by what moved it.
-ghost use Rattle.std.specs.Prelude.{◌≡◌, true, false, ◌≤◌};
+ghost use Rattle.std.specs.Prelude.{◌≡◌, ◌≤◌};
 ghost use Rattle.locating_theory.specs.Candidates.{named_by, before, candidate, syndrome_of};
 ghost use Rattle.profiles.specs.Row.{Valid, parameters};
 ghost use Rattle.symbols.specs.Syndromes.{rows};
 ghost use Rattle.syndromes.specs.Rows.{FourRows, rows_of};
 ghost use Rattle.locator.specs.Steps.{Inverse};
 
+use crate::clues::Clues;
 use modular::add;
 use profiles::Row;
 use symbols::Syndrome;
@@ -43,43 +44,25 @@ fn index_before(row: Row, a: usize) -> usize
     if a == 0 { row.n } else { a - 1 }
 }
 
-// The index of the parity that makes the syndrome of the first component zero, if one does: i is the inverse of what the components gain.
-fn first_candidate(row: Row, odd: bool, i: u8, s: Syndrome) -> usize
-    requires { Valid row × FourRows row (rows s) × (i ≤ row.q) }
-    ensures { result ≡ candidate (parameters row) true odd i (rows_of row (rows s)) }
-{
-    let h = if odd { i } else { row.q - i };
-    index_before(row, named(row, h, s))
-}
-
-// The same of the second component, where an index of the odd positions meets the column of its own number, and not the one after it.
-fn second_candidate(row: Row, odd: bool, i: u8, s: Syndrome) -> usize
-    requires { Valid row × FourRows row (rows s) × (i ≤ row.q) }
-    ensures { result ≡ candidate (parameters row) false odd i (rows_of row (rows s)) }
-{
-    if odd {
-        named(row, row.q - i, s)
-    } else {
-        index_before(row, named(row, i, s))
-    }
-}
-
-// The candidate of the first component's syndrome, or of the second's.
-pub(crate) fn candidate(
-    row: Row,
-    of_first: bool,
-    odd: bool,
-    i: u8,
-    first: Syndrome,
-    second: Syndrome,
-) -> usize
-    requires { Valid row × FourRows row (rows first) × FourRows row (rows second) × (i ≤ row.q) }
-    ensures { result ≡
-        candidate (parameters row) of_first odd i (syndrome_of of_first (rows_of row (rows first)) (rows_of row (rows second))) }
-{
-    if of_first {
-        first_candidate(row, odd, i, first)
-    } else {
-        second_candidate(row, odd, i, second)
+impl Clues {
+    // The index of the parity that makes the syndrome of the first component zero, or of the second, if one does: i is the inverse of what
+    // the components gain. In the second an index of the odd positions meets the column of its own number, and not the one after it.
+    pub(crate) fn candidate(self, of_first: bool, i: u8) -> usize
+        requires { i ≤ self.row.q }
+        ensures { result ≡ candidate (parameters self.row) of_first self.odd i
+            (syndrome_of of_first (rows_of self.row (rows self.first)) (rows_of self.row (rows self.second))) }
+    {
+        let s = if of_first { self.first } else { self.second };
+        let h = if of_first == self.odd {
+            i
+        } else {
+            self.row.q - i
+        };
+        let a = named(self.row, h, s);
+        if self.odd && !of_first {
+            a
+        } else {
+            index_before(self.row, a)
+        }
     }
 }

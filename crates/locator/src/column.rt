@@ -5,6 +5,7 @@ ghost use Rattle.symbols.specs.Syndromes.{rows};
 ghost use Rattle.syndromes.specs.Rows.{FourRows, rows_of, Moved};
 ghost use Rattle.locating_theory.specs.ErrorPosition.{near_with};
 
+use crate::clues::Clues;
 use profiles::Row;
 use symbols::Syndrome;
 use syndromes::{near, syndrome_plus};
@@ -41,27 +42,26 @@ fn moved(row: Row, f: u8, a: usize, s: Syndrome) -> Syndrome
     }
 }
 
-// Whether the syndromes are near once the components gain g at index k of the parity.
-#[tactic(auto, using(syndromes::proofs::FourRows::near_same, crate::proofs::Moving::near_odd, crate::proofs::Moving::near_even))]
-pub(crate) fn near_with(
-    row: Row,
-    odd: bool,
-    g: u8,
-    k: usize,
-    first: Syndrome,
-    second: Syndrome,
-) -> bool
-    requires { Valid row × FourRows row (rows first) × FourRows row (rows second) × (g ≤ row.q) × (k ≤ 48) }
-    ensures { result ≡ near_with (parameters row) odd g (rows_of row (rows first)) (rows_of row (rows second)) k }
-{
-    let less = row.q - g;
-    if odd {
-        let a = moved(row, less, k + 1, first);
-        let b = moved(row, g, k, second);
-        near(row.q, row.n, a, b)
-    } else {
-        let a = moved(row, g, k + 1, first);
-        let b = moved(row, less, k + 1, second);
-        near(row.q, row.n, a, b)
+impl Clues {
+    // Whether the syndromes are near once the components gain g at index k of the parity.
+    #[tactic(auto, using(syndromes::proofs::FourRows::near_same, crate::proofs::Moving::near_odd, crate::proofs::Moving::near_even))]
+    pub(crate) fn near_with(self, g: u8, k: usize) -> bool
+        requires { (g ≤ self.row.q) × (k ≤ 48) }
+        ensures { result
+            ≡ near_with (parameters self.row) self.odd g (rows_of self.row (rows self.first)) (rows_of self.row (rows self.second)) k }
+    {
+        let less = self.row.q - g;
+        let (a, b) = if self.odd {
+            (
+                moved(self.row, less, k + 1, self.first),
+                moved(self.row, g, k, self.second),
+            )
+        } else {
+            (
+                moved(self.row, g, k + 1, self.first),
+                moved(self.row, less, k + 1, self.second),
+            )
+        };
+        near(self.row.q, self.row.n, a, b)
     }
 }

@@ -3,6 +3,7 @@
 #![tactic(auto)]
 
 mod candidate;
+mod clues;
 mod column;
 mod error;
 mod position;

@@ -6,14 +6,14 @@ ghost use Rattle.decoding_theory.specs.Syndromes.{index};
 ghost use Rattle.profiles.specs.Edition.{edition_is};
 ghost use Rattle.profiles.specs.Row.{Valid, parameters};
 ghost use Rattle.symbols.specs.Syndromes.{rows};
-ghost use Rattle.syndromes.specs.Rows.{FourRows, rows_of};
+ghost use Rattle.syndromes.specs.Rows.{rows_of};
 ghost use Rattle.locating_theory.specs.Candidates.{holds_with};
 ghost use Rattle.locating_theory.specs.ErrorPosition.{is_error};
 ghost use Rattle.locator.specs.Location.{ErrorPositionAllows};
 ghost use Rattle.locator.specs.Steps.{digit_row, level_rows, ReducedRows, ones_vanish, LocatedIndex};
 
-use crate::candidate::{candidate, inverse};
-use crate::column::near_with;
+use crate::candidate::inverse;
+use crate::clues::Clues;
 use crate::error::{gain_without, is_error};
 use profiles::{Edition, Row, row_in};
 use symbols::Syndrome;
@@ -52,51 +52,51 @@ fn reduced(row: Row, s: Syndrome) -> Syndrome
     }
 }
 
-// How many positions the parity has.
-fn position_count(row: Row, odd: bool) -> usize
-    requires { Valid row }
-    ensures { result ≡ position_count (parameters row) odd }
-{
-    if odd { row.n + 1 } else { row.n }
-}
-
-// Whether index k is one of the parity, and the syndromes are near once the components gain g there.
-#[tactic(auto, unfolding(locating_theory::specs::Candidates::holds_with))]
-fn holds_at(row: Row, odd: bool, g: u8, k: usize, first: Syndrome, second: Syndrome) -> bool
-    requires { Valid row × FourRows row (rows first) × FourRows row (rows second) × (g ≤ row.q) }
-    ensures { result ≡ holds_with (parameters row) odd g (rows_of row (rows first)) (rows_of row (rows second)) k }
-{
-    k < position_count(row, odd) && near_with(row, odd, g, k, first, second)
-}
-
-// Whether the first component's candidate is tested before the second's: whether its row of ones, s, is 0 once the components gain g, as
-// where that makes its syndrome zero. For the last odd index the first component gains nothing, so this is only the order in which the
-// candidates are tested, any order being right (`TwoCandidates` in crate `locating_theory`).
-fn begins_with_first(row: Row, odd: bool, g: u8, s: u8) -> bool
-    requires { g ≤ row.q }
-    ensures { result ≡ ones_vanish row odd g s }
-{
-    let gained = if odd { row.q - g } else { g };
-    plus_multiple(row.q, gained, 1, s) == 0
-}
-
-// The index of the error, by the two candidates in turn: the one tested last is worked out only where the other does not hold.
-fn error_index(row: Row, odd: bool, error: i32, first: Syndrome, second: Syndrome) -> Option<usize>
-    requires { Valid row × Prime row.q × T (is_error row.q error) × FourRows row (rows first) × FourRows row (rows second) }
-    ensures { LocatedIndex (parameters row) odd error (rows_of row (rows first)) (rows_of row (rows second)) result }
-{
-    let g = gain_without(row, error);
-    let i = inverse(row.q, g)?;
-    let first_before = begins_with_first(row, odd, g, first.ones);
-    let k = candidate(row, first_before, odd, i, first, second);
-    if holds_at(row, odd, g, k, first, second) {
-        return Some(k);
+impl Clues {
+    // How many positions the parity has.
+    fn position_count(self) -> usize
+        ensures { result ≡ position_count (parameters self.row) self.odd }
+    {
+        if self.odd { self.row.n + 1 } else { self.row.n }
     }
-    let l = candidate(row, !first_before, odd, i, first, second);
-    if holds_at(row, odd, g, l, first, second) {
-        return Some(l);
+
+    // Whether index k is one of the parity, and the syndromes are near once the components gain g there.
+    #[tactic(auto, unfolding(locating_theory::specs::Candidates::holds_with))]
+    fn holds_at(self, g: u8, k: usize) -> bool
+        requires { g ≤ self.row.q }
+        ensures { result
+            ≡ holds_with (parameters self.row) self.odd g (rows_of self.row (rows self.first)) (rows_of self.row (rows self.second)) k }
+    {
+        k < self.position_count() && self.near_with(g, k)
     }
-    None
+
+    // Whether the first component's candidate is tested before the second's: whether its row of ones is 0 once the components gain g, as
+    // where that makes its syndrome zero. For the last odd index the first component gains nothing, so this is only the order in which the
+    // candidates are tested, any order being right (`TwoCandidates` in crate `locating_theory`).
+    fn begins_with_first(self, g: u8) -> bool
+        requires { g ≤ self.row.q }
+        ensures { result ≡ ones_vanish self.row self.odd g self.first.ones }
+    {
+        let gained = if self.odd { self.row.q - g } else { g };
+        plus_multiple(self.row.q, gained, 1, self.first.ones) == 0
+    }
+
+    // The index of the error, by the two candidates in turn: the one tested last is worked out only where the other does not hold.
+    fn error_index(self, error: i32) -> Option<usize>
+        requires { Prime self.row.q × T (is_error self.row.q error) }
+        ensures { LocatedIndex (parameters self.row) self.odd error (rows_of self.row (rows self.first)) (rows_of self.row (rows self.second))
+            result }
+    {
+        let g = gain_without(self.row, error);
+        let i = inverse(self.row.q, g)?;
+        let first_before = self.begins_with_first(g);
+        let k = self.candidate(first_before, i);
+        if self.holds_at(g, k) {
+            return Some(k);
+        }
+        let l = self.candidate(!first_before, i);
+        self.holds_at(g, l).then_some(l)
+    }
 }
 
 // The position of index k of the parity.
@@ -124,6 +124,12 @@ pub fn error_position(
     if !is_error(row.q, error) {
         return None;
     }
-    let k = error_index(row, odd, error, reduced(row, first), reduced(row, second))?;
+    let clues = Clues {
+        row,
+        odd,
+        first: reduced(row, first),
+        second: reduced(row, second),
+    };
+    let k = clues.error_index(error)?;
     Some(position_of(odd, k))
 }

@@ -23,10 +23,17 @@ reduced-requires c = (row_found _ _ c.in_ok-row.ensures refl).valid
 pub reduced-requires-2 : goal.reduced-requires-2
 reduced-requires-2 c = (row_found _ _ c.in_ok-row.ensures refl).valid
 
+pub invariant_of-clues : goal.invariant_of-clues
+invariant_of-clues c =
+    record {
+      valid = (row_found _ _ c.in_ok-row.ensures refl).valid;
+      first_levels = c.reduced.ensures.levels;
+      second_levels = c.reduced-2.ensures.levels;
+    }
+
 pub error_index-requires : goal.error_index-requires
 error_index-requires c =
-    let of = row_found _ _ c.in_ok-row.ensures refl in
-    (of.valid, row_prime of, holds _ (sym c.is_error.ensures ∙ c.if-not-is_error.false), c.reduced.ensures.levels, c.reduced-2.ensures.levels)
+    (row_prime (row_found _ _ c.in_ok-row.ensures refl), holds _ (sym c.is_error.ensures ∙ c.if-not-is_error.false))
 
 pub returns-in_err-k : goal.returns-in_err-k
 returns-in_err-k c =
