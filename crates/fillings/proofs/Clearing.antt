@@ -4,16 +4,15 @@ use mathlib.Core.Path.{◌≡◌, refl, sym, ap, ◌∙◌}
 use mathlib.Core.Bool.{Bool, true, false}
 use mathlib.Core.Logic.{⊎_elim}
 use mathlib.Core.List.{List, [], ◌∷◌, ◌++◌, map}
-use Prim.Native.Nat.{ℕ, zero, suc, min, ◌+◌, ◌≤◌, ◌<◌}
-use native.Mathlib.Nat.{not-suc-le-zero}
+use Prim.Native.Nat.{ℕ, zero, suc, min, ◌-◌, ◌≤◌, ◌<◌}
 use native.Mathlib.Omega.{arith}
 use lib.Dec.{eqb}
-use lib.ListN.{length, get_or, take, set, replicate, length-append, get_or-map, get_or-eq_default}
-use lib.Seq.{get_or-take, get_or-set_other, take-take, take_at, length-take-le, ext_get_or}
+use lib.ListN.{length, get_or, take, drop, replicate, length-append, get_or-map, get_or-eq_default}
+use lib.Seq.{get_or-take, take-take, take_at, length-take-le, ext_get_or}
+use Rattle.std.proofs.lemmas.List.{drop-replicate}
 use Rattle.modular_theory.proofs.Search.{le_or_lt}
 use Rattle.code_theory.specs.Component.{erasure}
 use Rattle.decoding_theory.specs.Filled.{cleared}
-use Rattle.modular.proofs.Filling.{FilledTo, filled_none, filled_more}
 use Rattle.decoding_theory.proofs.Cleared.{cleared_length}
 use Rattle.fillings.specs.Cleared.{unless_erased, cleared_array}
 
@@ -57,32 +56,23 @@ unfolding cleared_array
 array_take w h =
     take-take (length w) 99 (cleared w ++ replicate 99 0) h ∙ take_at (cleared w) (replicate 99 0) (length w) (cleared_length w)
 
--- the first i symbols are in the array, and zeros after them
-pub record ClearedTo (w array : List ℕ) (i : ℕ) : Type 0 where
-  pub passed : FilledTo (λ k. unless_erased (get_or w k 0)) 99 array i
-  pub rest : (k : ℕ) → i ≤ k → get_or array k 0 ≡ 0
-
-pub cleared_none : (w : List ℕ) → ClearedTo w (replicate 99 0) 0
-cleared_none w = record { passed = filled_none _ (replicate 99 0) refl; rest = λ k h. zeros 99 k }
-
-module _ {w array : List ℕ} {i : ℕ} (c : ClearedTo w array i) where
-  pub cleared_more : i < 99 → {y : ℕ} → y ≡ unless_erased (get_or w i 0) → ClearedTo w (set array i y) (i + 1)
-  cleared_more l {y} e =
-      record {
-        passed = filled_more c.passed l e;
-        rest = λ k h. get_or-set_other array i k y 0 (λ z. not-suc-le-zero {n = 0} (omega (arith, z, h))) ∙ c.rest k (omega (arith, h));
-      }
-
-  pub cleared_all : i ≡ min (length w) 99 → array ≡ cleared_array w
-  unfolding unless_erased
-  cleared_all e =
-      ext_get_or 0 array (cleared_array w) (c.passed.size ∙ sym (array_long w))
-      (λ k l. let room : k < 99 = omega (arith, l, c.passed.size) in ⊎_elim (past k room) (reached k room) (le_or_lt i k))
+-- the first symbols of w, as many as fit, with zeros after them
+module _ (w : List ℕ) {n : ℕ} (end : n ≡ min (length w) 99) where
+  copied_at : (k : ℕ) → k < 99 → get_or (take n w ++ drop n (replicate 99 0)) k 0 ≡ get_or w k 0
+  copied_at k l =
+      rw (drop-replicate {X = ℕ} n 99 0) (padded (take n w) (99 - n) k)
+      ∙ ⊎_elim (λ (h : n ≤ k). past h) (λ (h : k < n). get_or-take n w k 0 h) (le_or_lt n k)
     where
-      reached : (k : ℕ) → k < 99 → k < i → get_or array k 0 ≡ get_or (cleared_array w) k 0
-      reached k l h = c.passed.at k h ∙ sym (array_at w k l)
+      past : n ≤ k → get_or (take n w) k 0 ≡ get_or w k 0
+      past h =
+          let all : length (take n w) ≤ k = omega (arith, length-take-le n w (omega arith)) in
+          get_or-eq_default (take n w) 0 all ∙ sym (get_or-eq_default w 0 (omega (arith, end, h, l)))
 
-      past : (k : ℕ) → k < 99 → i ≤ k → get_or array k 0 ≡ get_or (cleared_array w) k 0
-      past k l h =
-          let none : get_or w k 0 ≡ 0 = get_or-eq_default w 0 (omega (arith, e, l, h)) in
-          c.rest k h ∙ sym (array_at w k l ∙ ap unless_erased none)
+  -- each of them as cleared
+  pub cleared_each : {copied array : List ℕ} → copied ≡ take n w → length array ≡ 99
+      → ((k : ℕ) → k < 99 → get_or array k 0 ≡ unless_erased (get_or (copied ++ drop n (replicate 99 0)) k 0))
+      → array ≡ cleared_array w
+  cleared_each {copied} {array} is long each =
+      ext_get_or 0 array (cleared_array w) (long ∙ sym (array_long w))
+      (λ k l. let room : k < 99 = omega (arith, l, long) in
+      rw is at each k room ∙ ap unless_erased (copied_at k room) ∙ sym (array_at w k room))

@@ -15,15 +15,8 @@ fn unless_erased(x: u8) -> u8
 pub fn cleared(word: &[u8]) -> [u8; 99]
     ensures { result ≡ cleared_array word.now }
 {
-    let mut array = [0u8; 99];
-    let mut end = word.len();
-    if 99 < end {
-        end = 99;
-    }
-    let mut i = 0;
-    while i < end {
-        array[i] = unless_erased(word[i]);
-        i += 1;
-    }
-    array
+    let end = word.len().min(99);
+    let mut array = [0; 99];
+    array[..end].copy_from_slice(&word[..end]);
+    array.map(|x| unless_erased(x))
 }

@@ -9,7 +9,7 @@ use syndromes::{plus_multiple, syndrome_plus};
 
 // What is summed over a word: what its body exceeds the balancing value by, its check symbols as the body asks for them and as received,
 // and the syndromes of its components.
-#[derive(Clone, Copy)]
+#[derive(Clone, Copy, PartialEq, Eq, Debug)]
 pub struct Sums {
     pub excess: i16,
     pub asked: Checks,
@@ -18,7 +18,7 @@ pub struct Sums {
 }
 
 // An erased symbol: one of the body, at an odd or an even position, with what one more of it adds to the syndromes; or a check symbol.
-#[derive(Clone, Copy)]
+#[derive(Clone, Copy, PartialEq, Eq, Debug)]
 pub enum Erased {
     Odd(Syndromes),
     Even(Syndromes),
@@ -38,63 +38,39 @@ pub(crate) struct Numbers {
 pub(crate) fn numbers_of(sums: Sums) -> Numbers
     ensures { (result ≡ numbers_of sums) × (nat_abs result.excess ≤ 32768) }
 {
-    let narrow = sums.excess;
-    let excess = narrow as i32;
-    let asked = sums.asked;
-    let arrived = sums.arrived;
     Numbers {
-        excess,
-        asked,
-        arrived,
+        excess: i32::from(sums.excess),
+        asked: sums.asked,
+        arrived: sums.arrived,
     }
-}
-
-// The excess with a symbol y more.
-fn excess_with(excess: i32, y: u8) -> i32
-    requires { nat_abs excess ≤ 33023 }
-    ensures { result ≡ excess +ℤ pos y }
-{
-    excess + (y as i32)
 }
 
 // The numbers once y stands where the symbol is erased. Before it the excess is at most 16 bits and one symbol.
-pub(crate) fn numbers_with(q: u8, erased: Erased, y: u8, numbers: Numbers) -> Numbers
+pub(crate) fn numbers_with(q: u8, erased: Erased, y: u8, mut numbers: Numbers) -> Numbers
     requires { nat_abs numbers.excess ≤ 33023 }
     ensures { NumbersWith q erased y numbers result }
 {
-    let excess = numbers.excess;
-    let mut r = numbers;
     match erased {
         Erased::Odd(_) => {
-            let more = excess_with(excess, y);
-            r.excess = more;
-            let alpha = plus_multiple(q, y, 1, numbers.asked.alpha);
-            r.asked.alpha = alpha;
+            numbers.excess += i32::from(y);
+            numbers.asked.alpha = plus_multiple(q, y, 1, numbers.asked.alpha);
         }
         Erased::Even(_) => {
-            let more = excess_with(excess, y);
-            r.excess = more;
-            let beta = plus_multiple(q, y, 1, numbers.asked.beta);
-            r.asked.beta = beta;
+            numbers.excess += i32::from(y);
+            numbers.asked.beta = plus_multiple(q, y, 1, numbers.asked.beta);
         }
-        Erased::Alpha => {
-            r.arrived.alpha = y;
-        }
-        Erased::Beta => {
-            r.arrived.beta = y;
-        }
+        Erased::Alpha => numbers.arrived.alpha = y,
+        Erased::Beta => numbers.arrived.beta = y,
     }
-    r
+    numbers
 }
 
 // The only symbol that can stand there: what takes the excess away, and q where that is no level; or the check symbol asked for.
 pub(crate) fn wanted(q: u8, erased: Erased, numbers: Numbers) -> u8
     ensures { result ≡ wanted_by q erased numbers }
 {
-    let excess = numbers.excess;
     match erased {
-        Erased::Odd(_) => less(q, 0, excess),
-        Erased::Even(_) => less(q, 0, excess),
+        Erased::Odd(_) | Erased::Even(_) => less(q, 0, numbers.excess),
         Erased::Alpha => numbers.asked.alpha,
         Erased::Beta => numbers.asked.beta,
     }
@@ -104,14 +80,7 @@ pub(crate) fn wanted(q: u8, erased: Erased, numbers: Numbers) -> u8
 fn consistent(numbers: Numbers) -> bool
     ensures { result ≡ consistent_numbers numbers }
 {
-    let excess = numbers.excess;
-    if excess != 0 {
-        return false;
-    }
-    if numbers.asked.alpha != numbers.arrived.alpha {
-        return false;
-    }
-    numbers.asked.beta == numbers.arrived.beta
+    numbers.excess == 0 && numbers.asked == numbers.arrived
 }
 
 // Whether y is a level, and the numbers are consistent once it stands there.
@@ -119,10 +88,7 @@ pub(crate) fn suits(q: u8, erased: Erased, y: u8, numbers: Numbers) -> bool
     requires { nat_abs numbers.excess ≤ 33023 }
     ensures { result ≡ (ltb y q && consistent_numbers (numbers_with q erased y numbers)) }
 {
-    if q <= y {
-        return false;
-    }
-    consistent(numbers_with(q, erased, y, numbers))
+    y < q && consistent(numbers_with(q, erased, y, numbers))
 }
 
 // Both syndromes with y times those of e added.
@@ -140,9 +106,7 @@ pub(crate) fn syndromes_with(q: u8, erased: Erased, y: u8, s: Syndromes) -> Synd
     ensures { result ≡ syndromes_with q erased y s }
 {
     match erased {
-        Erased::Odd(e) => syndromes_plus(q, y, e, s),
-        Erased::Even(e) => syndromes_plus(q, y, e, s),
-        Erased::Alpha => s,
-        Erased::Beta => s,
+        Erased::Odd(e) | Erased::Even(e) => syndromes_plus(q, y, e, s),
+        Erased::Alpha | Erased::Beta => s,
     }
 }

@@ -1,30 +1,19 @@
--- `fillings::sums::consistent` meets its contract: the tests of the definition, in its order.
+-- `fillings::sums::consistent` meets its contract: the tests of the definition.
 -- Assumes nothing.
-use mir.Syntax.{w32}
-use mir.Val.{of_z}
-use borrow.Author.Tests.{eq-eqb, ne_eqb}
+use Rattle.std.proofs.Common.{rules, w32, SFits, ne_eqb}
 use Rattle.modular_theory.proofs.Integer.{is_not_zero}
-use Rattle.modular.proofs.Signed.{Holds, value, zero_read, other_read}
+use Rattle.modular.proofs.Signed.{value, zero_read, other_read}
 use Rattle.fillings.specs.Steps.{consistent_numbers}
 use Rattle.fillings.proofs.sums.consistent.Goals as goal
-use Rattle.fillings.proofs.sums.consistent.Goals.{After-struct_told-1}
 
-excess-held : (c : After-struct_told-1) → let e = c.args.numbers.excess in Holds w32 (of_z w32 e) e
-excess-held c = value (record { sfits = c.struct_told-1.given.0.1 })
-
-pub returns-then-excess-ne0 : goal.returns-then-excess-ne0
+pub returns-then-numbers-eq0 : goal.returns-then-numbers-eq0
 unfolding consistent_numbers
-returns-then-excess-ne0 c = rw (is_not_zero _ (other_read (excess-held (goal.at.returns-then-excess-ne0 c).After-struct_told-1) c.if-excess-ne0.true))
+returns-then-numbers-eq0 c =
+    let fits : SFits w32 c.args.numbers.excess = search rules in
+    rw (zero_read (value fits) c.if-numbers-eq0.true) c.eq.ensures
 
-pub returns-then-numbers : goal.returns-then-numbers
+pub returns-else-numbers-eq0 : goal.returns-else-numbers-eq0
 unfolding consistent_numbers
-returns-then-numbers c =
-    let first = c.before.before in
-    rw (zero_read (excess-held (goal.at.returns-then-numbers c).After-struct_told-1) first.if-excess-ne0.false, ne_eqb _ _ c.if-numbers.true)
-
-pub returns : goal.returns
-unfolding consistent_numbers
-returns c =
-    let second = c.before in
-    let first = second.before.before in
-    rw (zero_read (excess-held (goal.at.returns c).After-struct_told-1) first.if-excess-ne0.false, eq-eqb _ _ second.if-numbers.false)
+returns-else-numbers-eq0 c =
+    let fits : SFits w32 c.args.numbers.excess = search rules in
+    rw (ne_eqb _ _ c.if-numbers-eq0.false, is_not_zero _ (other_read (value fits) c.if-numbers-eq0.false))
