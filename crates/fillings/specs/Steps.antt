@@ -1,6 +1,7 @@
 -- The steps of a filling: what a symbol put where 0 stood does to the numbers and to the syndromes, and which symbol that can be.
 -- Assumes nothing.
-use Rattle.std.specs.Prelude.{◌≡◌, Bool, true, false, ◌&&◌, [], ◌∷◌, Option, Some, None, ℕ, ◌+◌, ◌≤◌, eqb, pos, nat_abs, ◌+ℤ◌, ◌-ℤ◌}
+use Rattle.std.specs.Prelude.{◌≡◌, Bool, true, false, ◌&&◌, [], ◌∷◌, Option, ℕ, ◌+◌, ◌≤◌, eqb, pos, nat_abs, ◌+ℤ◌, ◌-ℤ◌}
+use Rattle.std.specs.Bool.{then_some}
 use Rattle.modular_theory.specs.Level.{level_of, is_zero}
 use Rattle.decoding_theory.specs.Syndromes.{near_syndromes}
 use Rattle.modular.specs.Remainder.{residue}
@@ -66,7 +67,4 @@ consistent_numbers m = is_zero m.excess && eqb m.asked.alpha m.arrived.alpha && 
 -- the symbol y, if the syndromes s are near
 unfoldable pub one_if_near : ℕ → ℕ → ℕ → Syndromes → Option (Filling 1)
 one_if_near q n y s =
-    elim (near_syndromes (four_rows q n) (rows s.first) (rows s.second)) [
-      | true ↦ Some (record { symbols = y ∷ []; syndromes = s })
-      | false ↦ None
-    ]
+    then_some (near_syndromes (four_rows q n) (rows s.first) (rows s.second)) (record { symbols = y ∷ []; syndromes = s })

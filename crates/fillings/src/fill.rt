@@ -5,7 +5,7 @@ ghost use Rattle.symbols.specs.Syndromes.{four_rows};
 ghost use Rattle.fillings.specs.Filling.{erased_of, four_row_sums, filling_of};
 ghost use Rattle.fillings.specs.Steps.{one_if_near};
 
-use crate::sums::{Erased, Sums, numbers_of, numbers_with, suits, syndromes_with, wanted};
+use crate::sums::{Erased, Numbers, Sums, numbers_with, suits, syndromes_with, wanted};
 use symbols::Syndromes;
 use syndromes::near;
 
@@ -20,20 +20,17 @@ pub struct Filling<const N: usize> {
 fn one_if_near(q: u8, n: usize, y: u8, s: Syndromes) -> Option<Filling<1>>
     ensures { result ≡ one_if_near q n y s }
 {
-    if near(q, n, s.first, s.second) {
-        return Some(Filling {
-            symbols: [y],
-            syndromes: s,
-        });
-    }
-    None
+    near(q, n, s.first, s.second).then_some(Filling {
+        symbols: [y],
+        syndromes: s,
+    })
 }
 
 // One erased symbol: what is wanted there, if it makes a codeword.
 pub fn fill_one(q: u8, n: usize, erased: Erased, sums: Sums) -> Option<Filling<1>>
     ensures { filling_of result ≡ fill_one (four_rows q n) (erased_of erased) (four_row_sums sums) }
 {
-    let numbers = numbers_of(sums);
+    let numbers = Numbers::from(sums);
     let y = wanted(q, erased, numbers);
     if !suits(q, erased, y, numbers) {
         return None;
@@ -46,7 +43,7 @@ fn fill_second(q: u8, n: usize, first: Erased, second: Erased, y: u8, sums: Sums
     requires { y < q }
     ensures { filling_of result ≡ fill_one (four_rows q n) (erased_of second) (sums_with (four_rows q n) (erased_of first) y (four_row_sums sums)) }
 {
-    let numbers = numbers_with(q, first, y, numbers_of(sums));
+    let numbers = numbers_with(q, first, y, Numbers::from(sums));
     let z = wanted(q, second, numbers);
     if !suits(q, second, z, numbers) {
         return None;

@@ -34,14 +34,15 @@ pub(crate) struct Numbers {
     pub(crate) arrived: Checks,
 }
 
-// Those of the sums.
-pub(crate) fn numbers_of(sums: Sums) -> Numbers
-    ensures { (result ≡ numbers_of sums) × (nat_abs result.excess ≤ 32768) }
-{
-    Numbers {
-        excess: i32::from(sums.excess),
-        asked: sums.asked,
-        arrived: sums.arrived,
+impl From<Sums> for Numbers {
+    fn from(sums: Sums) -> Numbers
+        ensures { (result ≡ numbers_of sums) × (nat_abs result.excess ≤ 32768) }
+    {
+        Numbers {
+            excess: i32::from(sums.excess),
+            asked: sums.asked,
+            arrived: sums.arrived,
+        }
     }
 }
 

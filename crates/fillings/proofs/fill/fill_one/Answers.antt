@@ -6,14 +6,14 @@ use Rattle.fillings.proofs.Wanting.{suited, unsuited}
 use Rattle.fillings.proofs.fill.fill_one.Goals as goal
 
 pub suits-requires : goal.suits-requires
-suits-requires c = omega (arith, c.numbers_of-numbers.ensures.1)
+suits-requires c = omega (arith, c.from-numbers.ensures.1)
 
 pub returns-then-not-suits : goal.returns-then-not-suits
 returns-then-not-suits c =
     let tested = c.before in
     let begun = tested.before.before in
     let args = begun.args in
-    unsuited _ _ (has_own args.sums begun.numbers_of-numbers.ensures.0) args.erased tested.wanted-y.ensures
+    unsuited _ _ (has_own args.sums begun.from-numbers.ensures.0) args.erased tested.wanted-y.ensures
     tested.suits.ensures (c.if-not-suits.true)
 
 pub returns : goal.returns
@@ -22,5 +22,5 @@ returns c =
     let tested = moved.before.before in
     let begun = tested.before.before in
     let args = begun.args in
-    suited _ _ (has_own args.sums begun.numbers_of-numbers.ensures.0) args.erased tested.wanted-y.ensures
+    suited _ _ (has_own args.sums begun.from-numbers.ensures.0) args.erased tested.wanted-y.ensures
     tested.suits.ensures (moved.if-not-suits.false) moved.syndromes_with.ensures c.one_if_near.ensures

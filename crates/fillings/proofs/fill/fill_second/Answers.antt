@@ -23,15 +23,15 @@ module _ (c : After-numbers_with-numbers) where
       (four_row_sums start.args.sums)
   has =
       has_with start.args.q start.args.n (omega (arith, start.requires)) start.args.y start.args.first
-      (has_own start.args.sums c.numbers_of.ensures.0) c.numbers_with-numbers.ensures.are
+      (has_own start.args.sums c.from.ensures.0) c.numbers_with-numbers.ensures.are
 
 pub numbers_with-numbers-requires : goal.numbers_with-numbers-requires
-numbers_with-numbers-requires c = omega (arith, c.numbers_of.ensures.1)
+numbers_with-numbers-requires c = omega (arith, c.from.ensures.1)
 
 pub suits-requires : goal.suits-requires
 suits-requires c =
     let moved = c.before in
-    omega (arith, moved.numbers_with-numbers.ensures.light, moved.numbers_of.ensures.1)
+    omega (arith, moved.numbers_with-numbers.ensures.light, moved.from.ensures.1)
 
 pub returns-then-not-suits : goal.returns-then-not-suits
 returns-then-not-suits c =
