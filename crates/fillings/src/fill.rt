@@ -39,7 +39,14 @@ pub fn fill_one(q: u8, n: usize, erased: Erased, sums: Sums) -> Option<Filling<1
 }
 
 // The second of two, once y stands at the first.
-fn fill_second(q: u8, n: usize, first: Erased, second: Erased, y: u8, sums: Sums) -> Option<Filling<1>>
+fn fill_second(
+    q: u8,
+    n: usize,
+    first: Erased,
+    second: Erased,
+    y: u8,
+    sums: Sums,
+) -> Option<Filling<1>>
     requires { y < q }
     ensures { filling_of result ≡ fill_one (four_rows q n) (erased_of second) (sums_with (four_rows q n) (erased_of first) y (four_row_sums sums)) }
 {

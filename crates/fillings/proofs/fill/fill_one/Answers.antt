@@ -1,12 +1,8 @@
 -- `fillings::fill::fill_one` meets its contract: what is wanted is tested by the numbers and then by the syndromes.
 -- Assumes nothing.
-use native.Mathlib.Omega.{arith}
 use Rattle.fillings.proofs.Placing.{has_own}
 use Rattle.fillings.proofs.Wanting.{suited, unsuited}
 use Rattle.fillings.proofs.fill.fill_one.Goals as goal
-
-pub suits-requires : goal.suits-requires
-suits-requires c = omega (arith, c.from-numbers.ensures.1)
 
 pub returns-then-not-suits : goal.returns-then-not-suits
 returns-then-not-suits c =

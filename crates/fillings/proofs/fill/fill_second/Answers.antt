@@ -25,28 +25,19 @@ module _ (c : After-numbers_with-numbers) where
       has_with start.args.q start.args.n (omega (arith, start.requires)) start.args.y start.args.first
       (has_own start.args.sums c.from.ensures.0) c.numbers_with-numbers.ensures.are
 
-pub numbers_with-numbers-requires : goal.numbers_with-numbers-requires
-numbers_with-numbers-requires c = omega (arith, c.from.ensures.1)
-
-pub suits-requires : goal.suits-requires
-suits-requires c =
-    let moved = c.before in
-    omega (arith, moved.numbers_with-numbers.ensures.light, moved.from.ensures.1)
-
 pub returns-then-not-suits : goal.returns-then-not-suits
 returns-then-not-suits c =
+    let moved = (goal.at.returns-then-not-suits c).After-numbers_with-numbers in
     let tested = c.before in
-    let moved = tested.before.before in
-    unsuited _ _ (has (goal.at.returns-then-not-suits c).After-numbers_with-numbers) (start (goal.at.returns-then-not-suits c).After-numbers_with-numbers).args.second tested.wanted-z.ensures tested.suits.ensures
-    (c.if-not-suits.true)
+    unsuited _ _ (has moved) (start moved).args.second tested.wanted-z.ensures tested.suits.ensures c.if-not-suits.true
 
 pub returns : goal.returns
 returns c =
+    let moved = (goal.at.returns c).After-numbers_with-numbers in
+    let args = (start moved).args in
     let both = c.before in
     let first = both.before in
     let tested = first.before.before in
-    let moved = tested.before.before in
     let z = tested.wanted-z in
-    let second = syndromes_with (start (goal.at.returns c).After-numbers_with-numbers).args.q (start (goal.at.returns c).After-numbers_with-numbers).args.second z.result in
-    suited _ _ (has (goal.at.returns c).After-numbers_with-numbers) (start (goal.at.returns c).After-numbers_with-numbers).args.second z.ensures tested.suits.ensures (first.if-not-suits.false)
-    (both.syndromes_with.ensures ∙ ap second first.syndromes_with-after.ensures) c.one_if_near.ensures
+    let after = both.syndromes_with.ensures ∙ ap (syndromes_with args.q args.second z.result) first.syndromes_with-after.ensures in
+    suited _ _ (has moved) args.second z.ensures tested.suits.ensures first.if-not-suits.false after c.one_if_near.ensures
