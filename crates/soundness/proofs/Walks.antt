@@ -5,7 +5,6 @@ use mathlib.Core.Logic.{◌≢◌, ◌⊎◌, inl, inr, ⊎_elim}
 use mathlib.Core.Bool.{Bool, true, false, ◌&&◌, and-true}
 use mathlib.Core.List.{List, [], ◌∷◌}
 use Prim.Native.Nat.{ℕ, zero, suc, ◌+◌, ◌-◌, ◌≤◌, ◌<◌}
-use native.Mathlib.Nat.{sub-zero}
 use native.Mathlib.Numerals.{add-one}
 use native.Mathlib.Omega.{arith}
 use lib.Dec.{T, eqb, leb, leb→le}
@@ -23,7 +22,7 @@ use Rattle.queue_theory.specs.Layout.{capacity, next_cell, cell_body}
 use Rattle.queue_theory.specs.Chains.{chain, ends}
 use Rattle.queue_theory.specs.Sound.{is_body, is_cell, is_list}
 use Rattle.soundness.specs.declared.lists.Walked.{Walked}
-use Rattle.soundness.specs.Tally.{tallied, AtMost}
+use Rattle.soundness.specs.Tally.{tallied}
 use Rattle.soundness.specs.Walked.{Traversed, Walks}
 use Rattle.soundness.proofs.Conditions.{swapped}
 
@@ -95,20 +94,6 @@ pub record Walk (s : List ℕ) (kind : Bool) (first k : ℕ) (t₀ t : List ℕ)
   pub records_is : length (chain s (capacity s) first) ≡ met + length (chain s n i)
   pub bound : (j : ℕ) → get_or t j 0 + n ≤ 255 + capacity s
   pub steps : met + n ≡ capacity s
-
--- the walk before its first step
-pub walk_start : (s : List ℕ) (kind : Bool) (first k : ℕ) (t : List ℕ) (n i : ℕ) → n ≡ capacity s → i ≡ first → AtMost 255 t
-    → Walk s kind first k t t n i 0 0
-walk_start s kind first k t n i e f h =
-    rw (e, f)
-    (record {
-      list = refl;
-      seen = refl;
-      cell_is = ap (λ (m : ℕ). last_of 0 (take m (chain s (capacity s) first))) (sym (sub-zero k));
-      records_is = omega arith;
-      bound = λ j. omega (arith, h j);
-      steps = omega arith;
-    })
 
 module _ {s : List ℕ} {kind : Bool} {first k : ℕ} {t₀ t : List ℕ} {n i cell met : ℕ} (w : Walk s kind first k t₀ t n i cell met) where
   -- the list has ended

@@ -10,7 +10,7 @@ use Rattle.queue_theory.specs.Sound.{is_cell}
 use Rattle.queue_theory.proofs.Lists.{size_of}
 use Rattle.soundness.specs.declared.lists.Walked.{Walked}
 use Rattle.soundness.specs.Walked.{is_used}
-use Rattle.soundness.proofs.Walks.{walk_start, walk_over, walk_fails, walk_on, cell_below}
+use Rattle.soundness.proofs.Walks.{walk_over, walk_fails, walk_on, cell_below}
 use Rattle.soundness.proofs.lists.walk.Goals as goal
 use Rattle.soundness.proofs.lists.walk.Goals.{Else-not-is_cell, In-loop-met}
 use Rattle.soundness.proofs.lists.walk.Goals.{then-met-number, else-met-number, else-loop-met-test, then-loop-met-test+then-cell-eq0}
@@ -24,10 +24,6 @@ good c = sym c.is_cell.ensures ∙ c.if-not-is_cell.false
 cell_in : (c : Else-not-is_cell) → (c.loop-met.cell ≤ capacity c.args.queue.now) × (capacity c.args.queue.now ≤ 255)
 cell_in c =
     (cell_below c.args.queue.now (is_used c.args.kind) c.loop-met.cell (good c), (size (goal.at.Else-not-is_cell c).In-loop-met).few)
-
-pub loop-met-init : goal.loop-met-init
-loop-met-init c =
-    (walk_start _ _ _ _ _ _ _ (omega (arith, c.capacity-met-end.ensures)) c.from-cell.ensures c.requires.1, refl)
 
 pub returns-then-not-is_cell : goal.returns-then-not-is_cell
 returns-then-not-is_cell c =
