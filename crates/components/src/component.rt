@@ -77,19 +77,18 @@ fn check_symbols(q: u8, s: Syndrome) -> CheckSymbols
 }
 
 // The array with the check symbols of both components set.
-fn filled(row: Row, x: Body, first: CheckSymbols, second: CheckSymbols) -> Body
+fn filled(row: Row, mut x: Body, first: CheckSymbols, second: CheckSymbols) -> Body
     requires { Valid row × (3 ≤ row.r) }
     ensures { Filled row x (check_symbols first) (check_symbols second) result }
 {
     let q = usize::from(row.q);
-    let mut y = x;
-    set_pair(&mut y, 2, first.two, second.two);
-    set_pair(&mut y, 1, first.one, second.one);
-    set_pair(&mut y, q, first.mid, second.mid);
+    set_pair(&mut x, 2, first.two, second.two);
+    set_pair(&mut x, 1, first.one, second.one);
+    set_pair(&mut x, q, first.mid, second.mid);
     if 3 < row.r {
-        set_pair(&mut y, q * q, first.high, second.high);
+        set_pair(&mut x, q * q, first.high, second.high);
     }
-    y
+    x
 }
 
 // The components of two messages of the right length, by a profile's row.

@@ -14,11 +14,11 @@ pub struct Weight {
 }
 
 // A symbol where its index is odd, and 0 where it is even: by a product, which is done many at a time.
-fn if_odd(index: u8, x: u16) -> u16
+fn if_odd(index: usize, x: u16) -> u16
     requires { x ≤ 255 }
     ensures { (result ≡ x * (index % 2)) × (result ≤ x) }
 {
-    x * u16::from(index % 2)
+    x * (index % 2) as u16
 }
 
 // How many of the first m symbols there are in a word that has `len`, of which an array holds 97.
@@ -28,19 +28,16 @@ pub fn available(m: usize, len: usize) -> usize
     m.min(97).min(len)
 }
 
-// The first m symbols weighed, 97 at most, against a balancing value: every weight that is compared with one is taken here. The index is
-// counted in bytes, so that its parity is found many at a time.
+// The first m symbols weighed, 97 at most, against a balancing value: every weight that is compared with one is taken here.
 pub fn weigh(word: &[u8], m: usize, target: u16) -> Weight
     ensures { result ≡ weights_of target (take (min m 97) word.now) }
 {
     let mut all = 0;
     let mut even = 0;
-    let mut index = 0;
-    for x in &word[..available(m, word.len())] {
+    for (index, x) in word[..available(m, word.len())].iter().enumerate() {
         let symbol = u16::from(*x);
         all += symbol;
         even += if_odd(index, symbol);
-        index += 1;
     }
     let odd = all - even;
     let excess = i32::from(all) - i32::from(target);

@@ -12,13 +12,13 @@ use Rattle.symbols.specs.Weight.{weights_of}
 use Rattle.symbols.proofs.Weighing.{weighing_none, weighing_all}
 use Rattle.symbols.proofs.weight.weigh.Goals as goal
 
-pub loop-x-init : goal.loop-x-init
-loop-x-init c = (weighing_none _, omega arith)
+pub loop-index-init : goal.loop-index-init
+loop-index-init c = weighing_none _
 
 pub returns : goal.returns
 returns c =
     let word : List ℕ = c.args.word.now in
     let first : take c.available.result word ≡ take (min c.args.m 97) word =
     ap (λ (k : ℕ). take k word) c.available.ensures ∙ take_min (min c.args.m 97) word in
-    let passed : length (take c.available.result word) ≤ c.loop-x.x-index = omega arith in
-    weighing_all c.loop-x.invariant.0 passed c.args.target (omega (arith, ints)) ∙ ap (weights_of c.args.target) first
+    let passed : length (take c.available.result word) ≤ c.loop-index.index = omega arith in
+    weighing_all c.loop-index.invariant passed c.args.target (omega (arith, ints)) ∙ ap (weights_of c.args.target) first
