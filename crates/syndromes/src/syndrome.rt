@@ -32,15 +32,7 @@ fn is_column(q: u8, n: usize, s: Syndrome) -> bool
 }
 
 // Whether one of the two is zero, and the other is zero or a column.
-#[tactic(
-    auto,
-    unfolding(
-        crate::specs::FourRows::zero_rows,
-        decoding_theory::specs::Syndromes::zero_syndrome,
-        decoding_theory::specs::Syndromes::near_syndrome,
-        decoding_theory::specs::Syndromes::near_syndromes
-    )
-)]
+#[tactic(auto, using(crate::proofs::Pairs::near_is))]
 pub fn near(q: u8, n: usize, s: Syndrome, t: Syndrome) -> bool
     ensures { result ≡ near_syndromes (four_rows q n) (rows s) (rows t) }
 {
