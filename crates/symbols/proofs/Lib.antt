@@ -3,7 +3,6 @@ pub mod Digits
 pub mod Counting
 -- Words and their weight
 pub mod Words
-pub mod Capped
 pub mod Weighing
 pub mod CheckSymbols
 -- The syndromes of the components
