@@ -3,10 +3,9 @@
 use mathlib.Core.Path.{◌≡◌, refl, ap}
 use mathlib.Core.List.{List, [], ◌∷◌}
 use Prim.Native.Nat.{ℕ, zero, suc, ◌-◌}
-use lib.ListN.{get_or, take}
+use lib.ListN.{take}
 use Rattle.code_theory.specs.Parameters.{Edition, edition13, edition18, Parameters, in_edition}
 use Rattle.code_theory.specs.Walk.{complement, unwalked}
-use Rattle.modular.proofs.Filling.{FilledTo}
 
 take_complement : (q m : ℕ) (w : List ℕ) → take m (complement q w) ≡ complement q (take m w)
 take_complement q zero w = refl
@@ -19,7 +18,3 @@ take_unwalked p m w = go p.edition
     go : (e : Edition) → take m (unwalked (in_edition e p) w) ≡ unwalked (in_edition e p) (take m w)
     go edition13 = refl
     go edition18 = take_complement p.q m w
-
--- the first i are made
-abbrev pub Complementing : ℕ → List ℕ → List ℕ → ℕ → Type 0
-Complementing q w u i = FilledTo (λ j. q - 1 - get_or w j 0) 97 u i

@@ -26,7 +26,7 @@ use Rattle.code_theory.proofs.Walk.{chosen_walked, length_walked, shift_below}
 use Rattle.code_theory.proofs.Columns.{q_positive}
 use Rattle.modular.specs.Remainder.{residue}
 use Rattle.modular.proofs.Dividing.{residue_is, residue_below}
-use Rattle.profiles.specs.declared.edition.Edition.TheVariants.{Of2018}
+use Rattle.profiles.specs.declared.edition.Edition.TheVariants.{Of2013, Of2018}
 use Rattle.profiles.specs.declared.row.Row.{Row}
 use Rattle.profiles.specs.Row.{parameters, Valid}
 use Rattle.peaks_theory.specs.Costs.{balanced_at, check_offset, cost_at}
@@ -53,6 +53,9 @@ module _ (t : Row) (valid : Valid t) where
   delta_below =
       let z : ℤ = pos ((t.q - 1) / 2) *ℤ (pos 2 -ℤ pos t.balanced) in
       rw valid.delta (remainder_below z t.q q_some)
+
+  pub offset_13 : t.edition ≡ Of2013 → {r : ℕ} → r ≡ t.delta → Congruent t.q r (check_offset (parameters t) t.balanced)
+  offset_13 e f = of_eq (f ∙ valid.delta ∙ rw e)
 
   pub offset_18 : t.edition ≡ Of2018 → {w r : ℕ} → w ≡ t.q - t.delta → r ≡ t.n + w
       → Congruent t.q r (check_offset (parameters t) t.balanced)

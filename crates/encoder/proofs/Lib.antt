@@ -1,4 +1,5 @@
 -- Balancing
+pub mod Changing
 pub mod Integrating
 pub mod Raising
 pub mod Stepping

@@ -11,7 +11,7 @@ use Rattle.modular_theory.specs.Sum.{weight}
 use Rattle.modular_theory.specs.Residue.{Congruent}
 use Rattle.modular_theory.proofs.Sum.{dot_one, dot_same}
 use Rattle.modular_theory.proofs.Residue.{of_eq, ◌then◌, add}
-use Rattle.code_theory.specs.Parameters.{Edition, Parameters, in_edition, Sized, message_length, balanced_length, codeword_length}
+use Rattle.code_theory.specs.Parameters.{Edition, Parameters, in_edition, Sized, message_length, balanced_length}
 use Rattle.code_theory.specs.Component.{Below, is_word, check_row, syndrome, in_code, is_check, candidate, component}
 use Rattle.code_theory.specs.Balance.{interleave, with_zero}
 use Rattle.code_theory.specs.Codeword.{with_checks, interleaved}
@@ -25,7 +25,7 @@ use Rattle.code_theory.proofs.Pair.{length_component}
 use Rattle.code_theory.proofs.Profiles.{profiles_fit}
 use Rattle.profiles.specs.declared.row.Row.{Row}
 use Rattle.profiles.specs.Row.{parameters, RowOf}
-use Rattle.profiles.proofs.Table.{levels_are, codeword_is}
+use Rattle.profiles.proofs.Table.{levels_are}
 use Rattle.components.specs.Components.{zero_first, components_of}
 use Rattle.components.proofs.Lengths.{components_interleaved}
 use Rattle.encoder.specs.Symbols.{SymbolArray, ZeroFirst}
@@ -117,6 +117,3 @@ module _ {o : Edition} {i : ℕ} {t : Row} (of : RowOf o i t) (a b : List ℕ) (
       → u ≡ with_checks t.q w → u ≡ encoded_by r (in_edition o (profile i)) a b
   unfolding encoded_by
   pair_encoded r e f = f ∙ ap₂ with_checks (levels_are of) (e ∙ ap₂ (balanced_by r) of.same pair_interleaved)
-
-  pub pair_length : {l : ℕ} → l ≡ t.codeword → l ≡ codeword_length (profile i)
-  pair_length e = e ∙ codeword_is of

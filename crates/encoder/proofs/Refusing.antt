@@ -5,10 +5,16 @@ use mathlib.Core.Logic.{◌≢◌}
 use mathlib.Core.List.{List}
 use Prim.Native.Nat.{ℕ, zero, suc}
 use lib.ListN.{length}
+use Rattle.std.specs.Prelude.{Option, None, Result, Ok, Err}
+use Rattle.std.specs.Option.{ok_or}
 use Rattle.code_theory.specs.LineRule.{line_rule_of, encoded_by}
 use Rattle.code_theory.proofs.Refusal.{kept, wrote}
 use Rattle.code_theory.specs.Profiles.{profile_in}
 use Rattle.code_theory.specs.Operations.{refused_by, outcome, outcome_number, encode_refusal, encode_output}
+use Rattle.refusals.specs.declared.Refusal.{Refusal}
+use Rattle.refusals.specs.Number.{number_of}
+use Rattle.refusals.proofs.Claims.{none_is_success}
+use Rattle.encoder.specs.Answer.{EncodeAllows}
 
 -- a call that a number refuses
 some_outcome : (n : ℕ) → n ≢ 0 → refused_by n ≡ outcome n
@@ -23,6 +29,12 @@ pub number_back : (n : ℕ) → outcome_number (outcome n) ≡ n
 number_back zero = refl
 number_back (suc n) = refl
 
+-- a refusal in place of what there is not
+pub none_refused : {A : Type 0} {o : Option A} {r s : Refusal} → o ≡ None → Err r ≡ ok_or o s → r ≡ s
+none_refused {A} {o} {r} {s} n e =
+    let same : ◌≡◌ {A = Result A Refusal} (Err r) (Err s) = rw n at e in
+    ap (λ (x : Result A Refusal). elim x [ Ok a ↦ s | Err t ↦ t ]) same
+
 module _ (e i l : ℕ) (a b out : List ℕ) where
   abbrev word : List ℕ
   word = encoded_by (line_rule_of l) (profile_in e i) a b
@@ -34,3 +46,10 @@ module _ (e i l : ℕ) (a b out : List ℕ) where
   pub output_done : 0 ≡ encode_refusal e i l a b (length out) → encoded_by (line_rule_of l) (profile_in e i) a b ≡ encode_output e i l a b out
   unfolding encode_output
   output_done f = wrote (encode_refusal e i l a b (length out)) word out (sym f)
+
+  -- the answers that the contract allows
+  pub refused_allows : {r : Refusal} → number_of r ≡ encode_refusal e i l a b (length out) → EncodeAllows e i l a b (Err r) out out
+  refused_allows {r} f = record { answer = refused_outcome f (none_is_success r); output = output_kept f (none_is_success r) }
+
+  pub done_allows : {out' : List ℕ} → 0 ≡ encode_refusal e i l a b (length out) → out' ≡ word → EncodeAllows e i l a b (Ok tt) out out'
+  done_allows f g = record { answer = ap outcome f; output = g ∙ output_done f }

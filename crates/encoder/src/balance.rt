@@ -10,7 +10,7 @@ ghost use Rattle.profiles.specs.Row.{parameters, Valid};
 ghost use Rattle.encoder.specs.Symbols.{SymbolArray, PrefixSums, ZeroFirst, Walked, Chosen, Raised, rise_at};
 
 use crate::least_peak::least_peak;
-use modular::{SumArray, add, remainders, sub, wide16};
+use modular::{SumArray, add, remainders, sub};
 use profiles::{Edition, Row};
 use symbols::weigh;
 
@@ -20,12 +20,10 @@ fn summed(m: usize, x: &[u8; 97]) -> SumArray
     ensures { PrefixSums m x.now result }
 {
     let mut sums = [0u16; 97];
-    let mut sum: u16 = 0;
-    let mut i = 0;
-    while i < m {
-        sum += wide16(x[i]);
+    let mut sum = 0;
+    for i in 0..m {
+        sum += u16::from(x[i]);
         sums[i] = sum;
-        i += 1;
     }
     sums
 }
@@ -47,18 +45,14 @@ fn rise(i: u8, from: u8, s: u8) -> u8
     if i < from { s } else { s + 1 }
 }
 
-// s added mod q to every symbol of the array, and 1 more from an index on. The index is counted in bytes too: many are compared at once.
+// s added mod q to every symbol of the array, and 1 more from an index on. The index is compared as a byte: many are at once.
 fn raised(q: u8, d: &[u8; 97], s: u8, from: u8) -> [u8; 97]
     requires { SymbolArray q 97 d.now × (s < q) }
     ensures { Raised q d.now s from result }
 {
-    let mut w = [0u8; 97];
-    let mut at: u8 = 0;
-    let mut i = 0;
-    while i < 97 {
-        w[i] = add(q, d[i], rise(at, from, s));
-        at += 1;
-        i += 1;
+    let mut w = *d;
+    for (i, y) in w.iter_mut().enumerate() {
+        *y = add(q, *y, rise(i as u8, from, s));
     }
     w
 }
@@ -75,56 +69,44 @@ pub(crate) fn shift_of(row: Row, s: u8) -> u8
     requires { Valid row × (s < row.q) }
     ensures { result ≡ shift_of (parameters row) s }
 {
-    let edition = row.edition;
-    match edition {
+    match row.edition {
         Edition::Of2013 => s,
         Edition::Of2018 => sub(row.q, row.q - 1, s + 1),
     }
 }
 
-// 01: the choice used, the first whose w has weight middle, s before v. One exists, so the search ends at the label. For each s the word
+// 01: the choice used, the first whose w has weight middle, s before v. One exists, so the search ends before the loop does. For each s the word
 // of v = 1 is weighed. From v to v + 1 the symbol at v loses 1 mod q, and the excess with it: it gains q first where that symbol is 0.
 // In edition 18 v counts one more than 02's, which starts from 0; a complement is balanced where the word is.
 fn earliest(row: Row, d: &[u8; 97]) -> Choice
     requires { Valid row × SymbolArray row.q 97 d.now × Walked (parameters row) (take row.balanced d.now) }
     ensures { Chosen rule1 (parameters row) (take row.balanced d.now) result.shift result.v }
 {
-    let m = row.balanced;
-    let mut s: u8 = 0;
-    let mut v: usize = 1;
-    let mut shift: u8 = 0;
-    'search: loop {
-        shift = shift_of(row, s);
+    for s in 0..row.q {
+        let shift = shift_of(row, s);
         let mut gain = [0u8; 16];
-        gain[(row.q - 1 - shift) as usize] = row.q;
+        gain[usize::from(row.q - 1 - shift)] = row.q;
         let w = raised(row.q, d, shift, 0);
-        let weight = weigh(&w, m, row.target);
-        let mut excess = weight.excess;
-        v = 1;
-        while v <= m {
+        let mut excess = weigh(&w, row.balanced, row.target).excess;
+        for v in 1..row.balanced + 1 {
             if excess == 0 {
-                break 'search;
+                return Choice { shift, v };
             }
-            excess = excess + (gain[d[v - 1] as usize] as i32) - 1;
-            v += 1;
+            excess = excess + i32::from(gain[usize::from(d[v - 1])]) - 1;
         }
-        s += 1;
     }
-    Choice { shift, v }
+    unreachable!()
 }
 
 // Each symbol y of an array made q - 1 - y.
-fn complemented(q: u8, w: &[u8; 97]) -> [u8; 97]
-    requires { SymbolArray q 97 w.now }
-    ensures { result ≡ complement q w.now }
+fn complemented(q: u8, mut w: [u8; 97]) -> [u8; 97]
+    requires { SymbolArray q 97 w }
+    ensures { result ≡ complement q w }
 {
-    let mut u = [0u8; 97];
-    let mut i = 0;
-    while i < 97 {
-        u[i] = q - 1 - w[i];
-        i += 1;
+    for y in &mut w {
+        *y = q - 1 - *y;
     }
-    u
+    w
 }
 
 // w of a choice, from the shifted integral: it, or in edition 18 its complement.
@@ -132,10 +114,9 @@ fn word_of_shift(row: Row, w: [u8; 97]) -> [u8; 97]
     requires { SymbolArray row.q 97 w }
     ensures { result ≡ unwalked (parameters row) w }
 {
-    let edition = row.edition;
-    match edition {
+    match row.edition {
         Edition::Of2013 => w,
-        Edition::Of2018 => complemented(row.q, &w),
+        Edition::Of2018 => complemented(row.q, w),
     }
 }
 
@@ -145,9 +126,10 @@ fn choose(row: Row, rule: usize, d: &[u8; 97]) -> Choice
     ensures { Chosen (line_rule_of rule) (parameters row) (take row.balanced d.now) result.shift result.v }
 {
     if rule == 2 {
-        return least_peak(row, d);
+        least_peak(row, d)
+    } else {
+        earliest(row, d)
     }
-    earliest(row, d)
 }
 
 // 01: w of the choice used, of the components in x after a zero.

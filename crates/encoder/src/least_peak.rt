@@ -9,7 +9,7 @@ ghost use Rattle.peaks_theory.specs.Claims.{Seeded};
 ghost use Rattle.encoder.specs.Symbols.{SymbolArray, Walked, Chosen, lowest_s};
 
 use crate::balance::{Choice, shift_of};
-use modular::{remainder, wide};
+use modular::remainder;
 use peaks::{Lanes, least_peaks};
 use profiles::{Edition, Row};
 use symbols::weigh;
@@ -19,10 +19,9 @@ fn check_offset(row: Row) -> usize
     requires { Valid row }
     ensures { Congruent row.q result (check_offset (parameters row) row.balanced) × (result ≤ 255) }
 {
-    let edition = row.edition;
-    match edition {
-        Edition::Of2013 => wide(row.delta),
-        Edition::Of2018 => row.n + wide(row.q - row.delta),
+    match row.edition {
+        Edition::Of2013 => usize::from(row.delta),
+        Edition::Of2018 => row.n + usize::from(row.q - row.delta),
     }
 }
 
@@ -40,7 +39,10 @@ fn seed(row: Row, d: &[u8; 97]) -> Alphas
 {
     let weight = weigh(d, row.balanced, row.target);
     let positions = row.n + 1;
-    let first = remainder(row.q, weight.odd as usize + check_offset(row) + positions);
+    let first = remainder(
+        row.q,
+        usize::from(weight.odd) + check_offset(row) + positions,
+    );
     let step = remainder(row.q, positions);
     Alphas { first, step }
 }
@@ -51,15 +53,13 @@ fn lowest_s(row: Row, costs: &Lanes) -> u8
     ensures { result ≡ lowest_s (parameters row) costs.now }
 {
     let mut lowest = row.q;
-    let mut least: u16 = 65535;
-    let mut s: u8 = 0;
-    while s < row.q {
-        let cost = costs[shift_of(row, s) as usize];
+    let mut least = 65535;
+    for s in 0..row.q {
+        let cost = costs[usize::from(shift_of(row, s))];
         if cost < least {
             least = cost;
             lowest = s;
         }
-        s += 1;
     }
     lowest
 }
@@ -71,10 +71,7 @@ pub(crate) fn least_peak(row: Row, d: &[u8; 97]) -> Choice
 {
     let seed = seed(row, d);
     let found = least_peaks(row.q, row.balanced, seed.first, seed.step, d);
-    let costs = found.costs;
-    let indices = found.indices;
-    let shift = shift_of(row, lowest_s(row, &costs));
-    let index = indices[shift as usize];
-    let v = (index as usize) + 1;
+    let shift = shift_of(row, lowest_s(row, &found.costs));
+    let v = usize::from(found.indices[usize::from(shift)]) + 1;
     Choice { shift, v }
 }

@@ -1,5 +1,5 @@
 // The word of two messages.
-ghost use Rattle.std.specs.Prelude.{◌≡◌, T, take};
+ghost use Rattle.std.specs.Prelude.{◌≡◌, T, length};
 ghost use Rattle.code_theory.specs.Parameters.{in_edition, message_length, codeword_length};
 ghost use Rattle.code_theory.specs.Component.{is_word};
 ghost use Rattle.code_theory.specs.Profiles.{profile};
@@ -8,20 +8,28 @@ ghost use Rattle.profiles.specs.Edition.{edition_is};
 ghost use Rattle.profiles.specs.Row.{RowOf};
 
 use crate::balance::balanced;
-use crate::word::{Word, with_checks};
+use crate::word::put;
 use components::components;
 use profiles::Row;
 
-// 01: the line word of a pair of user words, by their profile's row, in an edition, and number; 02, T-06: by a line rule.
-pub(crate) fn word_of(row: Row, number: usize, rule: usize, first: &[u8], second: &[u8]) -> Word
+// 01: the line word of a pair of user words, by their profile's row, in an edition, and number, written over all of the output; 02, T-06:
+// by a line rule.
+pub(crate) fn write(
+    row: Row,
+    number: usize,
+    rule: usize,
+    first: &[u8],
+    second: &[u8],
+    out: &mut [u8],
+)
     requires { RowOf (edition_is row.edition) number row × T (is_word (profile number).q (message_length (profile number)) first.now)
-        × T (is_word (profile number).q (message_length (profile number)) second.now) }
-    ensures { (take result.len result.symbols
+        × T (is_word (profile number).q (message_length (profile number)) second.now)
+        × (length out.old ≡ codeword_length (profile number)) }
+    ensures { out.new
         ≡ encoded_by (line_rule_of rule) (in_edition (edition_is row.edition) (profile number)) first.now
-        second.now)
-        × (result.len ≡ codeword_length (profile number)) }
+        second.now }
 {
     let x = components(number, first, second);
     let w = balanced(row, rule, &x);
-    with_checks(row, &w)
+    put(row, &w, out);
 }

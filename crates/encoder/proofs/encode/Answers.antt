@@ -1,94 +1,71 @@
 -- `encoder::encode` meets its contract: what the steps refuse is what the definition refuses, before any byte is written; what they let
 -- through is encoded, and the word fills the output.
 -- Assumes nothing.
-use mathlib.Core.Path.{◌≡◌, sym, ap, ◌∙◌}
-use Prim.Native.Nat.{ℕ}
+use mathlib.Core.Path.{◌≡◌, ap, ◌∙◌}
 use native.Mathlib.Omega.{arith}
 use lib.ListN.{length}
 use mathlib.Core.Bool.{true}
 use Rattle.code_theory.specs.Parameters.{is_edition, edition_of}
-use Rattle.code_theory.specs.Operations.{outcome, encode_refusal}
-use Rattle.profiles.specs.Edition.{edition_is}
+use Rattle.code_theory.specs.Operations.{encode_refusal}
 use Rattle.profiles.specs.Row.{RowOf}
+use Rattle.profiles.specs.Refusal.{encode_number}
+use Rattle.std.proofs.lemmas.Result.{err_from_is_err_and}
+use Rattle.refusals.specs.Number.{number_of}
 use Rattle.profiles.proofs.Editions.{edition_known, edition_is_lem, edition_none}
-use Rattle.profiles.proofs.Table.{row_found, none_found, codeword_is}
-use Rattle.profiles.proofs.Refusing.{Accepted, accepted, encode_edition_refused, encode_profile_refused, encode_by_row}
-use Rattle.encoder.proofs.Refusing.{refused_outcome, output_kept, output_done}
+use Rattle.profiles.proofs.Table.{row_found, none_found}
+use Rattle.profiles.proofs.Refusing.{accepted, encode_edition_refused, encode_profile_refused, encode_by_row}
+use Rattle.encoder.proofs.Refusing.{none_refused, refused_allows, done_allows}
 use Rattle.encoder.proofs.Editions.{of_own, encoded_in}
 use Rattle.encoder.proofs.encode.Goals as goal
-use Rattle.encoder.proofs.encode.Goals.{After-encode_refusal-number, In-Found, In-Known}
+use Rattle.encoder.proofs.encode.Goals.{In_ok-known, In_ok-row}
 
 -- the edition is known
-module _ (c : In-Known) where
-  is-edition : is_edition c.args.edition ≡ true
-  is-edition = edition_known _ c.edition_of.ensures c.in-Known.is
-
-  edition-same : edition_is c.in-Known.known ≡ edition_of c.args.edition
-  edition-same = edition_is_lem _ c.edition_of.ensures c.in-Known.is
+is-edition : (c : In_ok-known) → is_edition c.args.edition ≡ true
+is-edition c = edition_known _ c.edition_of.ensures c.in_ok-known.ensures.ok_part
 
 -- the row is the profile's
-of : (c : In-Found) → RowOf (edition_of c.args.edition) c.args.profile c.in-Found.row
-of c = rw (← edition-same (goal.at.In-Found c).In-Known) (row_found _ _ c.row_in.ensures c.in-Found.is)
+of : (c : In_ok-row) → RowOf (edition_of c.args.edition) c.args.profile c.in_ok-row.row
+of c =
+    rw (← edition_is_lem _ c.edition_of.ensures c.in_ok-known.ensures.ok_part)
+    (row_found _ _ c.row_in.ensures c.in_ok-row.ensures.ok_part)
 
--- the number is asked for
-module _ (c : After-encode_refusal-number) where
-  abbrev number : ℕ
-  number = c.encode_refusal-number.result
+pub returns-in_err-known : goal.returns-in_err-known
+returns-in_err-known c =
+    let none = c.in_err-known.ensures.ok_part in
+    let is = none_refused none c.in_err-known.ensures.value in
+    let refused = ap number_of is ∙ encode_edition_refused _ _ _ _ _ _ (edition_none _ c.edition_of.ensures none) in
+    let p = err_from_is_err_and c.from_residual.result c.from_residual.ensures.1 in
+    rw (p.1, p.2) (refused_allows _ _ _ _ _ _ refused)
 
-  abbrev refusal : ℕ
-  refusal =
-      encode_refusal c.args.edition c.args.profile c.args.rule c.args.first.now c.args.second.now (length c.args.out.now)
+pub returns-in_err-row : goal.returns-in_err-row
+returns-in_err-row c =
+    let none = c.in_err-row.ensures.ok_part in
+    let is = none_refused none c.in_err-row.ensures.value in
+    let known = is-edition (goal.at.returns-in_err-row c).In_ok-known in
+    let refused = ap number_of is ∙ encode_profile_refused _ _ _ _ _ _ known (none_found _ _ c.row_in.ensures none) in
+    let p = err_from_is_err_and c.from_residual-in_err-row.result c.from_residual-in_err-row.ensures.1 in
+    rw (p.1, p.2) (refused_allows _ _ _ _ _ _ refused)
 
-  edition : is_edition c.args.edition ≡ true
-  edition = is-edition (goal.at.After-encode_refusal-number c).In-Known
+-- that by the row is the definition's
+by_row : (c : In_ok-row) →
+    encode_number c.in_ok-row.row c.args.rule c.args.first.now c.args.second.now (length c.args.out.now)
+    ≡ encode_refusal c.args.edition c.args.profile c.args.rule c.args.first.now c.args.second.now (length c.args.out.now)
+by_row c = encode_by_row _ _ _ _ _ _ (is-edition (goal.at.In_ok-row c).In_ok-known) (of c)
 
-  found : RowOf (edition_of c.args.edition) c.args.profile c.in-Found.row
-  found = of (goal.at.After-encode_refusal-number c).In-Found
+pub returns-in_err-encode_refusal : goal.returns-in_err-encode_refusal
+returns-in_err-encode_refusal c =
+    let refused = c.in_err-encode_refusal.ensures ∙ by_row (goal.at.returns-in_err-encode_refusal c).In_ok-row in
+    let p = err_from_is_err_and c.from_residual-in_err-encode_refusal.result c.from_residual-in_err-encode_refusal.ensures.1 in
+    rw (p.1, p.2) (refused_allows _ _ _ _ _ _ refused)
 
-  -- that by the row is the definition's
-  number_is : number ≡ refusal
-  number_is = c.encode_refusal-number.ensures ∙ encode_by_row _ _ _ _ _ _ edition found
-
-  -- past the refusals
-  module _ (z : number ≡ 0) where
-    accept : Accepted c.args.profile c.args.first.now c.args.second.now (length c.args.out.now)
-    accept = accepted c.args.edition _ _ _ _ _ edition found (sym c.encode_refusal-number.ensures ∙ z)
-
-    none : 0 ≡ refusal
-    none = sym z ∙ number_is
-
-pub returns-in_default : goal.returns-in_default
-returns-in_default c =
-    let e = encode_edition_refused _ _ _ _ _ _ (edition_none _ c.edition_of.ensures c.in_default.is) in
-    record { answer = ap outcome e; output = output_kept _ _ _ _ _ _ e (omega arith) }
-
-pub returns-in_default-row_in : goal.returns-in_default-row_in
-returns-in_default-row_in c =
-    let none = none_found _ _ c.row_in.ensures c.in_default-row_in.is in
-    let e = encode_profile_refused _ _ _ _ _ _ (is-edition (goal.at.returns-in_default-row_in c).In-Known) none in
-    record { answer = ap outcome e; output = output_kept _ _ _ _ _ _ e (omega arith) }
-
-pub returns-then-number-ne0 : goal.returns-then-number-ne0
-returns-then-number-ne0 c =
-    let is = number_is (goal.at.returns-then-number-ne0 c).After-encode_refusal-number in
-    record { answer = refused_outcome is c.if-number-ne0.true; output = output_kept _ _ _ _ _ _ is c.if-number-ne0.true }
-
-pub word_of-requires : goal.word_of-requires
-word_of-requires c =
-    let asked = (goal.at.word_of-requires c).After-encode_refusal-number in
-    let a = accept asked (omega arith) in
-    (of_own (found asked), a.first, a.second)
-
-pub put-requires : goal.put-requires
-put-requires c =
-    let asked = (goal.at.put-requires c).After-encode_refusal-number in
-    let f = found asked in
-    let e = c.word_of.ensures.1 in
-    (e ∙ sym (accept asked (omega arith)).room, omega (arith, e, codeword_is f, f.valid.codeword, f.valid.length))
+pub write-requires : goal.write-requires
+write-requires c =
+    let row = (goal.at.write-requires c).In_ok-row in
+    let none : encode_number c.in_ok-row.row c.args.rule c.args.first.now c.args.second.now (length c.args.out.now) ≡ 0 = omega arith in
+    let a = accepted _ _ _ _ _ _ (is-edition (goal.at.In_ok-row row).In_ok-known) (of row) none in
+    (of_own (of row), a.first, a.second, a.room)
 
 pub returns : goal.returns
 returns c =
-    let asked = (goal.at.returns c).After-encode_refusal-number in
-    let none = none asked (omega arith) in
-    let word = c.put.ensures ∙ c.word_of.ensures.0 ∙ encoded_in (found asked) _ _ _ in
-    record { answer = ap outcome none; output = word ∙ output_done _ _ _ _ _ _ none }
+    let row = (goal.at.returns c).In_ok-row in
+    done_allows _ _ _ _ _ _ (c.in_ok-encode_refusal.ensures ∙ by_row row) (c.write.ensures ∙ encoded_in (of row) _ _ _)

@@ -1,11 +1,9 @@
--- `encoder::balance::complemented` meets its contract. The invariant: the symbols passed are complemented. The measure is what is left.
+-- `encoder::balance::complemented` meets its contract. The invariant: the symbols passed are complemented, and the others are as they were.
 -- Assumes nothing.
 use Prim.Native.Nat.{◌-◌}
-use Rattle.encoder.proofs.Complementing.{Complementing}
+use lib.ListN.{get_or}
+use Rattle.encoder.proofs.Changing.{ChangedTo}
 use Rattle.encoder.proofs.balance.complemented.Given as goal
 
-abbrev pub invariant-loop-i : goal.invariant-loop-i
-invariant-loop-i l = Complementing l.q l.w l.u l.i
-
-abbrev pub decreases-loop-i : goal.decreases-loop-i
-decreases-loop-i l = 97 - l.i
+abbrev pub invariant-loop-y : goal.invariant-loop-y
+invariant-loop-y l = ChangedTo (λ k. l.q - 1 - get_or l.fn.w k 0) l.fn.w l.y-items l.y-index

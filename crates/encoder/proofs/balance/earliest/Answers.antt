@@ -1,14 +1,13 @@
 -- `encoder::balance::earliest` meets its contract. The invariants: no choice with a smaller s balances, and none with this s's shift and a
--- smaller v; the excess is that of the choice tried. A balancing choice exists, so s stays below q. The measures are what is left of s and
--- of v.
+-- smaller v; the excess is that of the choice tried. A balancing choice exists, so some s below q has it.
 -- Assumes nothing.
-use mathlib.Core.Path.{◌≡◌, refl, sym, ap, ap₂, ◌∙◌}
+use mathlib.Core.Path.{◌≡◌, sym, ap, ap₂, ◌∙◌}
 use mathlib.Core.List.{List}
-use Prim.Native.Nat.{ℕ, suc, ◌+◌, ◌-◌, ◌≤◌, ◌<◌}
+use Prim.Native.Nat.{ℕ, suc, ◌-◌, ◌≤◌, ◌<◌}
 use native.Mathlib.Nat.{min-eq_left}
 use native.Mathlib.Omega.{arith}
 use lib.IntN.{pos, ◌-ℤ◌}
-use lib.ListN.{length, get_or, take}
+use lib.ListN.{length, get_or, take, set, replicate}
 use lib.Seq.{get_or-take}
 use mir.Syntax.{w32}
 use mir.Val.{SFits, to_z, of_z}
@@ -22,12 +21,12 @@ use Rattle.modular.proofs.Signed.{read, asked, held}
 use Rattle.profiles.specs.Row.{parameters}
 use Rattle.symbols.specs.declared.weight.Weight.{Weight}
 use Rattle.encoder.proofs.Raising.{raised_is}
-use Rattle.encoder.proofs.Stepping.{weight_at, gains, weight_next, weight_small, excess_at, Stepping}
+use Rattle.encoder.proofs.Stepping.{weight_next, weight_small, excess_at, Stepping}
 use Rattle.encoder.proofs.Stepping.{excess_gained, excess_next}
 use Rattle.encoder.proofs.Searching.{trying_first, trying_next, trying_all, row_size, s_left}
 use Rattle.encoder.proofs.Searching.{all_found}
 use Rattle.encoder.proofs.balance.earliest.Goals as goal
-use Rattle.encoder.proofs.balance.earliest.Goals.{After-shift_of-shift, After-weigh-weight, At-search, In-loop-v, Start}
+use Rattle.encoder.proofs.balance.earliest.Goals.{After-shift_of-shift, After-weigh-excess, After-from-in-loop-v-2, Start}
 
 -- the symbols that are raised
 abbrev word : Start → List ℕ
@@ -42,19 +41,14 @@ target c = c.requires.0.target ∙ ap (balancing_value c.args.row.q) (sym (size 
 room : (c : Start) → c.args.row.balanced ≤ 97
 room c = omega (arith, c.requires.0.balanced, c.requires.0.length)
 
-s_below : (c : At-search) → c.search.s < c.args.row.q
-s_below c = s_left c.args.row c.requires.0 (size (goal.at.At-search c).Start) c.requires.2 c.search.invariant
-
--- the shift of that s
+-- the shift of an s
 shift_small : (c : After-shift_of-shift) → c.shift_of-shift.result < c.args.row.q
-shift_small c =
-    let row = c.args.row in
-    rw c.shift_of-shift.ensures (shift_below (parameters row) c.requires.1.some c.search.s (s_below (goal.at.After-shift_of-shift c).At-search))
+shift_small c = rw c.shift_of-shift.ensures (shift_below (parameters c.args.row) c.requires.1.some c.loop-s.s c.loop-s-test.true)
 
 -- the symbol at v
-module _ (c : In-loop-v) where
+module _ (c : After-from-in-loop-v-2) where
   abbrev start : Start
-  start = (goal.at.In-loop-v c).Start
+  start = (goal.at.After-from-in-loop-v-2 c).Start
 
   abbrev q : ℕ
   q = c.args.row.q
@@ -75,49 +69,47 @@ module _ (c : In-loop-v) where
   symbol = rw is-symbol (c.requires.1.below i (omega (arith, inside, room start)))
 
   -- the excess, and what the weight gains there
-  stepping : Stepping q (word start) t i c.loop-v.excess-bits (get_or (gains q t) (get_or c.args.d.now i 0) 0)
+  stepping : Stepping q (word start) t i c.loop-v.excess-bits (of_z w32 c.from-in-loop-v-2.result)
   stepping =
       let levels = c.requires.1.levels in
       record {
         is = c.loop-v.invariant.is;
         gained =
-            ap (λ (y : ℕ). weight_at q (word start) t i + get_or (gains q t) y 0) (sym is-symbol)
-            ∙ weight_next q t (word start) i levels (shift_small (goal.at.In-loop-v c).After-shift_of-shift) (rw (size start) inside) symbol refl;
+            weight_next q t (word start) i levels (shift_small (goal.at.After-from-in-loop-v-2 c).After-shift_of-shift) (rw (size start) inside) symbol
+            (ap (of_z w32) c.from-in-loop-v-2.ensures
+            ∙ ap₂ (λ (j y : ℕ). get_or (set (replicate 16 0) j q) y 0) c.from.ensures (c.from-in-loop-v.ensures ∙ sym is-symbol));
         small = weight_small q c.requires.1.some (word start) t (suc i) levels (rw (size start) (room start));
         narrow = omega (arith, target start);
       }
 
-pub shift_of-shift-requires : goal.shift_of-shift-requires
-shift_of-shift-requires c = (c.requires.0, s_below (goal.at.shift_of-shift-requires c).At-search)
-
-pub overflow_sub-gain-in-search : goal.overflow_sub-gain-in-search
-overflow_sub-gain-in-search c = omega (arith, shift_small (goal.at.overflow_sub-gain-in-search c).After-shift_of-shift)
+pub overflow_sub-row-in-loop-s : goal.overflow_sub-row-in-loop-s
+overflow_sub-row-in-loop-s c = omega (arith, shift_small (goal.at.overflow_sub-row-in-loop-s c).After-shift_of-shift)
 
 pub raised-w-requires : goal.raised-w-requires
 raised-w-requires c = (c.requires.1, shift_small (goal.at.raised-w-requires c).After-shift_of-shift)
 
 -- the word of the choice s, 1 is weighed
-first : (c : After-weigh-weight) →
-    c.weigh-weight.result.excess ≡ excess_at c.args.row.q (word (goal.at.After-weigh-weight c).Start) c.shift_of-shift.result 0
+first : (c : After-weigh-excess) →
+    c.weigh-excess.result.excess ≡ excess_at c.args.row.q (word (goal.at.After-weigh-excess c).Start) c.shift_of-shift.result 0
 first c =
-    let start = (goal.at.After-weigh-weight c).Start in
+    let start = (goal.at.After-weigh-excess c).Start in
     let w : List ℕ = c.raised-w.result in
     let long : length w ≡ 97 = search rules in
     let word_is = raised_is c.args.row.balanced c.requires.1 (room start) c.raised-w.ensures long in
     let is = ap (λ (k : ℕ). take k w) (min-eq_left (room start)) ∙ word_is in
-    ap (λ (r : Weight). r.excess) c.weigh-weight.ensures ∙ ap₂ (λ (l : List ℕ) (g : ℕ). pos (weight l) -ℤ pos g) is (target start)
+    ap (λ (r : Weight). r.excess) c.weigh-excess.ensures ∙ ap₂ (λ (l : List ℕ) (g : ℕ). pos (weight l) -ℤ pos g) is (target start)
 
 pub loop-v-init : goal.loop-v-init
 loop-v-init c =
-    let fits : SFits w32 c.weigh-weight.result.excess = search rules in
+    let fits : SFits w32 c.weigh-excess.result.excess = search rules in
     trying_first (omega (arith, size (goal.at.loop-v-init c).Start, c.requires.0.balanced))
-    (to_z-of_z fits ∙ first (goal.at.loop-v-init c).After-weigh-weight)
+    (to_z-of_z fits ∙ first (goal.at.loop-v-init c).After-weigh-excess)
 
 pub overflow_add-excess : goal.overflow_add-excess
-overflow_add-excess c = asked (excess_gained (stepping (goal.at.overflow_add-excess c).In-loop-v))
+overflow_add-excess c = asked (excess_gained (stepping (goal.at.overflow_add-excess c).After-from-in-loop-v-2))
 
-pub overflow_sub-excess-in-loop-v : goal.overflow_sub-excess-in-loop-v
-overflow_sub-excess-in-loop-v c = asked (excess_next (stepping (goal.at.overflow_sub-excess-in-loop-v c).In-loop-v))
+pub overflow_sub-excess : goal.overflow_sub-excess
+overflow_sub-excess c = asked (excess_next (stepping (goal.at.overflow_sub-excess c).After-from-in-loop-v-2))
 
 pub loop-v-preserved : goal.loop-v-preserved
 loop-v-preserved c =
@@ -125,22 +117,21 @@ loop-v-preserved c =
     let inside : c.loop-v.v ≤ length (word start) = omega (arith, size start, c.loop-v-test.true) in
     let other : to_z w32 c.loop-v.excess-bits ≢ pos 0 =
     λ e. c.if-excess-eq0.false (sym (of_z-to_z c.loop-v.auto.excess-fits) ∙ ap (of_z w32) e) in
-    trying_next c.loop-v.invariant inside other (read (held (excess_next (stepping (goal.at.loop-v-preserved c).In-loop-v))))
+    trying_next c.loop-v.invariant inside other (read (held (excess_next (stepping (goal.at.loop-v-preserved c).After-from-in-loop-v-2))))
 
-pub overflow_add-s : goal.overflow_add-s
-overflow_add-s c = omega (arith, s_below (goal.at.overflow_add-s c).At-search, c.requires.1.levels)
-
-pub search-smaller : goal.search-smaller
-search-smaller c = omega (arith, s_below (goal.at.search-smaller c).At-search)
-
-pub search-preserved : goal.search-preserved
-search-preserved c =
+pub loop-s-preserved : goal.loop-s-preserved
+loop-s-preserved c =
     trying_all c.loop-v.invariant c.shift_of-shift.ensures
-    (omega (arith, size (goal.at.search-preserved c).Start, c.loop-v-test.false)) c.search.invariant
+    (omega (arith, size (goal.at.loop-s-preserved c).Start, c.loop-v-test.false)) c.loop-s.invariant
 
-pub returns : goal.returns
-returns c =
-    let start = (goal.at.returns c).Start in
-    all_found c.args.row c.requires.0 (size start) c.requires.2 c.search.invariant
+pub unreachable-requires : goal.unreachable-requires
+unreachable-requires c =
+    let left = s_left c.args.row c.requires.0 (size (goal.at.unreachable-requires c).Start) c.requires.2 c.loop-s.invariant in
+    omega (arith, left, c.loop-s-test.false)
+
+pub returns-then-excess-eq0 : goal.returns-then-excess-eq0
+returns-then-excess-eq0 c =
+    let start = (goal.at.returns-then-excess-eq0 c).Start in
+    all_found c.args.row c.requires.0 (size start) c.requires.2 c.loop-s.invariant
     c.shift_of-shift.ensures c.loop-v.invariant (omega (arith, size start, c.loop-v-test.true))
     (ap (to_z w32) c.if-excess-eq0.true)

@@ -1,12 +1,7 @@
 -- `encoder::balance::summed` meets its contract. The invariant: the sums passed are written, and `sum` is the last.
--- The measure is what is left.
 -- Assumes nothing.
-use Prim.Native.Nat.{◌-◌, ◌≤◌}
 use Rattle.encoder.proofs.Integrating.{PrefixSumming}
 use Rattle.encoder.proofs.balance.summed.Given as goal
 
 abbrev pub invariant-loop-i : goal.invariant-loop-i
-invariant-loop-i l = PrefixSumming l.x l.sums l.sum l.i × (l.i ≤ l.m)
-
-abbrev pub decreases-loop-i : goal.decreases-loop-i
-decreases-loop-i l = l.m - l.i
+invariant-loop-i l = PrefixSumming l.x l.sums l.sum l.i

@@ -1,7 +1,8 @@
 -- `encoder::least_peak::least_peak` meets its contract: of the shifts' least peaks the lowest, and the first index that has it.
 -- Assumes nothing.
-use mathlib.Core.Path.{refl}
-use Prim.Native.Nat.{◌<◌}
+use mathlib.Core.Path.{ap, ◌∙◌}
+use Prim.Native.Nat.{ℕ, ◌+◌, ◌<◌}
+use lib.ListN.{get_or}
 use Rattle.encoder.proofs.LeastPeak.{lowest_below, least_chosen, shift_small}
 use Rattle.encoder.proofs.least_peak.least_peak.Goals as goal
 use Rattle.encoder.proofs.least_peak.least_peak.Goals.{After-lowest_s}
@@ -14,12 +15,14 @@ below c =
 pub shift_of-shift-requires : goal.shift_of-shift-requires
 shift_of-shift-requires c = (c.requires.0, below (goal.at.shift_of-shift-requires c).After-lowest_s)
 
-pub bounds-indices-shift : goal.bounds-indices-shift
-bounds-indices-shift c =
-    shift_small c.args.row c.requires.0 c.requires.1 c.args.d.now c.requires.2 _ _ c.seed-seed.ensures
-    c.least_peaks-found.ensures c.requires.3 c.lowest_s.ensures c.shift_of-shift.ensures
+pub bounds-found-from : goal.bounds-found-from
+bounds-found-from c =
+    rw c.from.ensures
+    (shift_small c.args.row c.requires.0 c.requires.1 c.args.d.now c.requires.2 _ _ c.seed-seed.ensures
+    c.least_peaks-found.ensures c.requires.3 c.lowest_s.ensures c.shift_of-shift.ensures)
 
 pub returns : goal.returns
 returns c =
     least_chosen c.args.row c.requires.0 c.requires.1 c.args.d.now c.requires.2 _ _ c.seed-seed.ensures
-    c.least_peaks-found.ensures c.requires.3 c.lowest_s.ensures c.shift_of-shift.ensures refl
+    c.least_peaks-found.ensures c.requires.3 c.lowest_s.ensures c.shift_of-shift.ensures
+    (ap (λ (i : ℕ). i + 1) (c.from-v.ensures ∙ ap (λ (k : ℕ). get_or c.least_peaks-found.result.indices k 0) c.from.ensures))

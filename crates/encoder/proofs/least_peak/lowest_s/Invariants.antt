@@ -1,7 +1,6 @@
--- `encoder::least_peak::lowest_s` meets its contract. The invariant: of the s passed, `lowest` is the first with the least cost. The measure
--- is what is left.
+-- `encoder::least_peak::lowest_s` meets its contract. The invariant: of the s passed, `lowest` is the first with the least cost.
 -- Assumes nothing.
-use Prim.Native.Nat.{◌-◌, ◌≤◌}
+use Prim.Native.Nat.{◌≤◌}
 use lib.Dec.{ltb}
 use Rattle.profiles.specs.Row.{parameters}
 use Rattle.peaks_theory.specs.Lowest.{no_cost}
@@ -10,8 +9,6 @@ use Rattle.encoder.specs.Symbols.{shift_cost}
 use Rattle.encoder.proofs.least_peak.lowest_s.Given as goal
 
 abbrev pub invariant-loop-s : goal.invariant-loop-s
-invariant-loop-s l = Searched (λ u. ltb (shift_cost (parameters l.row) l.costs u) no_cost) (shift_cost (parameters l.row) l.costs) l.row.q l.s l.least l.lowest
-    × (l.s ≤ l.row.q) × (l.least ≤ no_cost)
-
-abbrev pub decreases-loop-s : goal.decreases-loop-s
-decreases-loop-s l = l.row.q - l.s
+invariant-loop-s l =
+    Searched (λ u. ltb (shift_cost (parameters l.row) l.costs u) no_cost) (shift_cost (parameters l.row) l.costs) l.row.q l.s l.least l.lowest
+    × (l.least ≤ no_cost)

@@ -10,5 +10,5 @@ returns c =
     let row = c.args.row in
     let valid = c.requires.0 in
     seeded row valid c.args.d.now (row_size row valid c.args.d.now c.requires.1.size)
-    (omega (arith, valid.balanced, valid.length)) c.weigh-weight.ensures c.check_offset.ensures.0 c.remainder-first.ensures
+    (omega (arith, valid.balanced, valid.length)) c.weigh-weight.ensures c.check_offset.ensures.0 (rw c.from.ensures at c.remainder-first.ensures)
     c.remainder-step.ensures

@@ -1,4 +1,4 @@
--- `encoder::pair::word_of` meets its contract: the steps are those of the definition.
+-- `encoder::pair::write` meets its contract: the steps are those of the definition.
 -- Assumes nothing.
 use mathlib.Core.List.{List}
 use Prim.Native.Nat.{ℕ}
@@ -7,9 +7,9 @@ use borrow.Author.Rules.{rules}
 use Rattle.code_theory.specs.Profiles.{profile}
 use Rattle.profiles.proofs.Table.{levels_eight}
 use Rattle.encoder.specs.Symbols.{SymbolArray, ZeroFirst}
-use Rattle.encoder.proofs.Pairing.{IsMessage, pair_symbols, pair_zero_first, pair_encoded, pair_length}
-use Rattle.encoder.proofs.pair.word_of.Goals as goal
-use Rattle.encoder.proofs.pair.word_of.Goals.{After-components-x}
+use Rattle.encoder.proofs.Pairing.{IsMessage, pair_symbols, pair_zero_first, pair_encoded}
+use Rattle.encoder.proofs.pair.write.Goals as goal
+use Rattle.encoder.proofs.pair.write.Goals.{After-components-x}
 
 -- x holds symbols
 module _ (c : After-components-x) where
@@ -33,8 +33,4 @@ balanced-w-requires c =
 pub returns : goal.returns
 returns c =
     let both = pair (goal.at.returns c).After-components-x in
-    let first = c.args.first.now in
-    let second = c.args.second.now in (
-      pair_encoded c.requires.0 first second both c.components-x.ensures _ c.balanced-w.ensures c.with_checks.ensures.0,
-      pair_length c.requires.0 first second both c.components-x.ensures c.with_checks.ensures.1,
-    )
+    pair_encoded c.requires.0 c.args.first.now c.args.second.now both c.components-x.ensures _ c.balanced-w.ensures c.put.ensures
