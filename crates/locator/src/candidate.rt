@@ -1,14 +1,13 @@
 // The index that a syndrome names, once it is divided by what moved it.
 ghost use Rattle.std.specs.Prelude.{◌≡◌, ◌≤◌};
 ghost use Rattle.locating_theory.specs.Candidates.{named_by, before, candidate, syndrome_of};
-ghost use Rattle.profiles.specs.Row.{Valid, parameters};
+ghost use Rattle.profiles.specs.Row.{parameters};
 ghost use Rattle.symbols.specs.Syndromes.{rows};
 ghost use Rattle.syndromes.specs.Rows.{FourRows, rows_of};
 ghost use Rattle.locator.specs.Steps.{Inverse};
 
 use crate::clues::Clues;
 use modular::add;
-use profiles::Row;
 use symbols::Syndrome;
 use syndromes::{position, syndrome_plus};
 
@@ -28,23 +27,24 @@ pub(crate) fn inverse(q: u8, g: u8) -> Option<u8>
     None
 }
 
-// The position that h times a syndrome names; 0 for a zero syndrome.
-#[tactic(auto, using(crate::proofs::Scaling::named_is))]
-fn named(row: Row, h: u8, s: Syndrome) -> usize
-    requires { Valid row × FourRows row (rows s) }
-    ensures { result ≡ named_by (parameters row) h (rows_of row (rows s)) }
-{
-    position(row.q, syndrome_plus(row.q, h, s, Syndrome::ZERO))
-}
-
-// The index that meets column a as the one after it; the last index meets none.
-fn index_before(row: Row, a: usize) -> usize
-    ensures { result ≡ before (parameters row) a }
-{
-    if a == 0 { row.n } else { a - 1 }
-}
-
 impl Clues {
+    // The position that h times a syndrome names; 0 for a zero syndrome.
+    #[tactic(auto, using(crate::proofs::Scaling::named_is))]
+    fn named(self, h: u8, s: Syndrome) -> usize
+        requires { FourRows self.row (rows s) }
+        ensures { result ≡ named_by (parameters self.row) h (rows_of self.row (rows s)) }
+    {
+        let q = self.row.q;
+        position(q, syndrome_plus(q, h, s, Syndrome::ZERO))
+    }
+
+    // The index that meets column a as the one after it; the last index meets none.
+    fn index_before(self, a: usize) -> usize
+        ensures { result ≡ before (parameters self.row) a }
+    {
+        if a == 0 { self.row.n } else { a - 1 }
+    }
+
     // The index of the parity that makes the syndrome of the first component zero, or of the second, if one does: i is the inverse of what
     // the components gain. In the second an index of the odd positions meets the column of its own number, and not the one after it.
     pub(crate) fn candidate(self, of_first: bool, i: u8) -> usize
@@ -58,11 +58,11 @@ impl Clues {
         } else {
             self.row.q - i
         };
-        let a = named(self.row, h, s);
+        let a = self.named(h, s);
         if self.odd && !of_first {
             a
         } else {
-            index_before(self.row, a)
+            self.index_before(a)
         }
     }
 }

@@ -1,12 +1,11 @@
 // What taking an error out at an index does to the syndromes.
 ghost use Rattle.std.specs.Prelude.{◌≡◌, [], ◌∷◌, ◌/◌, ◌%◌, ◌≤◌};
-ghost use Rattle.profiles.specs.Row.{Valid, parameters};
+ghost use Rattle.profiles.specs.Row.{parameters};
 ghost use Rattle.symbols.specs.Syndromes.{rows};
 ghost use Rattle.syndromes.specs.Rows.{FourRows, rows_of, Moved};
 ghost use Rattle.locating_theory.specs.ErrorPosition.{near_with};
 
 use crate::clues::Clues;
-use profiles::Row;
 use symbols::Syndrome;
 use syndromes::{near, syndrome_plus};
 
@@ -29,20 +28,21 @@ fn column(q: u8, a: u8) -> Syndrome
     }
 }
 
-// A syndrome with f times column a added. There is no column 0 and none past n.
-#[tactic(auto, using(syndromes::proofs::Moving::moved_still))]
-fn moved(row: Row, f: u8, a: usize, s: Syndrome) -> Syndrome
-    requires { Valid row × FourRows row (rows s) }
-    ensures { Moved row f a (rows s) (rows result) }
-{
-    if 1 <= a && a <= row.n {
-        syndrome_plus(row.q, f, column(row.q, a as u8), s)
-    } else {
-        s
-    }
-}
-
 impl Clues {
+    // A syndrome with f times column a added. There is no column 0 and none past n.
+    #[tactic(auto, using(syndromes::proofs::Moving::moved_still))]
+    fn moved(self, f: u8, a: usize, s: Syndrome) -> Syndrome
+        requires { FourRows self.row (rows s) }
+        ensures { Moved self.row f a (rows s) (rows result) }
+    {
+        let q = self.row.q;
+        if 1 <= a && a <= self.row.n {
+            syndrome_plus(q, f, column(q, a as u8), s)
+        } else {
+            s
+        }
+    }
+
     // Whether the syndromes are near once the components gain g at index k of the parity.
     #[tactic(auto, using(syndromes::proofs::FourRows::near_same, crate::proofs::Moving::near_odd, crate::proofs::Moving::near_even))]
     pub(crate) fn near_with(self, g: u8, k: usize) -> bool
@@ -53,13 +53,13 @@ impl Clues {
         let less = self.row.q - g;
         let (a, b) = if self.odd {
             (
-                moved(self.row, less, k + 1, self.first),
-                moved(self.row, g, k, self.second),
+                self.moved(less, k + 1, self.first),
+                self.moved(g, k, self.second),
             )
         } else {
             (
-                moved(self.row, g, k + 1, self.first),
-                moved(self.row, less, k + 1, self.second),
+                self.moved(g, k + 1, self.first),
+                self.moved(less, k + 1, self.second),
             )
         };
         near(self.row.q, self.row.n, a, b)

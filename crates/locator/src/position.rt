@@ -14,7 +14,7 @@ ghost use Rattle.locator.specs.Steps.{digit_row, level_rows, ReducedRows, ones_v
 
 use crate::candidate::inverse;
 use crate::clues::Clues;
-use crate::error::{gain_without, is_error};
+use crate::error::is_error;
 use profiles::{Edition, Row, row_in};
 use symbols::Syndrome;
 use syndromes::{plus_multiple, syndrome_plus};
@@ -87,7 +87,7 @@ impl Clues {
         ensures { LocatedIndex (parameters self.row) self.odd error (rows_of self.row (rows self.first)) (rows_of self.row (rows self.second))
             result }
     {
-        let g = gain_without(self.row, error);
+        let g = self.gain_without(error);
         let i = inverse(self.row.q, g)?;
         let first_before = self.begins_with_first(g);
         let k = self.candidate(first_before, i);
