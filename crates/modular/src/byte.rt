@@ -3,13 +3,11 @@
 ghost use Rattle.std.specs.Prelude.{◌≡◌};
 ghost use Rattle.modular.specs.Byte.{byte_sum, byte_difference};
 
-use std::num::{wrapping_add_u8, wrapping_sub_u8};
-
 // a + x mod q, where a is below q and x at most q.
 pub fn add(q: u8, a: u8, x: u8) -> u8
     ensures { result ≡ byte_sum q a x }
 {
-    let sum = wrapping_add_u8(a, x);
+    let sum = a.wrapping_add(x);
     if sum < q { sum } else { sum - q }
 }
 
@@ -17,8 +15,5 @@ pub fn add(q: u8, a: u8, x: u8) -> u8
 pub fn sub(q: u8, a: u8, x: u8) -> u8
     ensures { result ≡ byte_difference q a x }
 {
-    if a < x {
-        return wrapping_add_u8(wrapping_sub_u8(a, x), q);
-    }
-    a - x
+    if a < x { a.wrapping_sub(x).wrapping_add(q) } else { a - x }
 }

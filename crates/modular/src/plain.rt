@@ -6,20 +6,15 @@ ghost use Rattle.modular_theory.specs.Level.{level_of};
 fn level(q: u8, z: i64) -> u8
     ensures { result ≡ level_of q z }
 {
-    if z < 0 {
-        return q;
+    match u8::try_from(z) {
+        Ok(y) => y.min(q),
+        Err(_) => q,
     }
-    if z < (q as i64) {
-        return z as u8;
-    }
-    q
 }
 
 // x less e as a level. In 64 bits it fits for every e.
 pub fn less(q: u8, x: u8, e: i32) -> u8
     ensures { result ≡ level_of q (pos x -ℤ e) }
 {
-    let z = e as i64;
-    let y = (x as i64) - z;
-    level(q, y)
+    level(q, i64::from(x) - i64::from(e))
 }

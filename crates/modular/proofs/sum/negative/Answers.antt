@@ -1,27 +1,19 @@
--- `modular::sum::negative` meets its contract: 0 - e fits, and is reduced.
+-- `modular::sum::negative` meets its contract: -e fits, and is reduced.
 -- Assumes nothing.
-use Rattle.std.proofs.Common.{pos, ◌-ℤ◌, neg_ℤ, ap, ◌∙◌, arith, w32, w64, to_z, of_z}
+use Rattle.std.proofs.Common.{pos, ◌-ℤ◌, neg_ℤ, ap, ◌∙◌, arith, w64, to_z, of_z, SFits}
 use lib.IntN.{+ℤ_idl}
 use lib.Signed.{nat_abs-le}
+use mir.Facts.{sfits_widen}
 use Rattle.modular.specs.Remainder.{residue_of_integer, residue_of_negative}
-use Rattle.modular.proofs.Signed.{Computes, asked, held, read, value, literal, widened, difference_of_lem, difference_fits}
+use Rattle.modular.proofs.Signed.{read, value, literal, difference_of_lem, difference_fits, held}
 use Rattle.modular.proofs.sum.negative.Goals as goal
-use Rattle.modular.proofs.sum.negative.Goals.{Start}
-
--- 0 - z
-negated : (s : Start) → Computes w64 (pos 0 -ℤ to_z w64 (of_z w64 (to_z w32 (of_z w32 s.args.e)))) (pos 0 -ℤ s.args.e)
-negated s =
-    difference_of_lem (literal (pos 0) tt) (held (widened tt (value s.ranges.e)))
-    (difference_fits (pos 0) s.args.e 0 2147483648 tt (omega arith) (nat_abs-le s.args.e s.ranges.e.sfits))
-
-pub overflow_cast-z : goal.overflow_cast-z
-overflow_cast-z c = asked (widened tt (value c.ranges.e))
-
-pub overflow_sub-z : goal.overflow_sub-z
-overflow_sub-z c = asked (negated c)
 
 pub returns : goal.returns
 unfolding residue_of_negative
 returns c =
-    let s = c.before in
-    c.level.ensures ∙ ap (residue_of_integer s.args.q) (read (held (negated s)) ∙ +ℤ_idl (neg_ℤ s.args.e))
+    let is = c.from.ensures ∙ read (value c.ranges.e) in
+    let fits : SFits w64 (pos 0 -ℤ c.args.e) =
+    difference_fits (pos 0) c.args.e 0 2147483648 tt (omega arith) (nat_abs-le c.args.e c.ranges.e.sfits) in
+    let wide : SFits w64 c.args.e = sfits_widen tt c.ranges.e in
+    rw is at c.level.ensures
+    ∙ ap (residue_of_integer c.args.q) (read (held (difference_of_lem (literal (pos 0) tt) (value wide) fits)) ∙ +ℤ_idl (neg_ℤ c.args.e))

@@ -1,12 +1,9 @@
--- `modular::sum::remainders` meets its contract. The invariant: the sums passed are reduced. The measure is what is left.
+-- `modular::sum::remainders` meets its contract. The invariant: the sums passed are reduced.
 -- Assumes nothing.
-use Rattle.std.proofs.Common.{◌-◌, ◌≤◌, get_or}
+use Rattle.std.proofs.Common.{get_or}
 use Rattle.modular.specs.Remainder.{residue}
 use Rattle.modular.proofs.Filling.{FilledTo}
 use Rattle.modular.proofs.sum.remainders.Given as goal
 
 abbrev pub invariant-loop-i : goal.invariant-loop-i
-invariant-loop-i l = FilledTo (λ k. residue l.q (get_or l.sums k 0)) 97 l.d l.i × (l.i ≤ 97)
-
-abbrev pub decreases-loop-i : goal.decreases-loop-i
-decreases-loop-i l = 97 - l.i
+invariant-loop-i l = FilledTo (λ k. residue l.q (get_or l.sums k 0)) 97 l.d l.i
