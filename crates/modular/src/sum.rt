@@ -73,11 +73,10 @@ pub(crate) fn level(q: u8, z: i64) -> u8
     if q == 0 {
         return 0;
     }
-    if z < 0 {
-        let down = remainder(q, (-1 - z) as usize);
-        return q - (down + 1);
+    match usize::try_from(z) {
+        Ok(n) => remainder(q, n),
+        Err(_) => q - 1 - remainder(q, (-1 - z) as usize),
     }
-    remainder(q, z as usize)
 }
 
 // -e mod q, and 0 where there are no levels. In 64 bits -e fits for every e.
