@@ -1,6 +1,6 @@
 -- Sums mod q: a quotient by the inverse of q is right or one too low, whatever 16 bits the sum has.
 -- Assumes nothing.
-use Rattle.std.proofs.Common.{◌≡◌, ℕ, zero, suc, ◌+◌, ◌-◌, ◌*◌, ◌/◌, ◌%◌, ◌<◌, ◌≤◌, Bool, true, false, eqb, List, ◌∷◌, length, get_or, replicate, ℤ, pos, negsuc, ◌-ℤ◌, neg_ℤ, sym, refl, ap, ◌∙◌, suc-le-suc, zero-le, le_refl, le_of_suc-le-suc, not-suc-le-zero, mod-lt, mul-le-mul, div-le_self, add-one, arith, ext_get_or, ne_eqb}
+use Rattle.std.proofs.Common.{◌≡◌, ℕ, zero, suc, ◌+◌, ◌-◌, ◌*◌, ◌/◌, ◌%◌, ◌<◌, ◌≤◌, Bool, true, false, eqb, List, ◌∷◌, length, get_or, replicate, ℤ, pos, negsuc, ◌-ℤ◌, neg_ℤ, sym, refl, ap, ◌∙◌, suc-le-suc, zero-le, le_refl, le_of_suc-le-suc, not-suc-le-zero, mod-lt, mul-le-mul, add-one, arith, ext_get_or, ne_eqb}
 use native.Mathlib.Nat.{mod-add-div'}
 use Rattle.modular_theory.specs.Residue.{Congruent, remainder}
 use Rattle.modular_theory.proofs.Residue.{of_eq, symm, ◌then◌, multiple, already_reduced, wrapped}
@@ -64,9 +64,6 @@ module _ {q k s : ℕ} (some : 1 ≤ q) (inverse : k ≡ 65535 / q) (narrow : s 
       let first : u * q ≤ 65535 * q = mul-le-mul (omega arith) (le_refl q) in
       let second : s * (c + 1) ≤ 65535 * q = rw add-one (mul-le-mul narrow hc) in
       (omega arith, omega arith)
-
-  pub product_small : s * k ≤ 65535 * 65535
-  product_small = let h : k ≤ 65535 = rw inverse (div-le_self 65535 q) in mul-le-mul narrow h
 
   pub quotient_fits : quotient * q ≤ s
   quotient_fits = dropped.0

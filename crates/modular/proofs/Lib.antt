@@ -4,6 +4,5 @@ pub mod Filling
 pub mod Bytes
 -- Sums mod q
 pub mod Dividing
--- Signed numbers, and levels among them
+-- Signed numbers
 pub mod Signed
-pub mod Levels

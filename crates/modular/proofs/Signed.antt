@@ -1,9 +1,9 @@
 -- Signed numbers in the machine: a local holds bits, and an operation reads integers from them. The laws hold at every width.
 -- Assumes nothing.
-use Rattle.std.proofs.Common.{◌≡◌, ℕ, zero, suc, ◌+◌, ◌-◌, ◌^◌, ◌<◌, ◌≤◌, Bool, true, false, T, ltb, leb, ◌≢◌, ℤ, pos, negsuc, ◌+ℤ◌, ◌-ℤ◌, neg_ℤ, nat_abs, sym, refl, ap, ◌∙◌, subst, ap₂, lt_of_lt_of_le, lt_of_le_of_lt, arith, ltb→lt, leb→le, pow_pos, pow_mono, to_z-of_z, Fits, SFits, to_z, of_z, ltb-true}
+use Rattle.std.proofs.Common.{◌≡◌, ℕ, zero, suc, ◌+◌, ◌^◌, ◌≤◌, Bool, T, ltb, leb, ◌≢◌, ℤ, pos, negsuc, ◌+ℤ◌, ◌-ℤ◌, neg_ℤ, nat_abs, sym, refl, ap, ◌∙◌, subst, ap₂, lt_of_le_of_lt, arith, ltb→lt, pow_pos, to_z-of_z, Fits, SFits, to_z, of_z}
 use lib.Signed.{mag, lt_z, non_neg}
 use mir.Syntax.{Width}
-use mir.Val.{bits, hbits}
+use mir.Val.{hbits}
 use mir.Facts.{to_z_pos, sfits_lit, sfits_widen}
 use Rattle.modular_theory.proofs.Integer.{difference_within}
 
@@ -49,10 +49,6 @@ value f = record { bits = refl; fits = f }
 pub literal : {w : Width} (z : ℤ) → T (ltb (mag z) (2 ^ hbits w)) → Holds w (of_z w z) z
 literal z t = value (sfits_lit t)
 
--- an unsigned number of a narrower width
-pub natural : {v w : Width} {n : ℕ} → T (leb (bits v) (hbits w)) → Fits v n → Holds w n (pos n)
-natural {v} {w} t f = record { bits = refl; fits = record { sfits = lt_of_lt_of_le f.fits (pow_mono (leb→le (bits v) (hbits w) t)) } }
-
 module _ {w : Width} {n : ℕ} {z : ℤ} (h : Holds w n z) where
   pub read : to_z w n ≡ z
   read = ap (to_z w) h.bits ∙ to_z-of_z h.fits
@@ -94,17 +90,6 @@ module _ {w : Width} {m n : ℕ} {x y : ℤ} (h : Holds w m x) (k : Holds w n y)
   pub tested : {b : Bool} → lt_z (to_z w m) (to_z w n) ≡ b → lt_z x y ≡ b
   tested e = sym (ap₂ lt_z (read h) (read k)) ∙ e
 
--- two unsigned numbers of a narrower width always have a difference
-pub naturals_differ : {v w : Width} {a b : ℕ} → T (leb (bits v) (hbits w)) → Fits v a → Fits v b
-    → Computes w (to_z w a -ℤ to_z w b) (pos a -ℤ pos b)
-naturals_differ {w = w} {a} {b} t f g =
-    let h : Holds w a (pos a) = natural t f in
-    let k : Holds w b (pos b) = natural t g in
-    let l : a < 2 ^ hbits w = h.fits.sfits in
-    let m : b < 2 ^ hbits w = k.fits.sfits in
-    let within = difference_within (2 ^ hbits w - 1) a b (omega arith) (omega arith) in
-    difference_of_lem h k (record { sfits = omega (arith, mag_small (pos a -ℤ pos b), within) })
-
 -- a cast to an unsigned number
 module _ {w : Width} {n m : ℕ} {z : ℤ} (h : Holds w n z) (e : z ≡ pos m) where
   pub unsigned_asked : {v : Width} → Fits v m → T (non_neg (to_z w n)) × Fits v (nat_abs (to_z w n))
@@ -112,17 +97,3 @@ module _ {w : Width} {n m : ℕ} {z : ℤ} (h : Holds w n z) (e : z ≡ pos m) w
 
   pub unsigned_is : nat_abs (to_z w n) ≡ m
   unsigned_is = ap nat_abs (read h ∙ e)
-
--- The test for a sign.
-
-pub below_zero : (z : ℤ) → lt_z z (pos 0) ≡ true → neg_ℤ z ≡ pos (nat_abs z)
-below_zero (pos n) t = absurd (let b : n < 0 = ltb-true n 0 t in omega arith)
-below_zero (negsuc n) t = refl
-
-pub below_zero_is : (z : ℤ) → lt_z z (pos 0) ≡ true → z ≡ negsuc (mag z)
-below_zero_is (pos n) t = absurd (let b : n < 0 = ltb-true n 0 t in omega arith)
-below_zero_is (negsuc n) t = refl
-
-pub not_below_zero : (z : ℤ) → lt_z z (pos 0) ≡ false → z ≡ pos (nat_abs z)
-not_below_zero (pos n) t = refl
-not_below_zero (negsuc n) t = absurd (let z : ◌≡◌ {A = ℕ} 0 1 = cc in omega arith)

@@ -15,5 +15,9 @@ pub fn add(q: u8, a: u8, x: u8) -> u8
 pub fn sub(q: u8, a: u8, x: u8) -> u8
     ensures { result ≡ byte_difference q a x }
 {
-    if a < x { a.wrapping_sub(x).wrapping_add(q) } else { a - x }
+    if a < x {
+        a.wrapping_sub(x).wrapping_add(q)
+    } else {
+        a - x
+    }
 }

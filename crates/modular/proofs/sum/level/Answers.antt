@@ -1,10 +1,10 @@
 -- `modular::sum::level` meets its contract: an integer that is not below 0 is reduced, and of any other how far it is below -1.
 -- Assumes nothing.
-use Rattle.std.proofs.Common.{◌≡◌, ℕ, ◌+◌, ◌-◌, ◌<◌, ◌≤◌, ℤ, pos, negsuc, ◌-ℤ◌, nat_abs, refl, sym, ap, ◌∙◌, arith, w64, SFits, to_z, of_z}
+use Rattle.std.proofs.Common.{◌≡◌, ℕ, ◌+◌, ◌-◌, ◌<◌, ◌≤◌, ℤ, pos, negsuc, ◌-ℤ◌, nat_abs, refl, ap, ◌∙◌, arith, w64, SFits, to_z, of_z}
 use Rattle.std.specs.Int.{FitsUnsignedBits}
 use lib.Signed.{mag}
 use Rattle.modular.specs.Remainder.{residue, residue_of_integer}
-use Rattle.modular.proofs.Signed.{Computes, held, value, read, literal, difference_of_lem, unsigned_is}
+use Rattle.modular.proofs.Signed.{held, value, read, literal, difference_of_lem, unsigned_is}
 use Rattle.modular.proofs.Dividing.{residue_below, down_from, integer_below, integer_above}
 use Rattle.modular.proofs.sum.level.Goals as goal
 

@@ -1,6 +1,6 @@
 -- `modular::sum::negative` meets its contract: -e fits, and is reduced.
 -- Assumes nothing.
-use Rattle.std.proofs.Common.{pos, ◌-ℤ◌, neg_ℤ, ap, ◌∙◌, arith, w64, to_z, of_z, SFits}
+use Rattle.std.proofs.Common.{pos, ◌-ℤ◌, neg_ℤ, ap, ◌∙◌, arith, w64, SFits}
 use lib.IntN.{+ℤ_idl}
 use lib.Signed.{nat_abs-le}
 use mir.Facts.{sfits_widen}

@@ -1,6 +1,6 @@
 -- `modular::sum::remainder_by` meets its contract: what the quotient leaves is the remainder, or q more.
 -- Assumes nothing.
-use Rattle.std.proofs.Common.{◌≤◌, ◌<◌, ◌+◌, ◌-◌, ◌*◌, ◌/◌, arith}
+use Rattle.std.proofs.Common.{◌≤◌, arith}
 use Rattle.modular.proofs.Dividing.{quotient_fits, left_small, left_kept, left_wrapped}
 use Rattle.modular.proofs.sum.remainder_by.Goals as goal
 
