@@ -9,7 +9,7 @@ ghost use Rattle.decoder.specs.Sides.{is_first};
 ghost use Rattle.decoder.specs.Received.{BodyArray};
 ghost use Rattle.decoder.specs.Outputs.{Restored, Outputs, Messages, RestoredMessages, copied_run};
 
-use modular::{sub, wide};
+use modular::sub;
 use profiles::Row;
 use symbols::Syndrome;
 use syndromes::{is_zero, position};
@@ -32,14 +32,10 @@ fn copy_run(x: &[u8; 97], i: usize, end: usize, next: usize, first: &mut [u8], s
     ensures first_after { first.new ≡ copied_run x.now 1 i (end - i) next first.old }
     ensures second_after { second.new ≡ copied_run x.now 2 i (end - i) next second.old }
 {
-    let count = end - i;
-    let mut k = 0;
-    while k < count {
+    for k in 0..end - i {
         let from = 2 * (i + k);
-        let to = next + k;
-        first[to] = x[from + 1];
-        second[to] = x[from + 2];
-        k += 1;
+        first[next + k] = x[from + 1];
+        second[next + k] = x[from + 2];
     }
 }
 
@@ -48,7 +44,7 @@ fn extract(row: Row, x: &[u8; 97], first: &mut [u8], second: &mut [u8])
     requires { BodyArray row x.now × Outputs row first.old second.old }
     ensures { Messages row x.now first.new second.new }
 {
-    let q = wide(row.q);
+    let q = usize::from(row.q);
     let n = row.n;
     let mut power = q;
     let mut i = 2;

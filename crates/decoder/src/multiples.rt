@@ -2,19 +2,16 @@
 ghost use Rattle.std.specs.Prelude.{◌≡◌, ◌≤◌, ◌<◌, get_or};
 ghost use Rattle.decoder.specs.Multiples.{Multiples};
 
-use modular::{add, wide};
+use modular::add;
 
 // The multiples of a symbol f, that of each level at its index.
 pub(crate) fn multiples(q: u8, f: u8) -> [u8; 16]
     requires { (f < q) × (2 ≤ q) × (q ≤ 15) }
     ensures { Multiples q result × (get_or result 1 0 ≡ f) }
 {
-    let n = wide(q);
     let mut table = [0u8; 16];
-    let mut i = 1;
-    while i < n {
+    for i in 1..usize::from(q) {
         table[i] = add(q, table[i - 1], f);
-        i += 1;
     }
     table
 }
@@ -24,5 +21,5 @@ pub(crate) fn multiple(table: &[u8; 16], d: u8) -> u8
     requires { d ≤ 15 }
     ensures { result ≡ get_or table.now d 0 }
 {
-    table[wide(d)]
+    table[usize::from(d)]
 }

@@ -1,11 +1,7 @@
--- `decoder::multiples::multiples` meets its contract. The invariant: the entries passed are multiples. The measure is what is left.
+-- `decoder::multiples::multiples` meets its contract. The invariant: the entries passed are multiples.
 -- Assumes nothing.
-use Prim.Native.Nat.{◌-◌}
 use Rattle.decoder.proofs.Multiplying.{Multiplied}
 use Rattle.decoder.proofs.multiples.multiples.Given as goal
 
 abbrev pub invariant-loop-i : goal.invariant-loop-i
 invariant-loop-i l = Multiplied l.q l.f l.table l.i
-
-abbrev pub decreases-loop-i : goal.decreases-loop-i
-decreases-loop-i l = l.n - l.i
