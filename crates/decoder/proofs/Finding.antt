@@ -6,6 +6,7 @@ use Prim.Native.Nat.{ℕ, ◌+◌, ◌*◌, ◌≤◌, ◌<◌}
 use native.Mathlib.Omega.{arith}
 use lib.Dec.{T}
 use lib.ListN.{get_or, set}
+use Rattle.std.specs.Prelude.{Some}
 use Rattle.code_theory.specs.Parameters.{Parameters}
 use Rattle.code_theory.specs.Reading.{correction_at, corrected}
 use Rattle.decoding_theory.specs.Syndromes.{near_syndromes, index}
@@ -15,17 +16,15 @@ use Rattle.symbols.specs.declared.sums.Syndromes.{Syndromes}
 use Rattle.symbols.specs.Syndromes.{rows}
 use Rattle.decoder.specs.declared.locate.Search.{Search}
 use Rattle.syndromes.specs.Rows.{rows_of}
-use Rattle.decoder.specs.declared.locate.Fit.TheVariants.{At}
 use Rattle.decoder.specs.Totals.{WholeWord}
 use Rattle.decoder.specs.Search.{parameters_of, sums_in, parity_of, Searches, After}
-use Rattle.decoder.specs.Locate.{FitFoundWith, FitsFirst}
+use Rattle.decoder.specs.Locate.{FirstFit, FitsFirst}
 use Rattle.decoder.proofs.Fitting.{index_is, positions_are}
 use Rattle.decoder.proofs.Sent.{sent_below}
 use Rattle.decoder.proofs.Answering.{body_found, found_range, found_near}
 
 -- an index that is found is the first that fits
-pub fits_first : {x : Search} {word : List ℕ} {n k t : ℕ} → Searches x → WholeWord x.row word → FitFoundWith x word n (At k t)
-    → FitsFirst x word k
+pub fits_first : {x : Search} {word : List ℕ} {k : ℕ} → Searches x → WholeWord x.row word → FirstFit x word (Some k) → FitsFirst x word k
 fits_first given whole found = record { given = given; is = whole; first = found.0; within = found.1 }
 
 module _ {x : Search} {word : List ℕ} {k : ℕ} (found : FitsFirst x word k) where

@@ -125,22 +125,14 @@ module _ (p : Parameters) (S : Sums) (word : List ℕ) (parity : ℕ) (h : parit
   abbrev count : ℕ
   count = position_count p (is_first parity)
 
-  pub first_found : (k : ℕ) → k < p.n + 1 - parity → ((j : ℕ) → j < k → test_at j ≡ false) → test_at k ≡ true
-      → (first ≡ k) × (k < count) × (k + 1 ≡ tried_body p S (is_first parity) word)
+  pub first_found : (k : ℕ) → k < count → ((j : ℕ) → j < k → test_at j ≡ false) → test_at k ≡ true → (first ≡ k) × (k < count)
   unfolding first_fit
-  first_found k l f e =
-      let m : k < count = omega (arith, positions_are p parity h) in
-      let is : first ≡ k = least_is test_of count k m (holds _ (same k ∙ e)) (λ j i. false_test (same j ∙ f j i)) in
-      (is, m, add-one k ∙ tried_to_lem p S (is_first parity) word is m)
+  first_found k l f e = (least_is test_of count k l (holds _ (same k ∙ e)) (λ j i. false_test (same j ∙ f j i)), l)
 
-  pub none_found : (k : ℕ) → k ≡ p.n + 1 - parity → ((j : ℕ) → j < k → test_at j ≡ false)
-      → (first ≡ count) × (k ≡ tried_body p S (is_first parity) word)
+  pub none_found : ((j : ℕ) → j < count → test_at j ≡ false) → first ≡ count
   unfolding first_fit
-  none_found k l f =
-      let is : first ≡ count = least_none test_of count (λ j i. same j ∙ f j (omega (arith, positions_are p parity h))) in
-      (is, omega (arith, positions_are p parity h, tried_all p S (is_first parity) word is))
+  none_found f = least_none test_of count (λ j i. same j ∙ f j i)
 
   -- nothing fits where the check symbol is off by something else than the weight
-  pub none_off : off_by_lack p S (is_first parity) ≡ false
-      → (first ≡ count) × (p.n + 1 - parity ≡ tried_body p S (is_first parity) word)
-  none_off e = none_found (p.n + 1 - parity) refl (λ j i. fits_off p S (is_first parity) j (get_or word (2 * j + parity) 0) e)
+  pub none_off : off_by_lack p S (is_first parity) ≡ false → first ≡ count
+  none_off e = none_found (λ j i. fits_off p S (is_first parity) j (get_or word (2 * j + parity) 0) e)

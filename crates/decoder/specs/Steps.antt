@@ -1,6 +1,6 @@
 -- What the steps of decoding answer.
 -- Assumes nothing.
-use Rattle.std.specs.Prelude.{◌≡◌, Bool, true, false, List, ℕ, T}
+use Rattle.std.specs.Prelude.{◌≡◌, Bool, true, false, List, ℕ, T, Option, Some, None}
 use Rattle.code_theory.specs.Parameters.{Parameters}
 use Rattle.code_theory.specs.Codeword.{received}
 use Rattle.code_theory.specs.Reading.{Finding, unreadable}
@@ -15,12 +15,12 @@ use Rattle.decoder.specs.declared.word.Decoded.{Decoded}
 use Rattle.decoder.specs.Totals.{sums_of}
 use Rattle.decoder.specs.Decode.{decoded_report, Answers}
 
--- the parity whose check symbol alone disagrees, by whether each agrees; 2 for neither
-abbrev pub wrong_parity : Bool → Bool → ℕ
-wrong_parity true true = 2
-wrong_parity true false = 1
-wrong_parity false true = 0
-wrong_parity false false = 2
+-- the parity whose check symbol alone disagrees, by whether each agrees
+abbrev pub wrong_parity : Bool → Bool → Option ℕ
+wrong_parity true true = None
+wrong_parity true false = Some 1
+wrong_parity false true = Some 0
+wrong_parity false false = None
 
 -- a balanced body with the sums s is read with the finding f: its components are then near codewords
 abbrev pub JudgedAs : Parameters → Sums → Finding → Type 0

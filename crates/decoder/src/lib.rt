@@ -3,7 +3,6 @@
 // own and those of crates `symbols`, `syndromes`, `differences`, `locator` and `fillings`.
 #![tactic(auto)]
 
-mod changed;
 mod column;
 mod differenced;
 mod effect;

@@ -3,10 +3,10 @@
 ghost use Rattle.std.specs.Prelude.{◌≡◌, ◌≢◌, pos, ◌≤◌};
 ghost use Rattle.profiles.specs.Edition.{edition_is};
 ghost use Rattle.profiles.specs.Row.{RowOf};
-ghost use Rattle.decoding_theory.specs.Decoded.{balancing_symbol, off_by_lack, near_after, fits};
+ghost use Rattle.decoding_theory.specs.Decoded.{position_count, balancing_symbol, off_by_lack, near_after, fits};
 ghost use Rattle.decoder.specs.Totals.{WholeWord};
 ghost use Rattle.decoder.specs.Search.{parameters_of, sums_in, parity_of, Searches, Tries};
-ghost use Rattle.decoder.specs.Locate.{ErrorLocated, FitFound, FitFoundWith};
+ghost use Rattle.decoder.specs.Locate.{ErrorLocated, FirstFit};
 
 use crate::column::{moved, moves_to_zero};
 use crate::totals::Totals;
@@ -25,11 +25,12 @@ pub(crate) struct Search {
     pub(crate) parity: usize,
 }
 
-// What is found among the positions of one parity: an index among them, or nothing; and how many were tried.
-#[derive(Clone, Copy)]
-pub(crate) enum Fit {
-    At(usize, usize),
-    Nothing(usize),
+// How many positions the parity has.
+pub(crate) fn position_count(search: Search) -> usize
+    requires { Searches search }
+    ensures { result ≡ position_count (parameters_of search) (parity_of search) }
+{
+    search.row.n + 1 - search.parity
 }
 
 // The symbol that balances the body in place of x, by plain subtraction; q where it is no level.
@@ -97,47 +98,40 @@ fn fits(
     near_after(search, columns, by_first, by_second, k)
 }
 
-// The first index of the parity that fits, and how many were tried, that one included; all of them where none fits.
-fn try_positions(
+// The first index of the parity that fits.
+fn first_fit(
     search: Search,
     columns: &[[u8; 3]; 48],
     by_first: &[u8; 16],
     by_second: &[u8; 16],
     word: &[u8],
-) -> Fit
+) -> Option<usize>
     requires { Tries search columns.now by_first.now by_second.now × WholeWord search.row word.now }
-    ensures { FitFound search word.now result }
+    ensures { FirstFit search word.now result }
 {
-    let parity = search.parity;
-    let count = search.row.n + 1 - parity;
-    let mut k = 0;
-    while k < count {
-        let x = word[2 * k + parity];
-        if fits(search, columns, by_first, by_second, k, x) {
-            let tried = k + 1;
-            return Fit::At(k, tried);
+    for k in 0..position_count(search) {
+        if fits(search, columns, by_first, by_second, k, word[2 * k + search.parity]) {
+            return Some(k);
         }
-        k += 1;
     }
-    Fit::Nothing(k)
+    None
 }
 
-// The same. Where the check symbol is off by something else than the weight, no position fits: all count as tried, and none has to be.
-pub(crate) fn locate<'a>(
+// The same. Where the check symbol is off by something else than the weight, no position fits, and none has to be tried.
+pub(crate) fn locate(
     search: Search,
     columns: &[[u8; 3]; 48],
-    by_first: &'a [u8; 16],
-    by_second: &'a [u8; 16],
+    by_first: &[u8; 16],
+    by_second: &[u8; 16],
     word: &[u8],
-) -> Fit
+) -> Option<usize>
     requires { Tries search columns.now by_first.now by_second.now × WholeWord search.row word.now }
-    ensures { FitFound search word.now result }
+    ensures { FirstFit search word.now result }
 {
     if !off_by_lack(search) {
-        let count = search.row.n + 1 - search.parity;
-        return Fit::Nothing(count);
+        return None;
     }
-    try_positions(search, columns, by_first, by_second, word)
+    first_fit(search, columns, by_first, by_second, word)
 }
 
 // The position that the syndromes name (02, T-09): no symbol of the word is looked at.
@@ -160,21 +154,20 @@ fn locate_error(search: Search, profile: usize) -> Location
 }
 
 // The index of that position, where its symbol can be the one that changed: the two tests that are left.
-pub(crate) fn fit_located(search: Search, profile: usize, word: &[u8]) -> Fit
+pub(crate) fn fit_located(search: Search, profile: usize, word: &[u8]) -> Option<usize>
     requires { Searches search × WholeWord search.row word.now × (search.s.excess ≢ pos 0)
         × RowOf (edition_is search.row.edition) profile search.row }
-    ensures { FitFoundWith search word.now 0 result }
+    ensures { FirstFit search word.now result }
 {
     if !off_by_lack(search) {
-        return Fit::Nothing(0);
+        return None;
     }
     let Location::At(position) = locate_error(search, profile) else {
-        return Fit::Nothing(0);
+        return None;
     };
     let i = position - 1;
     if balancing_symbol(search, word[i]) == search.row.q {
-        return Fit::Nothing(0);
+        return None;
     }
-    let k = i / 2;
-    Fit::At(k, 0)
+    Some(i / 2)
 }

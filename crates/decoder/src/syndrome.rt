@@ -3,7 +3,7 @@ ghost use Rattle.std.specs.Prelude.{◌≡◌};
 ghost use Rattle.decoder.specs.Decode.{decoded_report};
 ghost use Rattle.decoder.specs.SyndromeDecode.{uncounted, syndrome_report, SyndromeDecodeAllows};
 
-use crate::method::Method;
+use crate::method::Locating;
 use crate::word::{Changes, Decoded, decode_by};
 
 // What is said of a corrected symbol: its position, from 1, the symbol sent there, and the error, received minus sent.
@@ -56,5 +56,5 @@ pub fn syndrome_decode(
     ensures { SyndromeDecodeAllows edition profile word.now result
         first.old first.new second.old second.new }
 {
-    without_count(decode_by(Method::Locating, edition, profile, word, first, second))
+    without_count(decode_by::<Locating>(edition, profile, word, first, second))
 }

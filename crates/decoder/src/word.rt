@@ -9,18 +9,17 @@ ghost use Rattle.symbols.specs.Columns.{Columns};
 ghost use Rattle.decoder.specs.Received.{BodyArray};
 ghost use Rattle.decoder.specs.Totals.{WholeWord, sums_of, Components, Totalled};
 ghost use Rattle.decoder.specs.Search.{parameters_of, sums_in, parity_of, After};
-ghost use Rattle.decoder.specs.Method.{count_by, answer_by};
+ghost use Rattle.decoder.specs.Method.{answer_by};
 ghost use Rattle.decoder.specs.Locate.{FitsFirst};
 ghost use Rattle.decoder.specs.Outputs.{Outputs};
 ghost use Rattle.decoder.specs.Decode.{Answers, DecodeAllows};
 ghost use Rattle.decoder.specs.Steps.{Judged, wrong_parity, BalancedAnswers};
 
-use crate::changed::{ChangedSymbol, changed_symbol};
 use crate::differenced::correct_components;
 use crate::erased::{decode_one, decode_two};
 use crate::locate::{Search, balancing_symbol};
 use crate::message::write_pair;
-use crate::method::Method;
+use crate::method::{Method, Trying};
 use crate::totals::{Totals, sums_of};
 use profiles::{EditionLookup, Lookup, Row, Screened, edition_of, row_in, screen};
 use symbols::{Syndromes, columns};
@@ -78,20 +77,15 @@ fn judge(row: Row, s: Totals) -> Decoded
     }
 }
 
-// The parity whose check symbol alone disagrees: 0 for the odd positions, 1 for the even ones, 2 where none does or both do.
-fn wrong_parity(s: Totals) -> usize
+// The parity whose check symbol alone disagrees: 0 for the odd positions, 1 for the even ones.
+fn wrong_parity(s: Totals) -> Option<usize>
     ensures { result ≡ wrong_parity (eqb s.asked.alpha s.arrived.alpha) (eqb s.asked.beta s.arrived.beta) }
 {
-    if s.asked.alpha == s.arrived.alpha {
-        if s.asked.beta == s.arrived.beta {
-            return 2;
-        }
-        return 1;
+    match (s.asked.alpha == s.arrived.alpha, s.asked.beta == s.arrived.beta) {
+        (false, true) => Some(0),
+        (true, false) => Some(1),
+        _ => None,
     }
-    if s.asked.beta == s.arrived.beta {
-        return 0;
-    }
-    2
 }
 
 // The symbol at index k of the parity corrected, where that is the first that fits, and the syndromes are then those given. So many
@@ -119,8 +113,7 @@ fn correct(
 }
 
 // An unbalanced body, whose components are in x: one of its symbols changed where exactly one check symbol disagrees.
-fn decode_unbalanced(
-    method: Method,
+fn decode_unbalanced<M: Method>(
     profile: usize,
     row: Row,
     columns: &[[u8; 3]; 48],
@@ -134,20 +127,17 @@ fn decode_unbalanced(
         × Outputs row first.old second.old × (s.excess ≢ pos 0)
         × RowOf (edition_is row.edition) profile row }
     ensures { Answers (answered (decoded_unbalanced (parameters row) (sums_of row s) word.now)
-        (count_by method (tried_unbalanced (parameters row) (sums_of row s) word.now))) result
+        (M.count (tried_unbalanced (parameters row) (sums_of row s) word.now))) result
         first.old first.new second.old second.new }
 {
-    let parity = wrong_parity(s);
-    if 1 < parity {
+    let Some(parity) = wrong_parity(s) else {
         return Decoded::Unreadable(0);
-    }
+    };
     let search = Search { row, s, parity };
-    let changed = changed_symbol(method, search, profile, columns, word);
-    match changed {
-        ChangedSymbol::At(k, tried, after) => {
-            correct(search, after, word, k, tried, x, first, second)
-        }
-        ChangedSymbol::Nowhere(tried) => Decoded::Unreadable(tried),
+    let changed = M::changed_symbol(search, profile, columns, word);
+    match changed.found {
+        Some((k, after)) => correct(search, after, word, k, changed.tried, x, first, second),
+        None => Decoded::Unreadable(changed.tried),
     }
 }
 
@@ -174,8 +164,7 @@ fn decode_balanced(
 }
 
 // A word of levels that numbers 1 to 3 let through, by its sums. The columns are built once.
-fn decode_word(
-    method: Method,
+fn decode_word<M: Method>(
     profile: usize,
     row: Row,
     word: &[u8],
@@ -183,7 +172,7 @@ fn decode_word(
     second: &mut [u8],
 ) -> Decoded
     requires { WholeWord row word.now × Outputs row first.old second.old × RowOf (edition_is row.edition) profile row }
-    ensures { Answers (answered (decoded (parameters row) word.now) (count_by method (tried_of (parameters row) word.now))) result
+    ensures { Answers (answered (decoded (parameters row) word.now) (M.count (tried_of (parameters row) word.now))) result
         first.old first.new second.old second.new }
 {
     let matrix = columns(row.q, row.n);
@@ -191,23 +180,22 @@ fn decode_word(
     let s = sums_of(row, &matrix, word, &mut x);
     let excess = s.excess;
     if excess != 0 {
-        return decode_unbalanced(
-            method, profile, row, &matrix, s, word, &mut x, first, second,
+        return decode_unbalanced::<M>(
+            profile, row, &matrix, s, word, &mut x, first, second,
         );
     }
     decode_balanced(row, s, &mut x, first, second)
 }
 
 // What is read of a word, in the edition of that number, with the symbol that changed found by a method.
-pub(crate) fn decode_by(
-    method: Method,
+pub(crate) fn decode_by<M: Method>(
     edition: usize,
     profile: usize,
     word: &[u8],
     first: &mut [u8],
     second: &mut [u8],
 ) -> Decoded
-    ensures { Answers (answer_by method
+    ensures { Answers (answer_by M.count
         (decode_answer edition profile word.now (length first.old) (length second.old))) result
         first.old first.new second.old second.new }
 {
@@ -220,7 +208,7 @@ pub(crate) fn decode_by(
     let screened = screen(row, word, first.len(), second.len());
     match screened {
         Screened::Refused(number) => Decoded::Refused(number),
-        Screened::Whole => decode_word(method, profile, row, word, first, second),
+        Screened::Whole => decode_word::<M>(profile, row, word, first, second),
         Screened::One(i) => decode_one(row, word, i, first, second),
         Screened::Two(i, j) => decode_two(row, word, i, j, first, second),
     }
@@ -239,5 +227,5 @@ pub fn decode(
     ensures { DecodeAllows edition profile word.now result
         first.old first.new second.old second.new }
 {
-    decode_by(Method::Trying, edition, profile, word, first, second)
+    decode_by::<Trying>(edition, profile, word, first, second)
 }

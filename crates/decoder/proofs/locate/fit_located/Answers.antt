@@ -50,7 +50,7 @@ module _ (c : In-At) where
 pub returns-then-not-off_by_lack : goal.returns-then-not-off_by_lack
 returns-then-not-off_by_lack c =
     let none = sym c.off_by_lack.ensures ∙ c.if-not-off_by_lack.true in
-    (fit_none_off (parameters_of (x (goal.at.returns-then-not-off_by_lack c).Start)) (sums_in (x (goal.at.returns-then-not-off_by_lack c).Start)) (parity_of (x (goal.at.returns-then-not-off_by_lack c).Start)) (word (goal.at.returns-then-not-off_by_lack c).Start) none, refl)
+    fit_none_off _ _ _ _ none
 
 pub locate_error-requires : goal.locate_error-requires
 locate_error-requires c = let (given, _, _, of) = (begun (goal.at.locate_error-requires c).Else-not-off_by_lack).requires in (given, of)
@@ -60,7 +60,7 @@ returns-in_default c =
     let start = begun (goal.at.returns-in_default c).Else-not-off_by_lack in
     let (_, whole, excess, _) = start.requires in
     let none = sym c.locate_error.ensures ∙ ap location_of c.in_default.is in
-    (fit_nowhere (parameters_of (x start)) (sums_in (x start)) (parity_of (x start)) (word start) excess (word_levels whole) none, refl)
+    fit_nowhere (parameters_of (x start)) (sums_in (x start)) (parity_of (x start)) (word start) excess (word_levels whole) none
 
 pub overflow_sub-i : goal.overflow_sub-i
 overflow_sub-i c = omega (arith, (in_body_lem (goal.at.overflow_sub-i c).In-At).0)
@@ -77,12 +77,9 @@ returns-then-balancing_symbol-search c =
     let at = (goal.at.returns-then-balancing_symbol-search c).In-At in
     let start = begun (off at) in
     let (given, _, _, of) = start.requires in
-    let none = sent_none _ _ _ (sym c.balancing_symbol.ensures ∙ c.if-balancing_symbol-search.true) in (
-      fit_out_of_range (parameters_of (x start)) (sums_in (x start)) (parity_of (x start)) (word start) (named at) (is_at at)
-          given.valid.sized
-          (row_prime of) none,
-      refl,
-    )
+    let none = sent_none _ _ _ (sym c.balancing_symbol.ensures ∙ c.if-balancing_symbol-search.true) in
+    fit_out_of_range (parameters_of (x start)) (sums_in (x start)) (parity_of (x start)) (word start) (named at) (is_at at) given.valid.sized
+    (row_prime of) none
 
 pub returns : goal.returns
 returns c =
@@ -90,6 +87,4 @@ returns c =
     let start = begun (off at) in
     let by_lack = sym (off at).off_by_lack.ensures ∙ (off at).if-not-off_by_lack.false in
     let in_range_lem = sent_some _ _ _ (λ e. c.if-balancing_symbol-search.false (c.balancing_symbol.ensures ∙ e)) in
-    let (first, within) =
-    fit_at (parameters_of (x start)) (sums_in (x start)) (parity_of (x start)) (word start) (named at) (is_at at) by_lack in_range_lem in
-    (first, within, refl)
+    fit_at (parameters_of (x start)) (sums_in (x start)) (parity_of (x start)) (word start) (named at) (is_at at) by_lack in_range_lem

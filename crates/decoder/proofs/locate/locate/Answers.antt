@@ -6,5 +6,4 @@ use Rattle.decoder.proofs.locate.locate.Goals as goal
 
 pub returns-then-not-off_by_lack : goal.returns-then-not-off_by_lack
 returns-then-not-off_by_lack c =
-    let tries = c.requires.0 in
-    none_off _ _ _ _ tries.given.parity_number (sym c.off_by_lack.ensures ∙ c.if-not-off_by_lack.true)
+    none_off _ _ _ _ c.requires.0.given.parity_number (sym c.off_by_lack.ensures ∙ c.if-not-off_by_lack.true)
