@@ -1,6 +1,7 @@
 -- The answer of the decoder, case by case.
 -- Assumes nothing.
-use mathlib.Core.Path.{◌≡◌, refl, sym, ap}
+use mathlib.Core.Path.{◌≡◌, refl, sym, ◌∙◌}
+use mathlib.Core.Logic.{◌≢◌}
 use mathlib.Core.Bool.{Bool, true, false}
 use mathlib.Core.List.{List}
 use Prim.Native.Nat.{ℕ, ◌≤◌, ◌<◌}
@@ -8,93 +9,131 @@ use native.Mathlib.Omega.{arith}
 use lib.Dec.{T}
 use lib.ListN.{get_or}
 use borrow.Author.Tests.{lt-ltb, le-ltb}
+use Rattle.std.specs.Prelude.{Option, Some, None, Result, Ok, Err}
 use Rattle.modular_theory.proofs.Search.{least_hit, holds}
 use Rattle.code_theory.specs.Parameters.{Parameters, balanced_length}
 use Rattle.code_theory.specs.Codeword.{received}
-use Rattle.code_theory.specs.Reading.{Finding, corrected, Reading, unreadable}
-use Rattle.code_theory.specs.Operations.{Answer, refused, answered, success}
+use Rattle.code_theory.specs.Reading.{Finding, Reading, read, unreadable}
+use Rattle.code_theory.specs.Operations.{Answer, refused, answered, Report, refusal, failure, success, report, report_tried, decode_output}
 use Rattle.decoding_theory.specs.Syndromes.{near_syndromes, index, moved_of}
 use Rattle.decoding_theory.specs.Decoded.{Sums, gain, in_range, off_by_lack, near_after, fits, position_count, first_fit}
 use Rattle.decoding_theory.specs.Decoded.{read_by, read_fit, decoded_body, decoded_check, agrees, decoded_balanced, decoded_unbalanced}
 use Rattle.decoding_theory.specs.TriedPositions.{tried_body, tried_unbalanced}
 use Rattle.decoding_theory.proofs.Tests.{three_parts}
+use Rattle.refusals.specs.declared.Refusal.{Refusal}
+use Rattle.refusals.specs.declared.Refusal.TheVariants.{Unreadable}
+use Rattle.refusals.specs.Number.{number_of}
 use Rattle.symbols.specs.declared.checks.Checks.{Checks}
 use Rattle.symbols.specs.Weight.{check_of}
-use Rattle.syndromes.specs.Correction.{correction_of}
-use Rattle.syndromes.specs.Judgement.{balanced_report}
+use Rattle.syndromes.specs.declared.correction.Correction.{Correction}
+use Rattle.syndromes.specs.Judgement.{judgement_report, balanced_report}
 use Rattle.decoder.specs.declared.word.Decoded.{Decoded}
-use Rattle.decoder.specs.declared.word.Decoded.TheVariants.{Clean, Corrected, Filled, Unreadable, Refused}
+use Rattle.decoder.specs.declared.word.Decoded.TheVariants.{Clean, Corrected}
+use Rattle.decoder.specs.declared.word.Decoding.{Decoding}
 use Rattle.decoder.specs.Sides.{is_first}
 use Rattle.decoder.specs.Outputs.{RestoredMessages}
-use Rattle.decoder.specs.Decode.{decoded_report, Answers}
-use Rattle.decoder.specs.Steps.{JudgedBy, Judged, wrong_parity}
+use Rattle.decoder.specs.Decode.{finding_of, report_of, ReadAs, Answers}
+use Rattle.decoder.specs.Steps.{JudgedAs, Judged, wrong_parity}
 
 -- What is answered.
 
-pub answers_refused : {a : Answer} {k : ℕ} (first second : List ℕ) → a ≡ refused k → Answers a (Refused k) first first second second
-answers_refused first second e = record { answer = rw e; first_out = rw e; second_out = rw e }
+-- another refusal than 4 is told by its number
+refused_report : (r : Refusal) → r ≢ Unreadable → (t : ℕ) → report_of t (Err r) ≡ refusal (number_of r)
+refused_report Unreadable n t = absurd (n refl)
+refused_report r n t = refl
 
-pub answers_unreadable : {d : Reading} {t t' : ℕ} (first second : List ℕ) → d ≡ unreadable → t' ≡ t
-    → Answers (answered d t) (Unreadable t') first first second second
-answers_unreadable first second e f = record { answer = rw (e, f); first_out = rw e; second_out = rw e }
+pub answers_refused : {a : Answer} {r : Refusal} (first second : List ℕ) → r ≢ Unreadable → a ≡ refused (number_of r)
+    → Answers a (record { answer = Err r; tried = 0 }) first first second second
+answers_refused {r = r} first second n e =
+    record { answer = rw e (refused_report r n 0); tried = rw e; first_out = rw e; second_out = rw e }
 
--- no position is tried for a word with erasures
-abbrev pub filled_answer : Reading → Answer
-filled_answer d = answered d 0
+pub read_unreadable : {d : Reading} (first second : List ℕ) → d ≡ unreadable → ReadAs d (Err Unreadable) first first second second
+read_unreadable first second e = record { answer = λ t. rw e; first_out = rw e; second_out = rw e }
 
-pub answers_as : {a a' : Answer} {r : Decoded} {first first' second second' : List ℕ} → a ≡ a' → Answers a' r first first' second second'
+pub read_found : (p : Parameters) (u : List ℕ) {d : Reading} {k : Finding} {S S' first first' second second' : List ℕ} {r : Decoded}
+    → d ≡ read_by p k u S S' → RestoredMessages p (received p true u) (received p false u) S S' first' second'
+    → finding_of r ≡ k → ReadAs d (Ok r) first first' second second'
+unfolding read_by
+read_found p u e w f = record { answer = λ t. rw (e, f); first_out = rw e w.first_is; second_out = rw e w.second_is }
+
+tried_told : (d : Reading) (t : ℕ) → t ≡ report_tried (report (answered d t))
+tried_told unreadable t = refl
+tried_told (read f x y) t = refl
+
+output_told : (b : Bool) (d : Reading) (t : ℕ) (out : List ℕ) → decode_output b (answered d 0) out ≡ decode_output b (answered d t) out
+output_told b unreadable t out = refl
+output_told true (read f x y) t out = refl
+output_told false (read f x y) t out = refl
+
+-- a reading, with how many positions were tried
+pub answers_read : {d : Reading} {r : Result Decoded Refusal} {first first' second second' : List ℕ} {t t' : ℕ}
+    → ReadAs d r first first' second second' → t' ≡ t → Answers (answered d t) (record { answer = r; tried = t' }) first first' second second'
+answers_read {d} {first = first} {second = second} {t = t} h e =
+    record {
+      answer = rw e (h.answer t);
+      tried = rw e (tried_told d t);
+      first_out = h.first_out ∙ output_told true d t first;
+      second_out = h.second_out ∙ output_told false d t second;
+    }
+
+pub answers_as : {a a' : Answer} {r : Decoding} {first first' second second' : List ℕ} → a ≡ a' → Answers a' r first first' second second'
     → Answers a r first first' second second'
 answers_as e h = rw e h
 
-pub answers_read : (p : Parameters) (u : List ℕ) {d : Reading} {k : Finding} {t : ℕ} {S S' first first' second second' : List ℕ}
-    {r : Decoded} → d ≡ read_by p k u S S' → RestoredMessages p (received p true u) (received p false u) S S' first' second'
-    → decoded_report r ≡ success k t → Answers (answered d t) r first first' second second'
-unfolding read_by
-answers_read p u e w f = record { answer = rw e f; first_out = rw e w.first_is; second_out = rw e w.second_is }
+pub read_as : {d d' : Reading} {r : Result Decoded Refusal} {first first' second second' : List ℕ} → d ≡ d'
+    → ReadAs d' r first first' second second' → ReadAs d r first first' second second'
+read_as e h = rw e h
 
 -- the messages of equal components
 pub messages_of : {p : Parameters} {c c' d d' S S' first second : List ℕ} → c ≡ c' → d ≡ d'
     → RestoredMessages p c d S S' first second → RestoredMessages p c' d' S S' first second
 messages_of e f w = rw (← e, ← f) w
 
+-- the judgement of a balanced body, as an answer
+abbrev pub decoded_of : Result (Option Correction) Refusal → Result Decoded Refusal
+decoded_of (Ok None) = Ok Clean
+decoded_of (Ok (Some c)) = Ok (Corrected c)
+decoded_of (Err r) = Err r
+
 module _ (p : Parameters) (s : Sums) where
   -- A balanced body.
+
+  -- what is said of it
+  abbrev JudgedBy : Report → Type 0
+  JudgedBy (refusal k) = ⊥
+  JudgedBy (failure t) = (v : List ℕ) → decoded_balanced p s v ≡ unreadable
+  JudgedBy (success f t) = JudgedAs p s f
+
   judged_by : (c d : Checks) → s.asked ≡ check_of c → s.arrived ≡ check_of d → (near a b : Bool)
       → near_syndromes p s.first s.second ≡ near → agrees s true ≡ a → agrees s false ≡ b
-      → JudgedBy p s (balanced_report (balanced_length p) c d near a b)
+      → JudgedBy (balanced_report (balanced_length p) c d near a b)
   unfolding decoded_balanced decoded_check
-  judged_by c d k l false a b n e f = (refl, λ v. rw (n, decoded_balanced))
-  judged_by c d k l true true true n e f = (refl, (holds _ n, λ v. rw (n, decoded_balanced, e, f)))
-  judged_by c d k l true true false n e f = (refl, (holds _ n, λ v. rw (n, decoded_balanced, e, f, k, l)))
-  judged_by c d k l true false true n e f = (refl, (holds _ n, λ v. rw (n, decoded_balanced, e, f, k, l)))
-  judged_by c d k l true false false n e f = (refl, λ v. rw (n, decoded_balanced, e, f))
+  judged_by c d k l false a b n e f = λ v. rw (n, decoded_balanced)
+  judged_by c d k l true true true n e f = (holds _ n, λ v. rw (n, decoded_balanced, e, f))
+  judged_by c d k l true true false n e f = (holds _ n, λ v. rw (n, decoded_balanced, e, f, k, l))
+  judged_by c d k l true false true n e f = (holds _ n, λ v. rw (n, decoded_balanced, e, f, k, l))
+  judged_by c d k l true false false n e f = λ v. rw (n, decoded_balanced, e, f)
+
+  judged_of : (j : Result (Option Correction) Refusal) → JudgedBy (judgement_report j) → Judged p s (decoded_of j)
+  judged_of (Ok None) h = h
+  judged_of (Ok (Some c)) h = h
+  judged_of (Err Unreadable) h = (refl, h)
+  judged_of (Err r) h = absurd h
 
   pub judged_as : (c d : Checks) → s.asked ≡ check_of c → s.arrived ≡ check_of d → {m : ℕ} → m ≡ balanced_length p
-      → {near : Bool} → near ≡ near_syndromes p s.first s.second
-      → JudgedBy p s (balanced_report m c d near (agrees s true) (agrees s false))
-  judged_as c d k l e n = rw e (judged_by c d k l _ (agrees s true) (agrees s false) (sym n) refl refl)
+      → {near : Bool} → near ≡ near_syndromes p s.first s.second → (j : Result (Option Correction) Refusal)
+      → judgement_report j ≡ balanced_report m c d near (agrees s true) (agrees s false) → Judged p s (decoded_of j)
+  judged_as c d k l e n j g =
+      judged_of j (rw (g, e) (judged_by c d k l _ (agrees s true) (agrees s false) (sym n) refl refl))
 
-  pub judged_near : (r : Decoded) → Judged p s r → ((t : ℕ) → r ≡ Unreadable t → ⊥) → T (near_syndromes p s.first s.second)
-  judged_near Clean d n = d.1.0
-  judged_near (Corrected c) d n = d.1.0
-  judged_near (Filled cs) d n = d.1.0
-  judged_near (Unreadable t) d n = absurd (n t refl)
-  judged_near (Refused k) d n = absurd d
+  pub judged_none : {r : Refusal} → Judged p s (Err r) → (v first second : List ℕ)
+      → ReadAs (decoded_balanced p s v) (Err r) first first second second
+  judged_none d v first second = rw d.0 (read_unreadable first second (d.1 v))
 
-  pub judged_none : {r : Decoded} {t : ℕ} → r ≡ Unreadable t → Judged p s r → (v first second : List ℕ)
-      → Answers (answered (decoded_balanced p s v) 0) (Unreadable 0) first first second second
-  judged_none {r} {t} e d v first second =
-      let f : Judged p s (Unreadable t) = rw e at d in
-      answers_unreadable first second (f.1 v) refl
-
-  pub judged_read : (r : Decoded) → Judged p s r → ((t : ℕ) → r ≡ Unreadable t → ⊥) → (v : List ℕ) {first first' second second' : List ℕ}
+  pub judged_read : {r : Decoded} → Judged p s (Ok r) → (v : List ℕ) {first first' second second' : List ℕ}
       → RestoredMessages p (received p true v) (received p false v) s.first s.second first' second'
-      → Answers (answered (decoded_balanced p s v) 0) r first first' second second'
-  judged_read Clean d n v w = answers_read p v (d.1.1 v) w refl
-  judged_read (Corrected c) d n v w = answers_read p v (d.1.1 v) w (ap (success (corrected (correction_of c))) d.0)
-  judged_read (Filled cs) d n v w = answers_read p v (d.1.1 v) w refl
-  judged_read (Unreadable t) d n v w = absurd (n t refl)
-  judged_read (Refused k) d n v w = absurd d
+      → ReadAs (decoded_balanced p s v) (Ok r) first first' second second'
+  judged_read d v w = read_found p v (d.1 v) w refl
 
   module _ (v : List ℕ) where
     -- An unbalanced body.
@@ -104,20 +143,20 @@ module _ (p : Parameters) (s : Sums) where
     abbrev answer_for : Bool → Answer
     answer_for b = answered (decoded_body p s b v) (tried_body p s b v)
 
-    unbalanced : (a b : Bool) → agrees s true ≡ a → agrees s false ≡ b → (parity : ℕ) → parity ≡ wrong_parity a b
-        → (1 < parity → answer ≡ answered unreadable 0) × (parity ≤ 1 → answer ≡ answer_for (is_first parity))
+    -- by the parity that is wrong
+    abbrev AnsweredFor : Option ℕ → Type 0
+    AnsweredFor None = answer ≡ answered unreadable 0
+    AnsweredFor (Some parity) = (parity ≤ 1) × (answer ≡ answer_for (is_first parity))
+
+    unbalanced : (a b : Bool) → agrees s true ≡ a → agrees s false ≡ b → AnsweredFor (wrong_parity a b)
     unfolding decoded_unbalanced tried_unbalanced
-    unbalanced true true e f parity g = (λ h. rw (e, decoded_unbalanced, tried_unbalanced, f), λ h. absurd (omega arith))
-    unbalanced true false e f parity g = (λ h. absurd (omega arith), λ h. rw (e, decoded_unbalanced, tried_unbalanced, f, g))
-    unbalanced false true e f parity g = (λ h. absurd (omega arith), λ h. rw (e, decoded_unbalanced, tried_unbalanced, f, g))
-    unbalanced false false e f parity g = (λ h. rw (e, decoded_unbalanced, tried_unbalanced, f), λ h. absurd (omega arith))
+    unbalanced true true e f = rw (e, decoded_unbalanced, tried_unbalanced, f)
+    unbalanced true false e f = (omega arith, rw (e, decoded_unbalanced, tried_unbalanced, f))
+    unbalanced false true e f = (omega arith, rw (e, decoded_unbalanced, tried_unbalanced, f))
+    unbalanced false false e f = rw (e, decoded_unbalanced, tried_unbalanced, f)
 
-    module _ {parity : ℕ} (e : parity ≡ wrong_parity (agrees s true) (agrees s false)) where
-      pub unbalanced_none : 1 < parity → answer ≡ answered unreadable 0
-      unbalanced_none = (unbalanced (agrees s true) (agrees s false) refl refl parity e).0
-
-      pub unbalanced_one : parity ≤ 1 → answer ≡ answer_for (is_first parity)
-      unbalanced_one = (unbalanced (agrees s true) (agrees s false) refl refl parity e).1
+    pub unbalanced_as : {o : Option ℕ} → o ≡ wrong_parity (agrees s true) (agrees s false) → AnsweredFor o
+    unbalanced_as e = rw e (unbalanced (agrees s true) (agrees s false) refl refl)
 
     -- The search for the changed symbol.
     module _ (b : Bool) where

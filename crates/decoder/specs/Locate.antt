@@ -4,7 +4,6 @@ use Rattle.std.specs.Prelude.{◌≡◌, List, ℕ, ◌<◌, Option, Some, None}
 use Rattle.decoding_theory.specs.Decoded.{position_count, first_fit}
 use Rattle.decoding_theory.specs.TriedPositions.{tried_body}
 use Rattle.locating_theory.specs.ErrorPosition.{error_position}
-use Rattle.locator.specs.declared.position.Location.{Location}
 use Rattle.locator.specs.Location.{location_of}
 use Rattle.decoder.specs.declared.locate.Search.{Search}
 use Rattle.decoder.specs.Totals.{WholeWord}
@@ -28,6 +27,6 @@ pub record FitsFirst (x : Search) (word : List ℕ) (k : ℕ) : Type 0 where
   pub within : k < position_count (parameters_of x) (parity_of x)
 
 -- l is the position of the error by the syndromes (02, T-09)
-abbrev pub ErrorLocated : Search → Location → Type 0
+abbrev pub ErrorLocated : Search → Option ℕ → Type 0
 ErrorLocated x l =
     location_of l ≡ error_position (parameters_of x) (parity_of x) x.s.excess (sums_in x).first (sums_in x).second

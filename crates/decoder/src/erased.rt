@@ -1,7 +1,6 @@
 // Decoding of a word with one or two erased symbols (02: marks): the sums over the word with 0 there, what each of them adds, and the
 // pair of the word once it is filled.
 ghost use Rattle.std.specs.Prelude.{[], ◌∷◌, ◌<◌};
-ghost use Rattle.code_theory.specs.Operations.{answered};
 ghost use Rattle.decoding_theory.specs.Filled.{decoded_erased};
 ghost use Rattle.profiles.specs.Row.{Valid, parameters};
 ghost use Rattle.symbols.specs.Columns.{Columns};
@@ -9,7 +8,7 @@ ghost use Rattle.fillings.specs.Filling.{four_row_sums};
 ghost use Rattle.decoder.specs.Received.{BodyArray};
 ghost use Rattle.decoder.specs.Totals.{WholeWord, sums_of, Totalled};
 ghost use Rattle.decoder.specs.Outputs.{Outputs};
-ghost use Rattle.decoder.specs.Decode.{Answers};
+ghost use Rattle.decoder.specs.Decode.{ReadAs};
 ghost use Rattle.decoder.specs.Erased.{ErasedWord, SameSums, OneMore, ErasedHere, FilledBy, completed};
 
 use crate::column::moved;
@@ -20,6 +19,7 @@ use crate::totals::{Totals, sums_of};
 use crate::word::{Change, Changes, Decoded};
 use fillings::{Erased, Filling, Sums, cleared, fill_one, fill_two};
 use profiles::Row;
+use refusals::Refusal;
 use symbols::{Syndrome, Syndromes, columns};
 
 // What one more of the symbol at index i of the body adds to the syndromes: a column to one, and a column taken from the other.
@@ -27,12 +27,7 @@ fn one_more(row: Row, columns: &[[u8; 3]; 48], i: usize) -> Syndromes
     requires { Valid row × Columns row.q row.n columns.now × (i < row.balanced) }
     ensures { OneMore row i result }
 {
-    let zero = Syndrome {
-        low: 0,
-        mid: 0,
-        high: 0,
-        ones: 0,
-    };
+    let zero = Syndrome::ZERO;
     let parity = i % 2;
     let k = i / 2;
     let effect = effect_of(row, parity, 1);
@@ -65,17 +60,14 @@ fn sums_in(row: Row, s: Totals) -> Sums
     requires { Totalled row s }
     ensures { SameSums row (four_row_sums result) (sums_of row s) }
 {
-    let wide = s.excess;
-    let excess = wide as i16;
-    let asked = s.asked;
-    let arrived = s.arrived;
-    let first = s.first;
-    let second = s.second;
     Sums {
-        excess,
-        asked,
-        arrived,
-        syndromes: Syndromes { first, second },
+        excess: s.excess as i16,
+        asked: s.asked,
+        arrived: s.arrived,
+        syndromes: Syndromes {
+            first: s.first,
+            second: s.second,
+        },
     }
 }
 
@@ -103,22 +95,21 @@ fn find_two(row: Row, word: &[u8], i: usize, j: usize, x: &mut [u8; 97]) -> Fill
 }
 
 // The pair of a word, which has 0 at index i, once that symbol is filled.
-fn complete_one(row: Row, word: &[u8], i: usize, first: &mut [u8], second: &mut [u8]) -> Decoded
+fn complete_one(row: Row, word: &[u8], i: usize, first: &mut [u8], second: &mut [u8]) -> Result<Decoded, Refusal>
     requires { WholeWord row word.now × (i < row.codeword) × Outputs row first.old second.old }
-    ensures { Answers (answered (completed (parameters row) word.now (i ∷ [])) 0) result
+    ensures { ReadAs (completed (parameters row) word.now (i ∷ [])) result
         first.old first.new second.old second.new }
 {
     let mut x = [0u8; 97];
     let Filling::One(y, after) = find_one(row, word, i, &mut x) else {
-        return Decoded::Unreadable(0);
+        return Err(Refusal::Unreadable);
     };
     correct_components(row, word, i, y, &mut x);
     write_pair(row, after.first, after.second, &mut x, first, second);
-    let position = i + 1;
-    Decoded::Filled(Changes::One(Change {
-        position,
+    Ok(Decoded::Filled(Changes::One(Change {
+        position: i + 1,
         symbol: y,
-    }))
+    })))
 }
 
 // The same of a word that has 0 at the indices i and j. The first symbol is put into it.
@@ -129,31 +120,29 @@ fn complete_two(
     j: usize,
     first: &mut [u8],
     second: &mut [u8],
-) -> Decoded
+) -> Result<Decoded, Refusal>
     requires { WholeWord row word.old × (i < row.codeword) × (j < row.codeword) × Outputs row first.old second.old }
-    ensures { Answers (answered (completed (parameters row) word.old (i ∷ j ∷ [])) 0) result
+    ensures { ReadAs (completed (parameters row) word.old (i ∷ j ∷ [])) result
         first.old first.new second.old second.new }
 {
     let mut x = [0u8; 97];
     let Filling::Two(y, z, after) = find_two(row, word, i, j, &mut x) else {
-        return Decoded::Unreadable(0);
+        return Err(Refusal::Unreadable);
     };
     correct_components(row, word, i, y, &mut x);
     word[i] = y;
     correct_components(row, word, j, z, &mut x);
     write_pair(row, after.first, after.second, &mut x, first, second);
-    let position = i + 1;
-    let other = j + 1;
-    Decoded::Filled(Changes::Two(
+    Ok(Decoded::Filled(Changes::Two(
         Change {
-            position,
+            position: i + 1,
             symbol: y,
         },
         Change {
-            position: other,
+            position: j + 1,
             symbol: z,
         },
-    ))
+    )))
 }
 
 // A word of which the symbol at index i is erased.
@@ -163,9 +152,9 @@ pub(crate) fn decode_one(
     i: usize,
     first: &mut [u8],
     second: &mut [u8],
-) -> Decoded
+) -> Result<Decoded, Refusal>
     requires { ErasedWord row word.now (i ∷ []) × Outputs row first.old second.old }
-    ensures { Answers (answered (decoded_erased (parameters row) word.now) 0) result
+    ensures { ReadAs (decoded_erased (parameters row) word.now) result
         first.old first.new second.old second.new }
 {
     let n = row.codeword;
@@ -181,9 +170,9 @@ pub(crate) fn decode_two(
     j: usize,
     first: &mut [u8],
     second: &mut [u8],
-) -> Decoded
+) -> Result<Decoded, Refusal>
     requires { ErasedWord row word.now (i ∷ j ∷ []) × Outputs row first.old second.old }
-    ensures { Answers (answered (decoded_erased (parameters row) word.now) 0) result
+    ensures { ReadAs (decoded_erased (parameters row) word.now) result
         first.old first.new second.old second.new }
 {
     let n = row.codeword;

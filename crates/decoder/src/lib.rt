@@ -15,5 +15,5 @@ mod syndrome;
 mod totals;
 mod word;
 
-pub use syndrome::{SymbolError, SyndromeDecoded, syndrome_decode};
-pub use word::{Change, Changes, Decoded, decode};
+pub use syndrome::syndrome_decode;
+pub use word::{Change, Changes, Decoded, Decoding, decode};

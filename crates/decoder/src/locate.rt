@@ -10,7 +10,7 @@ ghost use Rattle.decoder.specs.Locate.{ErrorLocated, FirstFit};
 
 use crate::column::{moved, moves_to_zero};
 use crate::totals::Totals;
-use locator::{Location, error_position};
+use locator::error_position;
 use modular::add;
 use modular::plain::less;
 use profiles::Row;
@@ -135,19 +135,15 @@ pub(crate) fn locate(
 }
 
 // The position that the syndromes name (02, T-09): no symbol of the word is looked at.
-fn locate_error(search: Search, profile: usize) -> Location
+fn locate_error(search: Search, profile: usize) -> Option<usize>
     requires { Searches search × RowOf (edition_is search.row.edition) profile search.row }
     ensures { ErrorLocated search result }
 {
-    let row = search.row;
-    let edition = row.edition;
-    let is_odd = search.parity == 0;
-    let excess = search.s.excess;
     error_position(
-        edition,
+        search.row.edition,
         profile,
-        is_odd,
-        excess,
+        search.parity == 0,
+        search.s.excess,
         search.s.first,
         search.s.second,
     )
@@ -162,10 +158,7 @@ pub(crate) fn fit_located(search: Search, profile: usize, word: &[u8]) -> Option
     if !off_by_lack(search) {
         return None;
     }
-    let Location::At(position) = locate_error(search, profile) else {
-        return None;
-    };
-    let i = position - 1;
+    let i = locate_error(search, profile)? - 1;
     if balancing_symbol(search, word[i]) == search.row.q {
         return None;
     }

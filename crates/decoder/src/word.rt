@@ -1,5 +1,5 @@
 // Decoding of a received word, by its sums.
-ghost use Rattle.std.specs.Prelude.{◌≡◌, ◌≢◌, eqb, pos, length};
+ghost use Rattle.std.specs.Prelude.{◌≡◌, ◌≢◌, eqb, pos, length, Ok};
 ghost use Rattle.code_theory.specs.Operations.{answered, decode_answer};
 ghost use Rattle.decoding_theory.specs.Decoded.{decoded_body, decoded_unbalanced, decoded};
 ghost use Rattle.decoding_theory.specs.TriedPositions.{tried_unbalanced, tried_of};
@@ -12,8 +12,8 @@ ghost use Rattle.decoder.specs.Search.{parameters_of, sums_in, parity_of, After}
 ghost use Rattle.decoder.specs.Method.{answer_by};
 ghost use Rattle.decoder.specs.Locate.{FitsFirst};
 ghost use Rattle.decoder.specs.Outputs.{Outputs};
-ghost use Rattle.decoder.specs.Decode.{Answers, DecodeAllows};
-ghost use Rattle.decoder.specs.Steps.{Judged, wrong_parity, BalancedAnswers};
+ghost use Rattle.decoder.specs.Decode.{ReadAs, Answers, DecodeAllows};
+ghost use Rattle.decoder.specs.Steps.{Admits, Judged, wrong_parity, BalancedAnswers};
 
 use crate::differenced::correct_components;
 use crate::erased::{decode_one, decode_two};
@@ -21,59 +21,58 @@ use crate::locate::{Search, balancing_symbol};
 use crate::message::write_pair;
 use crate::method::{Method, Trying};
 use crate::totals::{Totals, sums_of};
-use profiles::{EditionLookup, Lookup, Row, Screened, edition_of, row_in, screen};
+use profiles::{Erasures, Row, edition_of, row_in, screen};
+use refusals::Refusal;
 use symbols::{Syndromes, columns};
-use syndromes::{Correction, Judgement, corrected, judge_balanced};
+use syndromes::{Correction, corrected, judge_balanced};
 
 // What is said of an erased symbol that was filled: its position, from 1, and the symbol sent there.
-#[derive(Clone, Copy)]
+#[derive(Clone, Copy, PartialEq, Eq, Debug)]
 pub struct Change {
     pub position: usize,
     pub symbol: u8,
 }
 
 // What is said of one or two, in rising order.
-#[derive(Clone, Copy)]
+#[derive(Clone, Copy, PartialEq, Eq, Debug)]
 pub enum Changes {
     One(Change),
     Two(Change, Change),
 }
 
-// What a received word is read as; the outputs hold its messages where it is clean, corrected or filled.
-#[derive(Clone, Copy)]
+// What a received word is read as; the outputs hold its messages.
+#[derive(Clone, Copy, PartialEq, Eq, Debug)]
 pub enum Decoded {
     Clean,
     Corrected(Correction),
     // 02: the word has marks.
     Filled(Changes),
-    // 01: number 4; 02: with how many positions were tried.
-    Unreadable(usize),
-    // 01: number 1 to 3; 02: number 11 or 12.
-    Refused(u8),
+}
+
+// What `decode` answers: what the word is read as, or why it is not; 02: and how many positions were tried.
+#[derive(Clone, Copy, PartialEq, Eq, Debug)]
+pub struct Decoding {
+    pub answer: Result<Decoded, Refusal>,
+    pub tried: usize,
 }
 
 // A balanced body: clean, or one check symbol is wrong.
-fn judge(row: Row, s: Totals) -> Decoded
+fn judge(row: Row, s: Totals) -> Result<Decoded, Refusal>
     requires { Valid row × Totalled row s }
     ensures { Judged (parameters row) (sums_of row s) result }
 {
-    let first = s.first;
-    let second = s.second;
-    let asked = s.asked;
-    let arrived = s.arrived;
     let judged = judge_balanced(
         row.q,
         row.n,
         row.balanced as u8,
-        first,
-        second,
-        asked,
-        arrived,
-    );
+        s.first,
+        s.second,
+        s.asked,
+        s.arrived,
+    )?;
     match judged {
-        Judgement::Clean => Decoded::Clean,
-        Judgement::Corrected(c) => Decoded::Corrected(c),
-        Judgement::Unreadable => Decoded::Unreadable(0),
+        None => Ok(Decoded::Clean),
+        Some(c) => Ok(Decoded::Corrected(c)),
     }
 }
 
@@ -88,28 +87,27 @@ fn wrong_parity(s: Totals) -> Option<usize>
     }
 }
 
-// The symbol at index k of the parity corrected, where that is the first that fits, and the syndromes are then those given. So many
-// positions are said to be tried. The components of the word are in x.
+// The symbol at index k of the parity corrected, where that is the first that fits, and the syndromes are then those given. The components
+// of the word are in x.
 fn correct(
     search: Search,
     after: Syndromes,
     word: &[u8],
     k: usize,
-    tried: usize,
     x: &mut [u8; 97],
     first: &mut [u8],
     second: &mut [u8],
 ) -> Decoded
     requires { FitsFirst search word.now k × After search k after × Components search.row word.now x.old
         × Outputs search.row first.old second.old }
-    ensures { Answers (answered (decoded_body (parameters_of search) (sums_in search) (parity_of search) word.now) tried) result
+    ensures { ReadAs (decoded_body (parameters_of search) (sums_in search) (parity_of search) word.now) (Ok result)
         first.old first.new second.old second.new }
 {
     let i = 2 * k + search.parity;
     let y = balancing_symbol(search, word[i]);
     correct_components(search.row, word, i, y, x);
     write_pair(search.row, after.first, after.second, x, first, second);
-    Decoded::Corrected(corrected(i + 1, word[i], y, tried))
+    Decoded::Corrected(corrected(i + 1, word[i], y))
 }
 
 // An unbalanced body, whose components are in x: one of its symbols changed where exactly one check symbol disagrees.
@@ -122,7 +120,7 @@ fn decode_unbalanced<M: Method>(
     x: &mut [u8; 97],
     first: &mut [u8],
     second: &mut [u8],
-) -> Decoded
+) -> Decoding
     requires { WholeWord row word.now × Columns row.q row.n columns.now × Totalled row s × Components row word.now x.old
         × Outputs row first.old second.old × (s.excess ≢ pos 0)
         × RowOf (edition_is row.edition) profile row }
@@ -131,13 +129,20 @@ fn decode_unbalanced<M: Method>(
         first.old first.new second.old second.new }
 {
     let Some(parity) = wrong_parity(s) else {
-        return Decoded::Unreadable(0);
+        return Decoding {
+            answer: Err(Refusal::Unreadable),
+            tried: 0,
+        };
     };
     let search = Search { row, s, parity };
     let changed = M::changed_symbol(search, profile, columns, word);
-    match changed.found {
-        Some((k, after)) => correct(search, after, word, k, changed.tried, x, first, second),
-        None => Decoded::Unreadable(changed.tried),
+    let answer = match changed.found {
+        Some((k, after)) => Ok(correct(search, after, word, k, x, first, second)),
+        None => Err(Refusal::Unreadable),
+    };
+    Decoding {
+        answer,
+        tried: changed.tried,
     }
 }
 
@@ -148,19 +153,14 @@ fn decode_balanced(
     x: &mut [u8; 97],
     first: &mut [u8],
     second: &mut [u8],
-) -> Decoded
+) -> Result<Decoded, Refusal>
     requires { BodyArray row x.old × Totalled row s × Outputs row first.old second.old }
     ensures { BalancedAnswers row s x.old result
         first.old first.new second.old second.new }
 {
-    let found = judge(row, s);
-    if let Decoded::Unreadable(_) = found {
-        return Decoded::Unreadable(0);
-    }
-    let f = s.first;
-    let g = s.second;
-    write_pair(row, f, g, x, first, second);
-    found
+    let found = judge(row, s)?;
+    write_pair(row, s.first, s.second, x, first, second);
+    Ok(found)
 }
 
 // A word of levels that numbers 1 to 3 let through, by its sums. The columns are built once.
@@ -170,7 +170,7 @@ fn decode_word<M: Method>(
     word: &[u8],
     first: &mut [u8],
     second: &mut [u8],
-) -> Decoded
+) -> Decoding
     requires { WholeWord row word.now × Outputs row first.old second.old × RowOf (edition_is row.edition) profile row }
     ensures { Answers (answered (decoded (parameters row) word.now) (M.count (tried_of (parameters row) word.now))) result
         first.old first.new second.old second.new }
@@ -178,13 +178,30 @@ fn decode_word<M: Method>(
     let matrix = columns(row.q, row.n);
     let mut x = [0u8; 97];
     let s = sums_of(row, &matrix, word, &mut x);
-    let excess = s.excess;
-    if excess != 0 {
-        return decode_unbalanced::<M>(
-            profile, row, &matrix, s, word, &mut x, first, second,
-        );
+    if s.excess != 0 {
+        return decode_unbalanced::<M>(profile, row, &matrix, s, word, &mut x, first, second);
     }
-    decode_balanced(row, s, &mut x, first, second)
+    Decoding {
+        answer: decode_balanced(row, s, &mut x, first, second),
+        tried: 0,
+    }
+}
+
+// The row of the profile of that number, in the edition of that number, and the erased symbols of the word; or what refuses the call, where
+// the outputs have so many symbols.
+fn admit(
+    edition: usize,
+    profile: usize,
+    word: &[u8],
+    first: usize,
+    second: usize,
+) -> Result<(Row, Erasures), Refusal>
+    ensures { Admits edition profile word.now first second result }
+{
+    let edition = edition_of(edition).ok_or(Refusal::Edition)?;
+    let row = row_in(edition, profile).ok_or(Refusal::Profile)?;
+    let erasures = screen(row, word, first, second)?;
+    Ok((row, erasures))
 }
 
 // What is read of a word, in the edition of that number, with the symbol that changed found by a method.
@@ -194,36 +211,32 @@ pub(crate) fn decode_by<M: Method>(
     word: &[u8],
     first: &mut [u8],
     second: &mut [u8],
-) -> Decoded
+) -> Decoding
     ensures { Answers (answer_by M.count
         (decode_answer edition profile word.now (length first.old) (length second.old))) result
         first.old first.new second.old second.new }
 {
-    let EditionLookup::Known(edition) = edition_of(edition) else {
-        return Decoded::Refused(12);
+    let answer = match admit(edition, profile, word, first.len(), second.len()) {
+        Ok((row, Erasures::Whole)) => {
+            return decode_word::<M>(profile, row, word, first, second);
+        }
+        Ok((row, Erasures::One(i))) => decode_one(row, word, i, first, second),
+        Ok((row, Erasures::Two(i, j))) => decode_two(row, word, i, j, first, second),
+        Err(refusal) => Err(refusal),
     };
-    let Lookup::Found(row) = row_in(edition, profile) else {
-        return Decoded::Refused(1);
-    };
-    let screened = screen(row, word, first.len(), second.len());
-    match screened {
-        Screened::Refused(number) => Decoded::Refused(number),
-        Screened::Whole => decode_word::<M>(profile, row, word, first, second),
-        Screened::One(i) => decode_one(row, word, i, first, second),
-        Screened::Two(i, j) => decode_two(row, word, i, j, first, second),
-    }
+    Decoding { answer, tried: 0 }
 }
 
 // 01: Read, in the edition of that number (02). Refused 12 (02): the edition is neither 13 nor 18; 1: no such profile; 2: a length is
-// wrong; 3: a symbol is neither a level nor an erasure; 11 (02): more than two symbols are erased. A refusal and `Unreadable` change no
-// output.
+// wrong; 3: a symbol is neither a level nor an erasure; 11 (02): more than two symbols are erased; 4: the word is read as nothing. What is
+// refused changes no output.
 pub fn decode(
     edition: usize,
     profile: usize,
     word: &[u8],
     first: &mut [u8],
     second: &mut [u8],
-) -> Decoded
+) -> Decoding
     ensures { DecodeAllows edition profile word.now result
         first.old first.new second.old second.new }
 {

@@ -1,40 +1,35 @@
 -- `decoder::word::judge` meets its contract: the judgement, as an answer.
 -- Assumes nothing.
-use mathlib.Core.Path.{◌≡◌, refl, sym, ap, subst, ◌∙◌}
-use native.Mathlib.Omega.{arith}
+use mathlib.Core.Path.{◌≡◌, refl, sym, ap, ◌∙◌}
+use Rattle.std.specs.Prelude.{Option, Some, None, Result, Ok, Err}
 use Rattle.profiles.specs.Row.{parameters}
-use Rattle.syndromes.specs.declared.balanced.Judgement.{Judgement}
-use Rattle.syndromes.specs.declared.balanced.Judgement.TheVariants.{Clean, Corrected, Unreadable}
+use Rattle.refusals.specs.declared.Refusal.{Refusal}
+use Rattle.syndromes.specs.declared.correction.Correction.{Correction}
 use Rattle.syndromes.specs.Judgement.{judgement_report}
-use Rattle.decoder.specs.Totals.{sums_of}
-use Rattle.decoder.specs.Steps.{JudgedBy}
 use Rattle.syndromes.proofs.FourRows.{near_same}
-use Rattle.decoder.proofs.Answering.{judged_as}
+use Rattle.decoder.specs.Totals.{sums_of}
+use Rattle.decoder.specs.Steps.{Judged}
+use Rattle.decoder.proofs.Answering.{decoded_of, judged_as}
 use Rattle.decoder.proofs.word.judge.Goals as goal
-use Rattle.decoder.proofs.word.judge.Goals.{After-judge_balanced-judged, Start}
+use Rattle.decoder.proofs.word.judge.Goals.{After-judge_balanced, Start}
 
 -- once the word is judged
-module _ (c : After-judge_balanced-judged) where
+module _ (c : After-judge_balanced) where
   abbrev start : Start
-  start = (goal.at.After-judge_balanced-judged c).Start
+  start = (goal.at.After-judge_balanced c).Start
 
-  told : (j : Judgement) → c.judge_balanced-judged.result ≡ j
-      → JudgedBy (parameters start.args.row) (sums_of start.args.row start.args.s) (judgement_report j)
+  told : (j : Result (Option Correction) Refusal) → c.judge_balanced.result ≡ j
+      → Judged (parameters start.args.row) (sums_of start.args.row start.args.s) (decoded_of j)
   told j e =
       let (valid, totalled) = start.requires in
-      let row = start.args.row in
-      let near = near_same row valid _ _ totalled.first_rows totalled.second_rows in
-      subst (JudgedBy (parameters row) (sums_of row start.args.s)) (sym c.judge_balanced-judged.ensures ∙ ap judgement_report e)
-      (judged_as (parameters row) (sums_of row start.args.s) _ _ refl refl valid.balanced near)
+      let near = near_same start.args.row valid _ _ totalled.first_rows totalled.second_rows in
+      judged_as _ _ _ _ refl refl valid.balanced near j (sym (ap judgement_report e) ∙ c.judge_balanced.ensures)
 
-pub overflow_cast-row : goal.overflow_cast-row
-overflow_cast-row c = omega (arith, c.requires.0.balanced, c.requires.0.length)
+pub returns-in_err-judged : goal.returns-in_err-judged
+returns-in_err-judged c = rw c.from_residual.ensures (told (goal.at.returns-in_err-judged c).After-judge_balanced _ c.in_err-judged.was)
 
-pub returns-in-Clean : goal.returns-in-Clean
-returns-in-Clean c = told (goal.at.returns-in-Clean c).After-judge_balanced-judged Clean c.in-Clean.is
+pub returns-in-None : goal.returns-in-None
+returns-in-None c = told (goal.at.returns-in-None c).After-judge_balanced (Ok None) c.in-None.is
 
-pub returns-in-Corrected : goal.returns-in-Corrected
-returns-in-Corrected c = told (goal.at.returns-in-Corrected c).After-judge_balanced-judged (Corrected c.in-Corrected.c) c.in-Corrected.is
-
-pub returns-in-Unreadable : goal.returns-in-Unreadable
-returns-in-Unreadable c = told (goal.at.returns-in-Unreadable c).After-judge_balanced-judged Unreadable c.in-Unreadable.is
+pub returns-in-Some : goal.returns-in-Some
+returns-in-Some c = told (goal.at.returns-in-Some c).After-judge_balanced (Ok (Some c.in-Some.c)) c.in-Some.is
