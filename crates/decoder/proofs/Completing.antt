@@ -8,6 +8,7 @@ use native.Mathlib.Omega.{arith}
 use lib.Dec.{T, ltb}
 use lib.ListN.{length, get_or, set}
 use borrow.Author.Tests.{ltb-true}
+use Rattle.std.specs.Prelude.{Option, Some, None}
 use Rattle.modular_theory.proofs.Search.{holds, least_hit}
 use Rattle.code_theory.specs.Parameters.{Parameters}
 use Rattle.code_theory.specs.Reading.{change, filled, unreadable}
@@ -22,7 +23,6 @@ use Rattle.symbols.specs.declared.sums.Syndrome.{Syndrome}
 use Rattle.symbols.specs.declared.sums.Syndromes.{Syndromes}
 use Rattle.symbols.specs.Syndromes.{rows}
 use Rattle.fillings.specs.declared.fill.Filling as found
-use Rattle.fillings.specs.declared.fill.Filling.TheVariants.{One, Two, Nothing}
 use Rattle.fillings.specs.Filling.{filling_of}
 use Rattle.syndromes.specs.Rows.{FourRows, rows_of}
 use Rattle.decoder.specs.Rows.{NearFourRows}
@@ -149,37 +149,26 @@ module _ (t : Row) (u : List ℕ) where
         read = e ∙ ap₂ (λ (y z : List ℕ). fills ys y z) b b';
       }
 
-  module _ (i : ℕ) where
-    pub one_completed : {x : List ℕ} {r : found.Filling} {y : ℕ} {s : Syndromes} → FilledBy t u (i ∷ []) x r → r ≡ One y s
-        → Completed t u (i ∷ []) (y ∷ []) s
-    one_completed {x} {r} {y} {s} f e =
-        completed_by s (λ zs S S'. one_usable p (erased_at p i) (sums p u))
-        (subst (λ (z : found.Filling). SameFilling t (filling_of z) (fill_at p (i ∷ []) (sums p u))) e f.filling)
+  -- where the code has found a filling
+  found_filling : {x : List ℕ} {is : List ℕ} {N k : ℕ} {r : Option (found.Filling N)} {g : found.Filling N}
+      → ((zs S S' : List ℕ) → fill_at p is (sums p u) ≡ fills zs S S' → Usable p k zs S S') → FilledBy t u is x r → r ≡ Some g
+      → Completed t u is g.symbols g.syndromes
+  found_filling {is = is} {N = N} {g = g} usable f e =
+      completed_by g.syndromes usable (subst (λ (z : Option (found.Filling N)). SameFilling t (filling_of z) (fill_at p is (sums p u))) e f.filling)
 
-    pub one_none : {x : List ℕ} (r : found.Filling) → FilledBy t u (i ∷ []) x r → ((y : ℕ) (s : Syndromes) → r ≡ One y s → ⊥)
-        → completed p u (i ∷ []) ≡ unreadable
-    one_none (One y s) f o = absurd (o y s refl)
-    one_none (Two y z s) f o =
-        let (F, F', e, w, w') = same_fills t _ (fill_at p (i ∷ []) (sums p u)) f.filling refl in
-        let n : length (y ∷ z ∷ []) ≡ 1 = (one_usable p (erased_at p i) (sums p u) e).long in
-        absurd (omega arith)
-    one_none Nothing f o = rw (same_none t nothing (fill_at p (i ∷ []) (sums p u)) f.filling refl)
+  -- and where it has found none
+  pub none_found : {x is : List ℕ} {N : ℕ} {r : Option (found.Filling N)} → FilledBy t u is x r → r ≡ None → completed p u is ≡ unreadable
+  none_found {is = is} {N = N} f e =
+      let none = subst (λ (z : Option (found.Filling N)). SameFilling t (filling_of z) (fill_at p is (sums p u))) e f.filling in
+      rw (same_none t nothing (fill_at p is (sums p u)) none refl)
 
-  module _ (i j : ℕ) where
-    pub two_completed : {x : List ℕ} {r : found.Filling} {y z : ℕ} {s : Syndromes} → FilledBy t u (i ∷ j ∷ []) x r → r ≡ Two y z s
-        → Completed t u (i ∷ j ∷ []) (y ∷ z ∷ []) s
-    two_completed {x} {r} {y} {z} {s} f e =
-        completed_by s (λ zs S S'. two_usable p (erased_at p i) (erased_at p j) (sums p u))
-        (subst (λ (z : found.Filling). SameFilling t (filling_of z) (fill_at p (i ∷ j ∷ []) (sums p u))) e f.filling)
+  pub one_completed : (i : ℕ) {x : List ℕ} {r : Option (found.Filling 1)} {g : found.Filling 1} → FilledBy t u (i ∷ []) x r → r ≡ Some g
+      → Completed t u (i ∷ []) g.symbols g.syndromes
+  one_completed i = found_filling (λ zs S S'. one_usable p (erased_at p i) (sums p u))
 
-    pub two_none : {x : List ℕ} (r : found.Filling) → FilledBy t u (i ∷ j ∷ []) x r → ((y z : ℕ) (s : Syndromes) → r ≡ Two y z s → ⊥)
-        → completed p u (i ∷ j ∷ []) ≡ unreadable
-    two_none (One y s) f o =
-        let (F, F', e, w, w') = same_fills t _ (fill_at p (i ∷ j ∷ []) (sums p u)) f.filling refl in
-        let n : length (y ∷ []) ≡ 2 = (two_usable p (erased_at p i) (erased_at p j) (sums p u) e).long in
-        absurd (omega arith)
-    two_none (Two y z s) f o = absurd (o y z s refl)
-    two_none Nothing f o = rw (same_none t nothing (fill_at p (i ∷ j ∷ []) (sums p u)) f.filling refl)
+  pub two_completed : (i j : ℕ) {x : List ℕ} {r : Option (found.Filling 2)} {g : found.Filling 2} → FilledBy t u (i ∷ j ∷ []) x r → r ≡ Some g
+      → Completed t u (i ∷ j ∷ []) g.symbols g.syndromes
+  two_completed i j = found_filling (λ zs S S'. two_usable p (erased_at p i) (erased_at p j) (sums p u))
 
 -- the reading of a word so completed
 pub one_read : {t : Row} {u : List ℕ} {i y : ℕ} {s : Syndromes} → Completed t u (i ∷ []) (y ∷ []) s

@@ -1,7 +1,7 @@
 -- What the decoder's steps for erased symbols (02: marks) ask and answer: syndromes as the code has them, four rows whatever r is, against
 -- the r rows of crate decoding_theory.
 -- Assumes nothing.
-use Rattle.std.specs.Prelude.{◌≡◌, Bool, true, false, List, ℕ, ◌/◌, ◌%◌, T, eqb, length}
+use Rattle.std.specs.Prelude.{◌≡◌, Bool, true, false, List, ℕ, ◌/◌, ◌%◌, T, eqb, length, Option}
 use Rattle.code_theory.specs.Parameters.{Parameters, codeword_length}
 use Rattle.code_theory.specs.Component.{levels_or_erasures}
 use Rattle.code_theory.specs.Erasures.{erased_indices}
@@ -63,7 +63,7 @@ abbrev pub ErasedHere : Row → ℕ → coded.Erased → Type 0
 ErasedHere t i d = SameErased t (erased_of d) (erased_at (parameters t) i)
 
 -- the word u, with 0 at the indices, is filled by r, and x holds its components
-pub record FilledBy (t : Row) (u is x : List ℕ) (r : found.Filling) : Type 0 where
+pub record FilledBy (t : Row) (u is x : List ℕ) {N : ℕ} (r : Option (found.Filling N)) : Type 0 where
   pub held : Components t u x
   pub filling : SameFilling t (filling_of r) (fill_at (parameters t) is (sums (parameters t) u))
 

@@ -72,7 +72,7 @@ fn sums_in(row: Row, s: Totals) -> Sums
 }
 
 // What the symbol at index i of a word, which has 0 there, is filled with. The word's components are put into x.
-fn find_one(row: Row, word: &[u8], i: usize, x: &mut [u8; 97]) -> Filling
+fn find_one(row: Row, word: &[u8], i: usize, x: &mut [u8; 97]) -> Option<Filling<1>>
     requires { WholeWord row word.now × BodyArray row x.old × (i < row.codeword) }
     ensures { FilledBy row word.now (i ∷ []) x.new result }
 {
@@ -83,7 +83,13 @@ fn find_one(row: Row, word: &[u8], i: usize, x: &mut [u8; 97]) -> Filling
 }
 
 // The same of the symbols at the indices i and j.
-fn find_two(row: Row, word: &[u8], i: usize, j: usize, x: &mut [u8; 97]) -> Filling
+fn find_two(
+    row: Row,
+    word: &[u8],
+    i: usize,
+    j: usize,
+    x: &mut [u8; 97],
+) -> Option<Filling<2>>
     requires { WholeWord row word.now × BodyArray row x.old × (i < row.codeword) × (j < row.codeword) }
     ensures { FilledBy row word.now (i ∷ j ∷ []) x.new result }
 {
@@ -101,9 +107,9 @@ fn complete_one(row: Row, word: &[u8], i: usize, first: &mut [u8], second: &mut 
         first.old first.new second.old second.new }
 {
     let mut x = [0u8; 97];
-    let Filling::One(y, after) = find_one(row, word, i, &mut x) else {
-        return Err(Refusal::Unreadable);
-    };
+    let filling = find_one(row, word, i, &mut x).ok_or(Refusal::Unreadable)?;
+    let after = filling.syndromes;
+    let y = filling.symbols[0];
     correct_components(row, word, i, y, &mut x);
     write_pair(row, after.first, after.second, &mut x, first, second);
     Ok(Decoded::Filled(Changes::One(Change {
@@ -126,9 +132,10 @@ fn complete_two(
         first.old first.new second.old second.new }
 {
     let mut x = [0u8; 97];
-    let Filling::Two(y, z, after) = find_two(row, word, i, j, &mut x) else {
-        return Err(Refusal::Unreadable);
-    };
+    let filling = find_two(row, word, i, j, &mut x).ok_or(Refusal::Unreadable)?;
+    let after = filling.syndromes;
+    let y = filling.symbols[0];
+    let z = filling.symbols[1];
     correct_components(row, word, i, y, &mut x);
     word[i] = y;
     correct_components(row, word, j, z, &mut x);

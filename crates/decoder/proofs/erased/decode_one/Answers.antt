@@ -1,7 +1,6 @@
 -- `decoder::erased::decode_one` meets its contract: the word with 0 at the erased position is one of levels.
 -- Assumes nothing.
-use mathlib.Core.Path.{ap}
-use Rattle.decoder.proofs.Answering.{filled_answer, answers_as}
+use Rattle.decoder.proofs.Answering.{read_as}
 use Rattle.decoder.proofs.Clearing.{cleared_size, cleared_received, erased_is, one_within}
 use Rattle.decoder.proofs.erased.decode_one.Goals as goal
 
@@ -20,4 +19,4 @@ complete_one-requires c =
 pub returns : goal.returns
 returns c =
     let erased = c.requires.0 in
-    answers_as (ap filled_answer (erased_is erased c.cleared-known.ensures)) c.complete_one.ensures
+    read_as (erased_is erased c.cleared-known.ensures) c.complete_one.ensures

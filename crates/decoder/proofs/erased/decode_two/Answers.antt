@@ -1,7 +1,6 @@
 -- `decoder::erased::decode_two` meets its contract: the word with 0 at the erased positions is one of levels.
 -- Assumes nothing.
-use mathlib.Core.Path.{ap}
-use Rattle.decoder.proofs.Answering.{filled_answer, answers_as}
+use Rattle.decoder.proofs.Answering.{read_as}
 use Rattle.decoder.proofs.Clearing.{cleared_size, cleared_received, erased_is, two_within}
 use Rattle.decoder.proofs.erased.decode_two.Goals as goal
 
@@ -22,4 +21,4 @@ complete_two-requires c =
 pub returns : goal.returns
 returns c =
     let erased = c.requires.0 in
-    answers_as (ap filled_answer (erased_is erased c.cleared-known.ensures)) c.complete_two.ensures
+    read_as (erased_is erased c.cleared-known.ensures) c.complete_two.ensures

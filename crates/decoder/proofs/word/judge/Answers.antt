@@ -2,6 +2,7 @@
 -- Assumes nothing.
 use mathlib.Core.Path.{◌≡◌, refl, sym, ap, ◌∙◌}
 use Rattle.std.specs.Prelude.{Option, Some, None, Result, Ok, Err}
+use Rattle.std.proofs.lemmas.Result.{err_from_is_err_and}
 use Rattle.profiles.specs.Row.{parameters}
 use Rattle.refusals.specs.declared.Refusal.{Refusal}
 use Rattle.syndromes.specs.declared.correction.Correction.{Correction}
@@ -26,10 +27,16 @@ module _ (c : After-judge_balanced) where
       judged_as _ _ _ _ refl refl valid.balanced near j (sym (ap judgement_report e) ∙ c.judge_balanced.ensures)
 
 pub returns-in_err-judged : goal.returns-in_err-judged
-returns-in_err-judged c = rw c.from_residual.ensures (told (goal.at.returns-in_err-judged c).After-judge_balanced _ c.in_err-judged.was)
+returns-in_err-judged c =
+    let (y, is, same) = err_from_is_err_and c.from_residual.result c.from_residual.ensures.1 in
+    rw (is, same) (told (goal.at.returns-in_err-judged c).After-judge_balanced _ c.in_err-judged.was)
 
 pub returns-in-None : goal.returns-in-None
-returns-in-None c = told (goal.at.returns-in-None c).After-judge_balanced (Ok None) c.in-None.is
+returns-in-None c =
+    told (goal.at.returns-in-None c).After-judge_balanced (Ok None)
+    (c.in_ok-judged.was ∙ ap (λ (o : Option Correction). Ok o) c.in-None.is)
 
 pub returns-in-Some : goal.returns-in-Some
-returns-in-Some c = told (goal.at.returns-in-Some c).After-judge_balanced (Ok (Some c.in-Some.c)) c.in-Some.is
+returns-in-Some c =
+    told (goal.at.returns-in-Some c).After-judge_balanced (Ok (Some c.in-Some.c))
+    (c.in_ok-judged.was ∙ ap (λ (o : Option Correction). Ok o) c.in-Some.is)
