@@ -122,6 +122,7 @@ own_rows {t} w = (subst (FourRows t) (sym w.is) w.levels, w.are ∙ ap (rows_of 
 
 -- what is known where the code has found the symbols ys, and the syndromes s then
 pub record Completed (t : Row) (u is ys : List ℕ) (s : Syndromes) : Type 0 where
+  pub long : length ys ≡ length is
   pub levels : (j : ℕ) → j < length ys → get_or ys j 0 < t.q
   pub near : NearFourRows t (rows s.first) (rows s.second)
   pub read : fill_at (parameters t) is (sums (parameters t) u) ≡ fills ys (rows_of t (rows s.first)) (rows_of t (rows s.second))
@@ -130,8 +131,8 @@ module _ (t : Row) (u : List ℕ) where
   abbrev p : Parameters
   p = parameters t
 
-  completed_by : {is ys : List ℕ} {k : ℕ} (s : Syndromes)
-      → ((zs S S' : List ℕ) → fill_at p is (sums p u) ≡ fills zs S S' → Usable p k zs S S')
+  completed_by : {is ys : List ℕ} (s : Syndromes)
+      → ((zs S S' : List ℕ) → fill_at p is (sums p u) ≡ fills zs S S' → Usable p (length is) zs S S')
       → SameFilling t (fills ys (rows s.first) (rows s.second)) (fill_at p is (sums p u)) → Completed t u is ys s
   completed_by {is} {ys} s usable f =
       let (F, F', e, w, w') = same_fills t _ (fill_at p is (sums p u)) f refl in
@@ -139,6 +140,7 @@ module _ (t : Row) (u : List ℕ) where
       let (a', b') = own_rows w' in
       let known = usable ys F F' e in
       record {
+        long = known.long;
         levels = λ j l. known.levels j (subst (λ (n : ℕ). j < n) known.long l);
         near =
             record {
@@ -150,8 +152,8 @@ module _ (t : Row) (u : List ℕ) where
       }
 
   -- where the code has found a filling
-  found_filling : {x : List ℕ} {is : List ℕ} {N k : ℕ} {r : Option (found.Filling N)} {g : found.Filling N}
-      → ((zs S S' : List ℕ) → fill_at p is (sums p u) ≡ fills zs S S' → Usable p k zs S S') → FilledBy t u is x r → r ≡ Some g
+  found_filling : {x : List ℕ} {is : List ℕ} {N : ℕ} {r : Option (found.Filling N)} {g : found.Filling N}
+      → ((zs S S' : List ℕ) → fill_at p is (sums p u) ≡ fills zs S S' → Usable p (length is) zs S S') → FilledBy t u is x r → r ≡ Some g
       → Completed t u is g.symbols g.syndromes
   found_filling {is = is} {N = N} {g = g} usable f e =
       completed_by g.syndromes usable (subst (λ (z : Option (found.Filling N)). SameFilling t (filling_of z) (fill_at p is (sums p u))) e f.filling)
@@ -170,14 +172,29 @@ module _ (t : Row) (u : List ℕ) where
       → Completed t u (i ∷ j ∷ []) g.symbols g.syndromes
   two_completed i j = found_filling (λ zs S S'. two_usable p (erased_at p i) (erased_at p j) (sums p u))
 
--- the reading of a word so completed
-pub one_read : {t : Row} {u : List ℕ} {i y : ℕ} {s : Syndromes} → Completed t u (i ∷ []) (y ∷ []) s
-    → completed (parameters t) u (i ∷ [])
-    ≡ read_by (parameters t) (filled (change (i + 1) y ∷ [])) (set u i y) (rows_of t (rows s.first)) (rows_of t (rows s.second))
-one_read c = rw c.read
+-- lists of one and of two
+one_symbol : (ys : List ℕ) → length ys ≡ 1 → ys ≡ get_or ys 0 0 ∷ []
+one_symbol [] e = absurd (omega arith)
+one_symbol (y ∷ []) e = refl
+one_symbol (y ∷ z ∷ ys) e = absurd (omega arith)
 
-pub two_read : {t : Row} {u : List ℕ} {i j y z : ℕ} {s : Syndromes} → Completed t u (i ∷ j ∷ []) (y ∷ z ∷ []) s
-    → completed (parameters t) u (i ∷ j ∷ [])
-    ≡ read_by (parameters t) (filled (change (i + 1) y ∷ change (j + 1) z ∷ [])) (set (set u i y) j z) (rows_of t (rows s.first))
+two_symbols : (ys : List ℕ) → length ys ≡ 2 → ys ≡ get_or ys 0 0 ∷ get_or ys 1 0 ∷ []
+two_symbols [] e = absurd (omega arith)
+two_symbols (y ∷ []) e = absurd (omega arith)
+two_symbols (y ∷ z ∷ []) e = refl
+two_symbols (y ∷ z ∷ x ∷ ys) e = absurd (omega arith)
+
+-- the reading of a word so completed
+pub one_read : {t : Row} {u ys : List ℕ} {i : ℕ} {s : Syndromes} → Completed t u (i ∷ []) ys s
+    → completed (parameters t) u (i ∷ [])
+    ≡ read_by (parameters t) (filled (change (i + 1) (get_or ys 0 0) ∷ [])) (set u i (get_or ys 0 0)) (rows_of t (rows s.first))
     (rows_of t (rows s.second))
-two_read c = rw c.read
+one_read {t} {u} {ys} {i} {s} c =
+    rw (c.read ∙ ap (λ (zs : List ℕ). fills zs (rows_of t (rows s.first)) (rows_of t (rows s.second))) (one_symbol ys c.long))
+
+pub two_read : {t : Row} {u ys : List ℕ} {i j : ℕ} {s : Syndromes} → Completed t u (i ∷ j ∷ []) ys s
+    → completed (parameters t) u (i ∷ j ∷ [])
+    ≡ read_by (parameters t) (filled (change (i + 1) (get_or ys 0 0) ∷ change (j + 1) (get_or ys 1 0) ∷ []))
+    (set (set u i (get_or ys 0 0)) j (get_or ys 1 0)) (rows_of t (rows s.first)) (rows_of t (rows s.second))
+two_read {t} {u} {ys} {i} {j} {s} c =
+    rw (c.read ∙ ap (λ (zs : List ℕ). fills zs (rows_of t (rows s.first)) (rows_of t (rows s.second))) (two_symbols ys c.long))
