@@ -44,8 +44,8 @@ pub record BalancedAnswers (t : Row) (s : Totals) (x : List ℕ) (r : Result Dec
       → ReadAs (decoded_balanced (parameters t) (sums_of t s) v) r first first' second second'
 
 -- the word u is admitted in edition e (02) and profile i, with outputs of k and l symbols: the row is the profile's in the edition, and the
--- erased symbols are the word's; or r refuses the call
+-- erased symbols are the word's; or r refuses the call, by another number than 4
 abbrev pub Admits : ℕ → ℕ → List ℕ → ℕ → ℕ → Result (Row × Erasures) Refusal → Type 0
 Admits e i u k l (Ok (t, es)) =
     (is_edition e ≡ true) × RowOf (edition_of e) i t × (screened (Ok es) ≡ screening (decode_number t u k l) (erased_indices 0 u))
-Admits e i u k l (Err r) = (r ≢ Unreadable) × (decode_answer e i u k l ≡ refused (number_of r))
+Admits e i u k l (Err r) = (number_of r ≢ 4) × (decode_answer e i u k l ≡ refused (number_of r))
