@@ -156,7 +156,7 @@ module _ (e i : ℕ) (u first second : List ℕ) {t : Row} (es : Erasures) (call
     decoded_answer = ap (answer_by f) (whole_known.read ∙ ap₂ answered is_decoded is_tried)
 
   -- one or two are erased
-  module _ (none : f 0 ≡ 0) {l : List ℕ} (known : Known) (erased : erased_indices 0 u ≡ l) (some : 1 ≤ length l) where
+  module _ {l : List ℕ} (known : Known) (erased : erased_indices 0 u ≡ l) (some : 1 ≤ length l) where
     pub erased_known : ErasedWord t u l
     erased_known =
         record {
@@ -177,8 +177,8 @@ module _ (e i : ℕ) (u first second : List ℕ) {t : Row} (es : Erasures) (call
         count known.few (le_refl 2))
         ∙ ap (λ (p : Parameters). decoded_erased p u) (sym of.same)
 
-    pub filled_answer : answer ≡ answered (decoded_erased (parameters t) u) 0
-    filled_answer =
+    pub filled_answer : f 0 ≡ 0 → answer ≡ answered (decoded_erased (parameters t) u) 0
+    filled_answer none =
         ap (answer_by f) (known.read ∙ ap₂ answered is_filled ((counts_told p u).if_erased count))
         ∙ ap (answered (decoded_erased (parameters t) u)) none
 

@@ -1,6 +1,6 @@
 -- The answer of the decoder, case by case.
 -- Assumes nothing.
-use mathlib.Core.Path.{◌≡◌, refl, sym, ◌∙◌}
+use mathlib.Core.Path.{◌≡◌, refl, sym, subst, ◌∙◌}
 use mathlib.Core.Logic.{◌≢◌}
 use mathlib.Core.Bool.{Bool, true, false}
 use mathlib.Core.List.{List}
@@ -155,8 +155,12 @@ module _ (p : Parameters) (s : Sums) where
     unbalanced false true e f = (omega arith, rw (e, decoded_unbalanced, tried_unbalanced, f))
     unbalanced false false e f = rw (e, decoded_unbalanced, tried_unbalanced, f)
 
-    pub unbalanced_as : {o : Option ℕ} → o ≡ wrong_parity (agrees s true) (agrees s false) → AnsweredFor o
-    unbalanced_as e = rw e (unbalanced (agrees s true) (agrees s false) refl refl)
+    module _ {o : Option ℕ} (e : o ≡ wrong_parity (agrees s true) (agrees s false)) where
+      pub unbalanced_none : o ≡ None → answer ≡ answered unreadable 0
+      unbalanced_none f = subst AnsweredFor (sym e ∙ f) (unbalanced (agrees s true) (agrees s false) refl refl)
+
+      pub unbalanced_one : {parity : ℕ} → o ≡ Some parity → (parity ≤ 1) × (answer ≡ answer_for (is_first parity))
+      unbalanced_one f = subst AnsweredFor (sym e ∙ f) (unbalanced (agrees s true) (agrees s false) refl refl)
 
     -- The search for the changed symbol.
     module _ (b : Bool) where
