@@ -5,7 +5,6 @@ use mathlib.Core.Logic.{⊎_elim}
 use mathlib.Core.Bool.{Bool, true, false}
 use mathlib.Core.List.{List}
 use Prim.Native.Nat.{ℕ, zero, suc, ◌+◌, ◌-◌, ◌*◌, ◌%◌, ◌≤◌, ◌<◌}
-use native.Mathlib.Numerals.{add-one}
 use native.Mathlib.Omega.{arith}
 use lib.Dec.{eqb}
 use lib.ListN.{get_or}
@@ -15,9 +14,7 @@ use Rattle.code_theory.specs.Parameters.{Parameters}
 use Rattle.code_theory.proofs.Merge.{cases}
 use Rattle.decoding_theory.specs.Syndromes.{near_syndromes, index, moved, moved_of}
 use Rattle.decoding_theory.specs.Decoded.{Sums, gain_by, gain, in_range, off_by_lack, near_after, fits, position_count, first_fit}
-use Rattle.decoding_theory.specs.TriedPositions.{tried_body}
 use Rattle.decoding_theory.proofs.Tests.{false_test}
-use Rattle.decoding_theory.proofs.TriedPositions.{tried_to_lem, tried_all}
 use Rattle.decoder.specs.declared.locate.Search.{Search}
 use Rattle.decoder.specs.Sides.{is_first}
 use Rattle.decoder.specs.Totals.{Totalled}

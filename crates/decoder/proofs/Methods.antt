@@ -1,13 +1,13 @@
 -- What of an answer goes by the method is its count.
 -- Assumes nothing.
-use mathlib.Core.Path.{◌≡◌, refl, ap, ◌∙◌}
+use mathlib.Core.Path.{◌≡◌, refl, ◌∙◌}
 use mathlib.Core.Bool.{Bool, true, false}
 use mathlib.Core.List.{List}
 use Prim.Native.Nat.{ℕ}
 use Rattle.code_theory.specs.Reading.{read, unreadable}
 use Rattle.code_theory.specs.Operations.{Answer, refused, answered, report, report_tried, decode_output}
 use Rattle.decoder.specs.declared.word.Decoding.{Decoding}
-use Rattle.decoder.specs.Decode.{report_of, Answers}
+use Rattle.decoder.specs.Decode.{Answers}
 use Rattle.decoder.specs.Method.{answer_by}
 use Rattle.decoder.specs.SyndromeDecode.{uncounted, SyndromeAnswers}
 

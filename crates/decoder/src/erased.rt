@@ -83,13 +83,7 @@ fn find_one(row: Row, word: &[u8], i: usize, x: &mut [u8; 97]) -> Option<Filling
 }
 
 // The same of the symbols at the indices i and j.
-fn find_two(
-    row: Row,
-    word: &[u8],
-    i: usize,
-    j: usize,
-    x: &mut [u8; 97],
-) -> Option<Filling<2>>
+fn find_two(row: Row, word: &[u8], i: usize, j: usize, x: &mut [u8; 97]) -> Option<Filling<2>>
     requires { WholeWord row word.now × BodyArray row x.old × (i < row.codeword) × (j < row.codeword) }
     ensures { FilledBy row word.now (i ∷ j ∷ []) x.new result }
 {
@@ -101,7 +95,13 @@ fn find_two(
 }
 
 // The pair of a word, which has 0 at index i, once that symbol is filled.
-fn complete_one(row: Row, word: &[u8], i: usize, first: &mut [u8], second: &mut [u8]) -> Result<Decoded, Refusal>
+fn complete_one(
+    row: Row,
+    word: &[u8],
+    i: usize,
+    first: &mut [u8],
+    second: &mut [u8],
+) -> Result<Decoded, Refusal>
     requires { WholeWord row word.now × (i < row.codeword) × Outputs row first.old second.old }
     ensures { ReadAs (completed (parameters row) word.now (i ∷ [])) result
         first.old first.new second.old second.new }

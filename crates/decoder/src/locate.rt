@@ -110,7 +110,14 @@ fn first_fit(
     ensures { FirstFit search word.now result }
 {
     for k in 0..position_count(search) {
-        if fits(search, columns, by_first, by_second, k, word[2 * k + search.parity]) {
+        if fits(
+            search,
+            columns,
+            by_first,
+            by_second,
+            k,
+            word[2 * k + search.parity],
+        ) {
             return Some(k);
         }
     }

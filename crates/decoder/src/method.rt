@@ -83,7 +83,10 @@ impl Method for Locating {
         columns: &[[u8; 3]; 48],
         word: &[u8],
     ) -> ChangedSymbol {
-        let found = fit_located(search, profile, word).map(|k| (k, syndromes_at(search, columns, k)));
+        let found = fit_located(search, profile, word).map(|k| (
+            k,
+            syndromes_at(search, columns, k),
+        ));
         ChangedSymbol { found, tried: 0 }
     }
 }

@@ -80,7 +80,10 @@ fn judge(row: Row, s: Totals) -> Result<Decoded, Refusal>
 fn wrong_parity(s: Totals) -> Option<usize>
     ensures { result ≡ wrong_parity (eqb s.asked.alpha s.arrived.alpha) (eqb s.asked.beta s.arrived.beta) }
 {
-    match (s.asked.alpha == s.arrived.alpha, s.asked.beta == s.arrived.beta) {
+    match (
+        s.asked.alpha == s.arrived.alpha,
+        s.asked.beta == s.arrived.beta,
+    ) {
         (false, true) => Some(0),
         (true, false) => Some(1),
         _ => None,

@@ -1,6 +1,6 @@
 -- `decoder::locate::fit_located` meets its contract: an index that fits explains the syndromes, and at most one does, the one located.
 -- Assumes nothing.
-use mathlib.Core.Path.{◌≡◌, sym, ap, ◌∙◌}
+use mathlib.Core.Path.{◌≡◌, sym, ◌∙◌}
 use mathlib.Core.List.{List}
 use Prim.Native.Nat.{ℕ, ◌-◌, ◌≤◌, ◌<◌}
 use native.Mathlib.Omega.{arith}
@@ -8,7 +8,6 @@ use Rattle.code_theory.specs.Parameters.{balanced_length}
 use Rattle.locating_theory.specs.ErrorPosition as model
 use Rattle.locating_theory.specs.ErrorPosition.{at, error_position}
 use Rattle.locating_theory.proofs.Located.{fit_none_off, fit_nowhere, fit_out_of_range, fit_at}
-use Rattle.locator.specs.Location.{location_of}
 use Rattle.locator.proofs.Answering.{row_prime}
 use Rattle.decoder.specs.declared.locate.Search.{Search}
 use Rattle.decoder.specs.Search.{parameters_of, sums_in, parity_of}

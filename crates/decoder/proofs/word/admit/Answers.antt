@@ -1,6 +1,6 @@
 -- `decoder::word::admit` meets its contract: the edition is looked up, the row, and then the word is screened.
 -- Assumes nothing.
-use mathlib.Core.Path.{◌≡◌, sym, subst}
+use mathlib.Core.Path.{◌≡◌, subst}
 use mathlib.Core.Bool.{true}
 use Rattle.std.proofs.lemmas.Result.{err_from_is_err_and}
 use Rattle.code_theory.specs.Parameters.{Edition, is_edition, edition_of}

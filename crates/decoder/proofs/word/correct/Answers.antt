@@ -14,8 +14,7 @@ correct_components-requires c =
 
 pub write_pair-requires : goal.write_pair-requires
 write_pair-requires c =
-    let (found, after, _, outputs) = c.requires in
-    (
+    let (found, after, _, outputs) = c.requires in (
       c.correct_components.ensures.levels,
       record { first_rows = after.first_rows; second_rows = after.second_rows; near = fit_near found after },
       outputs,

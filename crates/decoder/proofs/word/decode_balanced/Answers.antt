@@ -1,6 +1,5 @@
 -- `decoder::word::decode_balanced` meets its contract: what is judged readable is written.
 -- Assumes nothing.
-use mathlib.Core.Path.{ap, subst}
 use mathlib.Core.Bool.{true, false}
 use Rattle.std.proofs.lemmas.Result.{err_from_is_err_and}
 use Rattle.decoder.proofs.Answering.{messages_of, judged_none, judged_read}

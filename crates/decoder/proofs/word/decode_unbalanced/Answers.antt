@@ -1,17 +1,7 @@
 -- `decoder::word::decode_unbalanced` meets its contract: the tests of the definition, in its order, and the first index that fits.
 -- Assumes nothing.
-use mathlib.Core.Path.{◌≡◌, refl, sym, ap, subst, ◌∙◌}
-use mathlib.Core.List.{List}
-use Prim.Native.Nat.{ℕ}
-use Rattle.std.specs.Prelude.{Option, Some, None}
-use Rattle.code_theory.specs.Operations.{answered}
-use Rattle.decoding_theory.specs.Decoded.{decoded_unbalanced}
-use Rattle.decoding_theory.specs.TriedPositions.{tried_unbalanced}
-use Rattle.symbols.specs.declared.sums.Syndromes.{Syndromes}
-use Rattle.decoder.specs.declared.locate.Search.{Search}
-use Rattle.decoder.specs.Search.{parameters_of, sums_in, parity_of}
+use mathlib.Core.Path.{refl, sym, ap, subst}
 use Rattle.decoder.specs.Method.{answer_by}
-use Rattle.decoder.specs.Locate.{tried_in}
 use Rattle.decoder.specs.Changed.{FoundSymbol}
 use Rattle.decoder.proofs.Answering.{answers_as, answers_read, read_unreadable, unbalanced_none, unbalanced_one, body_none}
 use Rattle.decoder.proofs.word.decode_unbalanced.Goals as goal

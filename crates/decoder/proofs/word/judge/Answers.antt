@@ -1,7 +1,7 @@
 -- `decoder::word::judge` meets its contract: the judgement, as an answer.
 -- Assumes nothing.
 use mathlib.Core.Path.{◌≡◌, refl, sym, ap, ◌∙◌}
-use Rattle.std.specs.Prelude.{Option, Some, None, Result, Ok, Err}
+use Rattle.std.specs.Prelude.{Option, Some, None, Result, Ok}
 use Rattle.std.proofs.lemmas.Result.{err_from_is_err_and}
 use Rattle.profiles.specs.Row.{parameters}
 use Rattle.refusals.specs.declared.Refusal.{Refusal}

@@ -1,9 +1,9 @@
 -- `decoder::method::Trying::changed_symbol` meets its contract: the positions up to the first that fits are those tried, and all where none
 -- fits.
 -- Assumes nothing.
-use mathlib.Core.Path.{◌≡◌, subst, ◌∙◌}
+use mathlib.Core.Path.{subst, ◌∙◌}
 use native.Mathlib.Numerals.{add-one}
-use Rattle.std.specs.Prelude.{Option, Some, None}
+use Rattle.std.specs.Prelude.{Some, None}
 use Rattle.decoding_theory.proofs.TriedPositions.{tried_to_lem, tried_all}
 use Rattle.decoder.specs.Locate.{FirstFit}
 use Rattle.decoder.proofs.method.TryingMethod.changed_symbol.Goals as goal
