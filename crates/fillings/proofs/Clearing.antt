@@ -4,15 +4,17 @@ use mathlib.Core.Path.{◌≡◌, refl, sym, ap, ◌∙◌}
 use mathlib.Core.Bool.{Bool, true, false}
 use mathlib.Core.Logic.{⊎_elim}
 use mathlib.Core.List.{List, [], ◌∷◌, ◌++◌, map}
-use Prim.Native.Nat.{ℕ, zero, suc, min, ◌-◌, ◌≤◌, ◌<◌}
+use Prim.Native.Nat.{ℕ, zero, suc, min, ◌+◌, ◌-◌, ◌≤◌, ◌<◌}
+use native.Mathlib.Nat.{not-suc-le-zero}
 use native.Mathlib.Omega.{arith}
 use lib.Dec.{eqb}
-use lib.ListN.{length, get_or, take, drop, replicate, length-append, get_or-map, get_or-eq_default}
-use lib.Seq.{get_or-take, take-take, take_at, length-take-le, ext_get_or}
+use lib.ListN.{length, get_or, take, drop, set, replicate, length-append, length-replicate, get_or-map, get_or-eq_default}
+use lib.Seq.{get_or-take, get_or-set_other, take-take, take_at, length-take-le, ext_get_or}
 use Rattle.std.proofs.lemmas.List.{drop-replicate}
 use Rattle.modular_theory.proofs.Search.{le_or_lt}
 use Rattle.code_theory.specs.Component.{erasure}
 use Rattle.decoding_theory.specs.Filled.{cleared}
+use Rattle.modular.proofs.Filling.{FilledTo, filled_none, filled_more}
 use Rattle.decoding_theory.proofs.Cleared.{cleared_length}
 use Rattle.fillings.specs.Cleared.{unless_erased, cleared_array}
 
@@ -56,7 +58,7 @@ unfolding cleared_array
 array_take w h =
     take-take (length w) 99 (cleared w ++ replicate 99 0) h ∙ take_at (cleared w) (replicate 99 0) (length w) (cleared_length w)
 
--- the first symbols of w, as many as fit, with zeros after them
+-- Up to 99 symbols, the first of w with zeros after them are those of w.
 module _ (w : List ℕ) {n : ℕ} (end : n ≡ min (length w) 99) where
   copied_at : (k : ℕ) → k < 99 → get_or (take n w ++ drop n (replicate 99 0)) k 0 ≡ get_or w k 0
   copied_at k l =
@@ -68,11 +70,32 @@ module _ (w : List ℕ) {n : ℕ} (end : n ≡ min (length w) 99) where
           let all : length (take n w) ≤ k = omega (arith, length-take-le n w (omega arith)) in
           get_or-eq_default (take n w) 0 all ∙ sym (get_or-eq_default w 0 (omega (arith, end, h, l)))
 
-  -- each of them as cleared
-  pub cleared_each : {copied array : List ℕ} → copied ≡ take n w → length array ≡ 99
-      → ((k : ℕ) → k < 99 → get_or array k 0 ≡ unless_erased (get_or (copied ++ drop n (replicate 99 0)) k 0))
-      → array ≡ cleared_array w
-  cleared_each {copied} {array} is long each =
-      ext_get_or 0 array (cleared_array w) (long ∙ sym (array_long w))
-      (λ k l. let room : k < 99 = omega (arith, l, long) in
-      rw is at each k room ∙ ap unless_erased (copied_at k room) ∙ sym (array_at w k room))
+  copied_long : length (take n w ++ drop n (replicate 99 0)) ≡ 99
+  copied_long =
+      let first : length (take n w) ≡ n = length-take-le n w (omega arith) in
+      let others : length {A = ℕ} (replicate (99 - n) 0) ≡ 99 - n = length-replicate (99 - n) 0 in
+      rw (drop-replicate {X = ℕ} n 99 0) (omega (arith, length-append (take n w) (replicate (99 - n) 0), first, others, end))
+
+-- the first i of 99 symbols are cleared, and the others those of w
+pub record ClearedTo (w array : List ℕ) (i : ℕ) : Type 0 where
+  pub passed : FilledTo (λ k. unless_erased (get_or w k 0)) 99 array i
+  pub rest : (k : ℕ) → i ≤ k → k < 99 → get_or array k 0 ≡ get_or w k 0
+
+pub cleared_none : (w : List ℕ) {n : ℕ} {copied : List ℕ} → n ≡ min (length w) 99 → copied ≡ take n w
+    → ClearedTo w (copied ++ drop n (replicate 99 0)) 0
+cleared_none w end is =
+    rw is (record { passed = filled_none _ _ (copied_long w end); rest = λ k h l. copied_at w end k l })
+
+module _ {w array : List ℕ} {i : ℕ} (c : ClearedTo w array i) where
+  pub cleared_more : i < 99 → {y : ℕ} → y ≡ unless_erased (get_or array i 0) → ClearedTo w (set array i y) (i + 1)
+  cleared_more room {y} e =
+      record {
+        passed = filled_more c.passed room (e ∙ ap unless_erased (c.rest i (omega arith) room));
+        rest =
+            λ k h l. get_or-set_other array i k y 0 (λ z. not-suc-le-zero {n = 0} (omega (arith, z, h))) ∙ c.rest k (omega (arith, h)) l;
+      }
+
+  pub cleared_all : 99 ≤ i → array ≡ cleared_array w
+  cleared_all h =
+      ext_get_or 0 array (cleared_array w) (c.passed.size ∙ sym (array_long w))
+      (λ k l. c.passed.at k (omega (arith, l, h, c.passed.size)) ∙ sym (array_at w k (omega (arith, l, c.passed.size))))

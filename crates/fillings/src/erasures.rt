@@ -18,5 +18,8 @@ pub fn cleared(word: &[u8]) -> [u8; 99]
     let end = word.len().min(99);
     let mut array = [0; 99];
     array[..end].copy_from_slice(&word[..end]);
-    array.map(|x| unless_erased(x))
+    for x in array.iter_mut() {
+        *x = unless_erased(*x);
+    }
+    array
 }

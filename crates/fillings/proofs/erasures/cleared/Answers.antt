@@ -1,13 +1,13 @@
--- `fillings::erasures::cleared` meets its contract: the word is copied, and each symbol of the copy cleared.
+-- `fillings::erasures::cleared` meets its contract. The invariant: the symbols passed are cleared, and the others as in the word.
 -- Assumes nothing.
-use Rattle.std.proofs.Common.{rules, ◌≡◌, ℕ, List, ◌++◌, ◌<◌, get_or, drop, replicate}
-use Rattle.fillings.specs.Cleared.{unless_erased}
-use Rattle.fillings.proofs.Clearing.{cleared_each}
+use Rattle.fillings.proofs.Clearing.{cleared_none, cleared_more, cleared_all}
 use Rattle.fillings.proofs.erasures.cleared.Goals as goal
 
+pub loop-x-init : goal.loop-x-init
+loop-x-init c = cleared_none _ c.min-end.ensures c.copy_from_slice.ensures.after
+
+pub loop-x-preserved : goal.loop-x-preserved
+loop-x-preserved c = cleared_more c.loop-x.invariant c.loop-x-test.true c.unless_erased.ensures
+
 pub returns : goal.returns
-returns c =
-    let copied : List ℕ = c.copy_from_slice.new.self ++ drop c.min-end.result (replicate 99 0) in
-    let each : (k : ℕ) → k < 99 → get_or c.map.result k 0 ≡ unless_erased (get_or copied k 0) =
-    λ k l. search (rules, (c.map.ensures.items.at k 0 0 l).2.met) in
-    cleared_each c.args.word.now c.min-end.ensures c.copy_from_slice.ensures.after c.map.ensures.items.long each
+returns c = cleared_all c.loop-x.invariant c.loop-x-test.false
