@@ -3,40 +3,42 @@
 // and whether a read or a write failed.
 #![tactic(auto)]
 
-ghost use Rattle.std.specs.Prelude.{◌<◌, length, ℤ};
+ghost use Rattle.std.specs.Prelude.{◌<◌, ◌≤◌, ℕ, length, Option, IfSome};
 ghost use Rattle.lines.specs.States.{model_of};
 ghost use Rattle.boxlines.specs.Turns.{AnswersPiece, AnswersEnd, AnswersRead};
 
 use lines::State;
 use std::io::{Read, Stdin};
 
-// The streams that are written to, by POSIX's numbers.
+// The stream that answers are written to, by POSIX's number.
 const STDOUT_FILENO: i32 = 1;
 
-const STDERR_FILENO: i32 = 2;
-
-// Whether to go on, or how the program ends.
-#[derive(Clone, Copy)]
-enum Status {
-    More,
-    Ended,
-    ReadFailed,
-    WriteFailed,
+// What failed. None of the lines that came with it counts: so a line counts once the answers to all that came with it are
+// written.
+#[derive(Clone, Copy, PartialEq, Eq, Debug)]
+enum Failure {
+    Read,
+    Write,
 }
 
-// The state after some input, how many lines of it were answered, and whether to go on. Where a write failed none of
-// them counts: so a line counts once the answers to all that came with it are written.
+// The state after a piece of the input, and how many lines of it were answered.
 #[derive(Drop)]
-struct Next {
+struct Answered {
     state: State,
     lines: usize,
-    status: Status,
+}
+
+// What comes of a read: there may be more input, or it has ended, and the last line is answered, if it was not ended.
+#[derive(Drop)]
+enum Next {
+    More(Answered),
+    Ended(usize),
 }
 
 // Writes what can be answered of a piece of the input, so that nothing is pending.
-fn answer(start: State, input: &[u8], output: &mut [u8]) -> Next
+fn answer(start: State, input: &[u8], output: &mut [u8]) -> Result<Answered, Failure>
     requires { 0 < length output.old }
-    ensures { AnswersPiece (model_of start) input.now result.status (model_of result.state) result.lines }
+    ensures { AnswersPiece (model_of start) input.now result }
 {
     let mut state = start;
     let mut at = 0;
@@ -48,26 +50,18 @@ fn answer(start: State, input: &[u8], output: &mut [u8]) -> Next
         lines += stepped.answered;
         let produced = stepped.produced;
         if !io::write_all(STDOUT_FILENO, &output[..produced]) {
-            return Next {
-                state,
-                lines: 0,
-                status: Status::WriteFailed,
-            };
+            return Err(Failure::Write);
         }
         if produced < output.len() {
-            return Next {
-                state,
-                lines,
-                status: Status::More,
-            };
+            return Ok(Answered { state, lines });
         }
     }
 }
 
-// Writes what is still to come at the end of the input.
-fn finish(start: State, output: &mut [u8]) -> Next
+// Writes what is still to come at the end of the input, and says how many lines that answered.
+fn finish(start: State, output: &mut [u8]) -> Result<usize, Failure>
     requires { 0 < length output.old }
-    ensures { AnswersEnd (model_of start) result.status result.lines }
+    ensures { AnswersEnd (model_of start) result }
 {
     let mut state = start;
     let mut lines = 0;
@@ -77,88 +71,79 @@ fn finish(start: State, output: &mut [u8]) -> Next
         lines += finished.answered;
         let produced = finished.produced;
         if !io::write_all(STDOUT_FILENO, &output[..produced]) {
-            return Next {
-                state,
-                lines: 0,
-                status: Status::WriteFailed,
-            };
+            return Err(Failure::Write);
         }
         if finished.done {
-            return Next {
-                state,
-                lines,
-                status: Status::Ended,
-            };
+            return Ok(lines);
         }
     }
 }
 
-// What comes of a read. A failed one is not the end of the input: what was answered has been written, and a line that is
-// not ended gets no answer.
-fn proceed(state: State, got: isize, input: &[u8], output: &mut [u8]) -> Next
-    requires { 0 < length output.old }
-    ensures { AnswersRead (model_of state) got input.now result.status (model_of result.state) result.lines }
+// What comes of a read that got so many bytes, or failed. A failed one is not the end of the input: what was answered has been
+// written, and a line that is not ended gets no answer.
+fn proceed(
+    state: State,
+    got: Option<usize>,
+    input: &[u8],
+    output: &mut [u8],
+) -> Result<Next, Failure>
+    requires room { 0 < length output.old }
+    requires within { IfSome got (λ n. n ≤ length input.now) }
+    ensures { AnswersRead (model_of state) got input.now result }
 {
-    if got < 0 {
-        return Next {
-            state,
-            lines: 0,
-            status: Status::ReadFailed,
-        };
+    let Some(n) = got else {
+        return Err(Failure::Read);
+    };
+    if n == 0 {
+        return Ok(Next::Ended(finish(state, output)?));
     }
-    if got == 0 {
-        return finish(state, output);
-    }
-    let n = io::count(got, input);
-    answer(state, &input[..n], output)
+    Ok(Next::More(answer(state, &input[..n], output)?))
 }
 
 // One read, and what comes of it. No contract says which bytes come, so this one speaks of the buffer after the read.
-fn turn(stdin: &mut Stdin, state: State, input: &mut [u8], output: &mut [u8]) -> Next
+fn turn(
+    stdin: &mut Stdin,
+    state: State,
+    input: &mut [u8],
+    output: &mut [u8],
+) -> Result<Next, Failure>
     requires { 0 < length output.old }
-    ensures { (got : ℤ) × AnswersRead (model_of state) got input.new result.status (model_of result.state) result.lines }
+    ensures { (got : Option ℕ) × AnswersRead (model_of state) got input.new result }
 {
-    let got = match stdin.read(input) {
-        Ok(n) => n as isize,
-        Err(_) => -1,
-    };
+    let got = stdin.read(input).ok();
     proceed(state, got, input, output)
 }
 
-// The number of lines between two texts, on standard error.
-fn tell(before: &[u8], lines: u64, after: &[u8]) {
-    io::write_all(STDERR_FILENO, before);
-    io::print_decimal(STDERR_FILENO, lines);
-    io::write_all(STDERR_FILENO, after);
+// How the program ended, on standard error. That this can't be written is not told.
+fn print_end(rt: &HostRuntime, end: Result<(), Failure>, lines: u64) {
+    let _ = match end {
+        Ok(()) => eprintln!(rt; "boxlines: {lines} lines answered"),
+        Err(Failure::Read) => eprintln!(rt; "boxlines: a read failed after {lines} lines"),
+        Err(Failure::Write) => eprintln!(rt; "boxlines: a write failed after {lines} lines"),
+    };
 }
 
-// How the program ended.
-fn print_status(status: Status, lines: u64) {
-    match status {
-        Status::More => {}
-        Status::Ended => tell(b"boxlines: ", lines, b" lines answered\n"),
-        Status::ReadFailed => tell(b"boxlines: a read failed after ", lines, b" lines\n"),
-        Status::WriteFailed => tell(b"boxlines: a write failed after ", lines, b" lines\n"),
-    }
-}
-
-// Nothing says that the input ends, so the turns are counted down from a number that no run uses up.
+// Nothing says that the input ends, so the turns are counted, up to a number that no run reaches.
 fn main(rt: HostRuntime) {
     let mut stdin = rt.stdin();
     let mut input = io::large_buffer();
     let mut output = io::large_buffer();
     let mut state = lines::start();
     let mut lines: u64 = 0;
-    let mut turns = u64::MAX;
-    while turns > 0 {
-        let next = turn(&mut stdin, state, &mut input, &mut output);
-        state = next.state;
-        lines = std::num::wrapping_add_u64(lines, next.lines as u64);
-        let status = next.status;
-        let Status::More = status else {
-            print_status(status, lines);
-            return;
-        };
-        turns -= 1;
+    for _ in 0..u64::MAX {
+        match turn(&mut stdin, state, &mut input, &mut output) {
+            Ok(Next::More(answered)) => {
+                state = answered.state;
+                lines = std::num::wrapping_add_u64(lines, answered.lines as u64);
+            }
+            Ok(Next::Ended(last)) => {
+                print_end(&rt, Ok(()), std::num::wrapping_add_u64(lines, last as u64));
+                return;
+            }
+            Err(failure) => {
+                print_end(&rt, Err(failure), lines);
+                return;
+            }
+        }
     }
 }

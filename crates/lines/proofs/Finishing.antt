@@ -1,95 +1,107 @@
 -- The two parts of `finish`: the pending bytes, then the answer to a line that no byte 10 ended.
 -- Assumes nothing.
-use mathlib.Core.Path.{◌≡◌, refl, sym, ap, ◌∙◌}
-use mathlib.Core.Logic.{⊎_elim}
-use mathlib.Core.Bool.{Bool, true, false}
-use mathlib.Core.List.{List, [], ◌∷◌, ◌++◌, append-nil}
-use Prim.Native.Nat.{ℕ, ◌-◌, ◌≤◌, ◌<◌, zero-le}
-use native.Mathlib.Omega.{arith}
-use lib.Dec.{eqb}
-use lib.ListN.{length, take}
-use borrow.Author.Tests.{eq-eqb, ne_eqb}
-use Rattle.modular_theory.proofs.Search.{le_or_lt}
-use lib.Seq.{take_all, take-nil}
-use Rattle.lines_theory.specs.Feed.{Model, Fed, answer_at_end, stopped, finishing, is_empty, is_done, overwritten}
+use Rattle.std.proofs.Common.{◌≡◌, ℕ, ◌-◌, ◌<◌, ◌≤◌, true, false, List, [], ◌∷◌, min, length, take, drop, refl, sym, ap, ◌∙◌, zero-le, arith, length-append, length-drop, length-take-le, take_at, take_all}
+use Rattle.std.proofs.lemmas.Slice.{drop-append-drop}
+use Rattle.lines_theory.specs.Feed.{Partial, held, too_long, Model, Fed, answer_to, answer_at_end, stopped, finishing, last_lines, overwritten}
 use Rattle.lines_theory.proofs.Cutting.{finish_on, finish_stop}
-use Rattle.lines.specs.States.{partial_of, pending_of, BeginsWith}
-use Rattle.lines.proofs.Stepping.{model_from, Turn, Done, length_pending, nothing, no_room, no_input, stepped}
+use Rattle.lines.specs.Lines.{is_fresh}
+use Rattle.lines.proofs.Turns.{ahead, emit_law}
+use Rattle.lines.proofs.Stepping.{Turn, Done, no_room, no_input}
 
-module _ {out₀ line : List ℕ} {len : ℕ} {pending : List ℕ} {from' to n : ℕ} {out : List ℕ} (o : List ℕ)
-    (t : Turn (stopped (partial_of line len) o (length out₀)) [] out₀ line len pending from' to 0 n out) where
-  -- the line so far, with the bytes o pending
+module _ (p : Partial) (o out : List ℕ) {n : ℕ} (count : n ≡ min (length o) (length out)) where
   abbrev m : Model
-  m = record { line = partial_of line len; pending = o }
+  m = record { line = p; pending = o }
 
-  -- they had no room
-  pub finish_stops : length out₀ < length o → stopped (partial_of line len) o (length out₀) ≡ finishing m (length out₀)
-  finish_stops h = sym (finish_stop m (length out₀) h)
+  put_length : length (take n o) ≡ n
+  put_length = length-take-le n o (omega (arith, count))
 
-  module _ (none : to ≤ from') (room : length o ≤ length out₀) where
-    -- the output begins with them
-    all_put : o ≡ take n out
-    all_put =
-        let e : pending_of pending from' to ≡ [] = nothing pending from' to t.long_pending t.end none in
-        sym (take_all (length out₀) o room)
-        ∙ ap (λ (f : Fed). f.produced) t.left
-        ∙ ap (λ (l : List ℕ). take n out ++ take (length out₀ - n) l) e
-        ∙ ap (λ (l : List ℕ). take n out ++ l) (take-nil (length out₀ - n))
-        ∙ append-nil (take n out)
+  put_out : take n (overwritten (take n o) out) ≡ take n o
+  unfolding overwritten
+  put_out = take_at (take n o) (drop (length (take n o)) out) n put_length
+
+  -- the pending bytes that had room are put out
+  first : Turn (stopped p o (length out)) [] out p (drop n o) 0 n (overwritten (take n o) out)
+  unfolding overwritten
+  first =
+      record {
+        taken = zero-le;
+        put = omega (arith, count);
+        same = length-append (take n o) (drop (length (take n o)) out) ∙ omega (arith, put_length, count, length-drop (length (take n o)) out);
+        rest = rw put_length (drop-append-drop n out (take n o) n (omega arith) put_length);
+        left =
+            emit_law p o [] (length out) n (omega (arith, count)) (omega (arith, count))
+            ∙ ap (λ (x : List ℕ). ahead 0 x (stopped p (drop n o) (length out - n))) (sym put_out);
+      }
+
+  -- the others had none
+  pub stops : 0 < length (drop n o) → Done (finishing m (length out)) (record { line = p; pending = drop n o }) 0 n out (overwritten (take n o) out)
+  stops h =
+      let cut : length out < length o = omega (arith, h, length-drop n o, count) in
+      rw (finish_stop m (length out) cut) (no_room first h (omega (arith, cut, count)))
+
+  pub cut_short : 0 < length (drop n o) → length out < length o
+  cut_short h = omega (arith, h, length-drop n o, count)
+
+  module _ (none : drop n o ≡ []) where
+    pub whole : n ≡ length o
+    whole = omega (arith, count, length-drop n o, ap length none)
+
+    pub room : length o ≤ length out
+    room = omega (arith, whole, count)
 
     -- the answer at the end is pending
-    pub ended : {pending' : List ℕ} {end : ℕ} → BeginsWith pending' end (answer_at_end (partial_of line len)) → length o ≡ n
-        → Turn (finishing m (length out₀)) [] out₀ line 0 pending' 0 end 0 n out
-    ended {pending'} {end} w e =
+    ended : Turn (finishing m (length out)) [] out (held []) (answer_at_end p) 0 n (overwritten (take n o) out)
+    ended =
+        let all : take n o ≡ o = take_all n o (omega (arith, whole)) in
         record {
-          long_line = t.long_line;
-          long_pending = w.long;
-          order = zero-le;
-          end = w.fits;
           taken = zero-le;
-          put = t.put;
-          same = t.same;
-          rest = t.rest;
-          left = finish_on m (length out₀) room ∙ rw (w.text, ← all_put, e);
+          put = first.put;
+          same = first.same;
+          rest = first.rest;
+          left = finish_on m (length out) room ∙ rw (put_out, all, whole) refl;
         }
 
--- The contract's five equations.
+    -- that to the line, if it has bytes
+    pub answers : is_fresh p ≡ false → Turn (finishing m (length out)) [] out (held []) (answer_to p) 0 n (overwritten (take n o) out)
+    answers f = let e : answer_at_end p ≡ answer_to p = at_end p f in rw e at ended
+      where
+        at_end : (q : Partial) → is_fresh q ≡ false → answer_at_end q ≡ answer_to q
+        at_end (held []) e = cc
+        at_end (held (b ∷ l)) e = refl
+        at_end too_long e = refl
 
-empty_none : (l : List ℕ) → length l ≡ 0 → true ≡ is_empty l
-empty_none [] h = refl
-empty_none (b ∷ l) h = absurd (omega arith)
+    -- and none, if it has none
+    pub ends : is_fresh p ≡ true → Done (finishing m (length out)) (record { line = p; pending = drop n o }) 0 n out (overwritten (take n o) out)
+    ends f =
+        let a : answer_at_end p ≡ [] = at_end p f in
+        let e : held [] ≡ p = fresh p f in
+        rw none (no_input (rw (e, a) at ended) refl refl)
+      where
+        at_end : (q : Partial) → is_fresh q ≡ true → answer_at_end q ≡ []
+        at_end (held []) e = refl
+        at_end (held (b ∷ l)) e = cc
+        at_end too_long e = cc
 
-empty_some : (l : List ℕ) → 0 < length l → false ≡ is_empty l
-empty_some [] h = absurd (omega arith)
-empty_some (b ∷ l) h = refl
+        fresh : (q : Partial) → is_fresh q ≡ true → held [] ≡ q
+        fresh (held []) e = refl
+        fresh (held (b ∷ l)) e = cc
+        fresh too_long e = cc
 
-module _ (pending : List ℕ) (from to : ℕ) (long : length pending ≡ 128) (end : to ≤ 128) where
-  pub more_pending : from < to → false ≡ is_empty (pending_of pending from to)
-  more_pending h = empty_some (pending_of pending from to) (omega (arith, length_pending pending from to long end))
+-- either way out after it
+pub all_done : {goal : Fed} {out₀ : List ℕ} {p : Partial} {o : List ℕ} {produced : ℕ} {out : List ℕ}
+    → Turn goal [] out₀ p o 0 produced out → (0 < length o → produced ≡ length out₀)
+    → Done goal (record { line = p; pending = o }) 0 produced out₀ out
+all_done {o = []} t f = no_input t refl refl
+all_done {o = b ∷ o} t f = no_room t (omega arith) (f (omega arith))
 
-  pub pending_test : from ≤ to → eqb from to ≡ is_empty (pending_of pending from to)
-  pending_test h =
-      ⊎_elim
-      (λ (k : to ≤ from).
-      let e : from ≡ to = omega arith in
-      eq-eqb from to e ∙ empty_none (pending_of pending from to) (length_pending pending from to long end ∙ omega arith))
-      (λ (k : from < to). ne_eqb from to (λ e. omega arith) ∙ more_pending k) (le_or_lt to from)
+-- the end of the input ends one line, or none where no byte of one has come
 
-pub finished : {goal call : Fed} {line : List ℕ} {len : ℕ} {pending : List ℕ} {from to produced : ℕ} {out₀ out : List ℕ}
-    {answered lines : ℕ} {b : Bool} → Done goal line len pending from to 0 produced out₀ out → goal ≡ call → answered ≡ lines
-    → b ≡ is_empty (pending_of pending from to)
-    → (model_from line len pending from to ≡ call.model)
-    × (produced ≡ length call.produced)
-    × (answered ≡ lines)
-    × (b ≡ is_done call)
-    × (out ≡ overwritten call.produced out₀)
-unfolding is_done
-finished d e n b =
-    let s = stepped d e n in
-    (s.0, s.2, n, b ∙ ap (λ (m : Model). is_empty m.pending) s.0, s.4)
+pub one_line : (p : Partial) → is_fresh p ≡ false → 1 ≡ last_lines p
+one_line (held []) e = cc
+one_line (held (b ∷ l)) e = refl
+one_line too_long e = refl
 
--- either way out of the second part
-pub all_done : {goal : Fed} {out₀ line : List ℕ} {len : ℕ} {pending : List ℕ} {k end produced : ℕ} {out : List ℕ}
-    → Turn goal [] out₀ line len pending k end 0 produced out → (k < end → produced ≡ length out₀)
-    → Done goal line len pending k end 0 produced out₀ out
-all_done {k} {end} t f = ⊎_elim (λ (h : end ≤ k). no_input t h refl) (λ (h : k < end). no_room t h (f h)) (le_or_lt end k)
+pub no_line : (p : Partial) → is_fresh p ≡ true → 0 ≡ last_lines p
+no_line (held []) e = refl
+no_line (held (b ∷ l)) e = cc
+no_line too_long e = cc

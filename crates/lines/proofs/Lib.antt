@@ -1,7 +1,6 @@
-pub mod Pasting
-pub mod Ends
-pub mod Clamping
-pub mod Holding
 pub mod Turns
+pub mod Ends
+pub mod PendingBytes
+pub mod LineSoFar
 pub mod Stepping
 pub mod Finishing

@@ -15,7 +15,7 @@ use Rattle.modular_theory.proofs.Search.{le_or_lt}
 use Rattle.lines_theory.specs.Feed.{Partial, held, Fed, extended, answer_to, line_after, answer_after, stopped, onward, feed_from}
 use Rattle.lines_theory.proofs.Whole.{line_ends_lem, line_grows}
 use Rattle.lines_theory.proofs.Feed.{feed_on, feed_stop}
-use Rattle.lines.specs.States.{extended_by}
+use Rattle.lines.specs.Lines.{extended_by}
 
 -- o was put out and k bytes were taken before f
 abbrev pub ahead : ℕ → List ℕ → Fed → Fed

@@ -9,17 +9,14 @@ ghost use Rattle.std.specs.Prelude.{◌≡◌, length, take};
 ghost use Rattle.lines_theory.specs.Feed.{begin, overwritten, is_done, line_ends, lines_finished};
 ghost use Rattle.lines.specs.States.{model_of, step_fed, finish_fed};
 
-use answers::AnswerBuffer;
+use line::Line;
+use pending::Pending;
 
-// What is kept between calls: the line so far (01: "a zeroed array of 101 bytes holds the line") and its length, and the
-// answer to the last line, of which the bytes from one index to another are not put out yet.
+// What is kept between calls: the line so far, and what is not put out yet.
 #[derive(Drop)]
 pub struct State {
-    line: [u8; 101],
-    len: usize,
-    answer: AnswerBuffer,
-    from: usize,
-    to: usize,
+    line: Line,
+    pending: Pending,
 }
 
 // What a call of step took and put out, and how many lines it answered: those whose byte 10 it took.
@@ -36,11 +33,8 @@ pub fn start() -> State
     ensures { model_of result ≡ begin }
 {
     State {
-        line: [0u8; 101],
-        len: 0,
-        answer: [0u8; 128],
-        from: 0,
-        to: 0,
+        line: Line::empty(),
+        pending: Pending::none(),
     }
 }
 
@@ -55,42 +49,31 @@ pub fn step(state: State, input: &[u8], output: &mut [u8]) -> Stepped
     ensures output { output.new
         ≡ overwritten (step_fed state input.now output.old).produced output.old }
 {
-    let mut line = state.line;
-    let mut len = state.len;
-    let mut pending = state.answer;
-    let mut to = pending::smaller(state.to, 128);
-    let mut from = pending::smaller(state.from, to);
+    let State {
+        mut line,
+        mut pending,
+    } = state;
     let mut consumed = 0;
     let mut produced = 0;
     let mut answered = 0;
     loop {
-        let n = pending::emit(&pending, from, to, output, produced);
-        from += n;
-        produced += n;
-        if from < to {
+        produced += pending.emit(&mut output[produced..]);
+        if !pending.is_empty() {
             break;
         }
         let rest = &input[consumed..];
         let Some(end) = search::line_end(rest) else {
-            len = line::hold(&mut line, len, rest);
+            line.hold(rest);
             consumed = input.len();
             break;
         };
-        to = line::answer(&mut line, len, &rest[..end], &mut pending);
-        from = 0;
-        len = 0;
+        line.hold(&rest[..end]);
+        line.end(&mut pending);
         consumed += end + 1;
         answered += 1;
     }
-    let state = State {
-        line,
-        len,
-        answer: pending,
-        from,
-        to,
-    };
     Stepped {
-        state,
+        state: State { line, pending },
         consumed,
         produced,
         answered,
@@ -115,43 +98,22 @@ pub fn finish(state: State, output: &mut [u8]) -> Finished
     ensures done { result.done ≡ is_done (finish_fed state output.old) }
     ensures output { output.new ≡ overwritten (finish_fed state output.old).produced output.old }
 {
-    let line = state.line;
-    let len = state.len;
-    let mut pending = state.answer;
-    let to = pending::smaller(state.to, 128);
-    let from = pending::smaller(state.from, to);
-    let n = pending::emit(&pending, from, to, output, 0);
-    let next = from + n;
-    if next < to {
-        let left = State {
-            line,
-            len,
-            answer: pending,
-            from: next,
-            to,
-        };
-        return Finished {
-            state: left,
-            produced: n,
-            answered: 0,
-            done: false,
-        };
+    let State {
+        mut line,
+        mut pending,
+    } = state;
+    let mut produced = pending.emit(output);
+    let mut answered = 0;
+    if pending.is_empty() && !line.is_empty() {
+        line.end(&mut pending);
+        produced += pending.emit(&mut output[produced..]);
+        answered = 1;
     }
-    let answered = pending::smaller(len, 1);
-    let end = line::answer_at_end(&line, len, &mut pending);
-    let k = pending::emit(&pending, 0, end, output, n);
-    let produced = n + k;
-    let left = State {
-        line,
-        len: 0,
-        answer: pending,
-        from: k,
-        to: end,
-    };
+    let done = pending.is_empty();
     Finished {
-        state: left,
+        state: State { line, pending },
         produced,
         answered,
-        done: k == end,
+        done,
     }
 }

@@ -1,52 +1,68 @@
 // The line so far, and its answer.
-ghost use Rattle.std.specs.Prelude.{◌≡◌, length};
-ghost use Rattle.lines_theory.specs.Feed.{answer_to, answer_at_end};
-ghost use Rattle.lines.specs.States.{partial_of, extended_by, BeginsWith};
+ghost use Rattle.std.specs.Prelude.{◌≡◌, ◌≤◌, []};
+ghost use Rattle.std.specs.Option.{ForSome};
+ghost use Rattle.lines_theory.specs.Feed.{Partial, held, answer_to};
+ghost use Rattle.lines.specs.Lines.{partial_of, extended_by, is_fresh};
 
-use answers::AnswerBuffer;
+use crate::pending::Pending;
+use std::marker::Model;
 
-// More bytes of the line. Past 101 bytes only that it has run over is kept, as a length of 102.
-pub(crate) fn hold(line: &mut [u8], len: usize, bytes: &[u8]) -> usize
-    requires { length line.old ≡ 101 }
-    ensures { partial_of line.new result ≡ extended_by (partial_of line.old len) bytes.now }
-{
-    if len > 101 {
-        return len;
-    }
-    if bytes.len() > 101 - len {
-        return 102;
-    }
-    crate::pending::paste(bytes, line, len);
-    len + bytes.len()
+// The line so far (01: "a zeroed array of 101 bytes holds the line"), and its length. Past 101 bytes only that it has run over is
+// kept: it has no length then.
+#[derive(Drop)]
+pub(crate) struct Line {
+    bytes: [u8; 101],
+    len: Option<usize>,
 }
 
-// The answer where byte 10 ends the line so far. A line that has run over gets 9, as the empty line does.
-fn answer_to(line: &[u8], len: usize, out: &mut AnswerBuffer) -> usize
-    requires { (length line.now ≡ 101) × (length out.old ≡ 128) }
-    ensures { BeginsWith out.new result (answer_to (partial_of line.now len)) }
-{
-    if len > 101 {
-        return answers::answer(&line[..0], out);
-    }
-    answers::answer(&line[..len], out)
+impl Model for Line {
+    ghost Value = { Partial };
+
+    ghost view = { λ l. partial_of l.bytes l.len };
+
+    ghost invariant = { λ l. ForSome l.len (λ n. n ≤ 101) };
 }
 
-// And where the input ends.
-pub(crate) fn answer_at_end(line: &[u8], len: usize, out: &mut AnswerBuffer) -> usize
-    requires { (length line.now ≡ 101) × (length out.old ≡ 128) }
-    ensures { BeginsWith out.new result (answer_at_end (partial_of line.now len)) }
-{
-    if len == 0 {
-        return 0;
+impl Line {
+    pub(crate) fn empty() -> Self
+        ensures { result ≡ held [] }
+    {
+        Line {
+            bytes: [0; 101],
+            len: Some(0),
+        }
     }
-    answer_to(line, len, out)
-}
 
-// The answer where byte 10 comes after more bytes of the line.
-pub(crate) fn answer(line: &mut [u8], held: usize, bytes: &[u8], out: &mut AnswerBuffer) -> usize
-    requires { (length line.old ≡ 101) × (length out.old ≡ 128) }
-    ensures { BeginsWith out.new result (answer_to (extended_by (partial_of line.old held) bytes.now)) }
-{
-    let len = hold(line, held, bytes);
-    answer_to(line, len, out)
+    // Whether no byte of it has come.
+    pub(crate) fn is_empty(&self) -> bool
+        ensures { result ≡ is_fresh self.now }
+    {
+        self.len == Some(0)
+    }
+
+    // More bytes of the line.
+    pub(crate) fn hold(&mut self, bytes: &[u8])
+        ensures { self.new ≡ extended_by self.old bytes.now }
+    {
+        let Some(len) = self.len else {
+            return;
+        };
+        if bytes.len() > 101 - len {
+            self.len = None;
+            return;
+        }
+        let end = len + bytes.len();
+        self.bytes[len..end].copy_from_slice(bytes);
+        self.len = Some(end);
+    }
+
+    // The line is at its end: its answer is pending, and the next line begins. One that has run over gets 9, as the empty line does.
+    pub(crate) fn end(&mut self, pending: &mut Pending)
+        ensures answer { pending.new ≡ answer_to self.old }
+        ensures next { self.new ≡ held [] }
+    {
+        let len = self.len.unwrap_or(0);
+        pending.answer(&self.bytes[..len]);
+        self.len = Some(0);
+    }
 }

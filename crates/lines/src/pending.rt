@@ -1,32 +1,61 @@
 // Putting pending bytes out.
-ghost use Rattle.std.specs.Prelude.{◌≡◌, ◌+◌, ◌≤◌, ◌<◌, length};
-ghost use Rattle.std.proofs.Math.Seq.{paste};
-ghost use Rattle.lines.specs.States.{Emitted};
+ghost use Rattle.std.specs.Prelude.{◌≡◌, ◌≤◌, List, ℕ, [], min, length, take, drop};
+ghost use Rattle.lines_theory.specs.Line.{line_answer};
+ghost use Rattle.lines_theory.specs.Feed.{is_empty, overwritten};
 
-pub(crate) fn smaller(a: usize, b: usize) -> usize
-    ensures { (result ≤ a) × (result ≤ b) × (result < a → result ≡ b) }
-{
-    if a < b { a } else { b }
+use answers::AnswerBuffer;
+use std::marker::Model;
+
+// The answer to the last line, of which the bytes from one index to another are not put out yet. Contracts see these bytes.
+#[derive(Drop)]
+pub(crate) struct Pending {
+    answer: AnswerBuffer,
+    from: usize,
+    to: usize,
 }
 
-// Copies bytes, from an index on.
-pub(crate) fn paste(bytes: &[u8], to: &mut [u8], at: usize)
-    requires { at + length bytes.now ≤ length to.old }
-    ensures { to.new ≡ paste to.old at bytes.now (length bytes.now) }
-{
-    let mut i = 0;
-    while i < bytes.len() {
-        to[at + i] = bytes[i];
-        i += 1;
+impl Model for Pending {
+    ghost Value = { List ℕ };
+
+    ghost view = { λ p. drop p.from (take p.to p.answer) };
+
+    ghost invariant = { λ p. (p.from ≤ p.to) × (p.to ≤ 128) };
+}
+
+impl Pending {
+    pub(crate) fn none() -> Self
+        ensures { result ≡ [] }
+    {
+        Pending {
+            answer: [0; 128],
+            from: 0,
+            to: 0,
+        }
     }
-}
 
-// Copies pending bytes into the output from an index on, as many as it has room for.
-pub(crate) fn emit(answer: &[u8], from: usize, to: usize, output: &mut [u8], at: usize) -> usize
-    requires { (from ≤ to) × (to ≤ length answer.now) × (at ≤ length output.old) }
-    ensures { Emitted answer.now from to output.old output.new at result }
-{
-    let n = smaller(to - from, output.len() - at);
-    paste(&answer[from..from + n], output, at);
-    n
+    pub(crate) fn is_empty(&self) -> bool
+        ensures { result ≡ is_empty self.now }
+    {
+        self.from == self.to
+    }
+
+    // The answer to a line, in place of what was pending.
+    pub(crate) fn answer(&mut self, line: &[u8])
+        ensures { self.new ≡ line_answer line.now }
+    {
+        self.to = answers::answer(line, &mut self.answer);
+        self.from = 0;
+    }
+
+    // Puts out as many bytes as the output has room for.
+    pub(crate) fn emit(&mut self, output: &mut [u8]) -> usize
+        ensures count { result ≡ min (length self.old) (length output.old) }
+        ensures left { self.new ≡ drop result self.old }
+        ensures output { output.new ≡ overwritten (take result self.old) output.old }
+    {
+        let n = (self.to - self.from).min(output.len());
+        output[..n].copy_from_slice(&self.answer[self.from..self.from + n]);
+        self.from += n;
+        n
+    }
 }

@@ -9,21 +9,21 @@ use Rattle.boxlines.proofs.finish.Goals as goal
 use Rattle.boxlines.proofs.finish.Goals.{After-finish-finished}
 
 call : (c : After-finish-finished)
-    → FinishCall (length c.loop-finished.output) (model_of c.loop-finished.state) (model_of c.finish-finished.result.state)
+    → FinishCall (length c.loop-state.output) (model_of c.loop-state.state) (model_of c.finish-finished.result.state)
     c.finish-finished.result.produced c.finish-finished.result.answered
 call c = let e = c.finish-finished.ensures in record { model = e.state; put = e.produced; counted = e.answered }
 
 pub overflow_add-lines : goal.overflow_add-lines
 overflow_add-lines c =
-    omega (arith, last_few (call (goal.at.overflow_add-lines c).After-finish-finished) c.loop-finished.invariant)
+    omega (arith, last_few (call (goal.at.overflow_add-lines c).After-finish-finished) c.loop-state.invariant)
 
 pub slice_bounds-write_all-end : goal.slice_bounds-write_all-end
 slice_bounds-write_all-end c =
     omega (arith, finish_within (call (goal.at.slice_bounds-write_all-end c).After-finish-finished), c.finish-finished.auto.output)
 
-pub slice_bounds-write_all-end-in-loop-finished : goal.slice_bounds-write_all-end-in-loop-finished
-slice_bounds-write_all-end-in-loop-finished c =
-    let w = finish_within (call (goal.at.slice_bounds-write_all-end-in-loop-finished c).After-finish-finished) in
+pub slice_bounds-write_all-end-in-loop-state : goal.slice_bounds-write_all-end-in-loop-state
+slice_bounds-write_all-end-in-loop-state c =
+    let w = finish_within (call (goal.at.slice_bounds-write_all-end-in-loop-state c).After-finish-finished) in
     sym (length-take-le _ _ (omega (arith, w, c.finish-finished.auto.output)))
 
 pub returns-then-not-write_all : goal.returns-then-not-write_all
@@ -33,13 +33,13 @@ returns-then-not-write_all c = refl
 pub returns-then-finished : goal.returns-then-finished
 unfolding AnswersEnd
 returns-then-finished c =
-    last_done (call (goal.at.returns-then-finished c).After-finish-finished) c.loop-finished.invariant
+    last_done (call (goal.at.returns-then-finished c).After-finish-finished) c.loop-state.invariant
     (sym c.if-finished.true ∙ c.finish-finished.ensures.done)
 
-pub loop-finished-smaller : goal.loop-finished-smaller
-loop-finished-smaller c =
-    finish_goes_on (call (goal.at.loop-finished-smaller c).After-finish-finished) (sym c.if-finished.false ∙ c.finish-finished.ensures.done)
-    (omega (arith, c.requires, c.loop-finished.auto.output))
+pub loop-state-smaller : goal.loop-state-smaller
+loop-state-smaller c =
+    finish_goes_on (call (goal.at.loop-state-smaller c).After-finish-finished) (sym c.if-finished.false ∙ c.finish-finished.ensures.done)
+    (omega (arith, c.requires, c.loop-state.auto.output))
 
-pub loop-finished-preserved : goal.loop-finished-preserved
-loop-finished-preserved c = last_further (call (goal.at.loop-finished-preserved c).After-finish-finished) c.loop-finished.invariant
+pub loop-state-preserved : goal.loop-state-preserved
+loop-state-preserved c = last_further (call (goal.at.loop-state-preserved c).After-finish-finished) c.loop-state.invariant

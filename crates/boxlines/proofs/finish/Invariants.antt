@@ -6,8 +6,8 @@ use Rattle.lines.specs.States.{model_of}
 use Rattle.boxlines.proofs.Answering.{Remains}
 use Rattle.boxlines.proofs.finish.Given as goal
 
-abbrev pub invariant-loop-finished : goal.invariant-loop-finished
-invariant-loop-finished l = Remains (model_of l.initial.state) (model_of l.state) l.lines
+abbrev pub invariant-loop-state : goal.invariant-loop-state
+invariant-loop-state l = Remains (model_of l.initial.state) (model_of l.state) l.lines
 
-abbrev pub decreases-loop-finished : goal.decreases-loop-finished
-decreases-loop-finished l = length (still (model_of l.state) [])
+abbrev pub decreases-loop-state : goal.decreases-loop-state
+decreases-loop-state l = length (still (model_of l.state) [])

@@ -1,9 +1,9 @@
--- `lines::start` meets its contract, by computation.
+-- `lines::start` meets its contract.
 -- Assumes nothing.
-use mathlib.Core.Path.{refl}
+use Rattle.std.proofs.Common.{refl}
 use Rattle.lines.specs.States.{model_of}
 use Rattle.lines.proofs.start.Goals as goal
 
 pub returns : goal.returns
 unfolding model_of
-returns c = refl
+returns c = rw (c.empty.ensures, c.none.ensures) refl

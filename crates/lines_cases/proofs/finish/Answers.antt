@@ -10,7 +10,7 @@ within : (c : After-finish-finished) → c.finish-finished.result.produced ≤ l
 within c =
     let e = c.finish-finished.ensures in
     let r = c.finish-finished.result in
-    let call : FinishCall (length c.loop-turns.output) (model_of c.loop-turns.state) (model_of r.state) r.produced r.answered =
+    let call : FinishCall (length c.loop.output) (model_of c.loop.state) (model_of r.state) r.produced r.answered =
     record { model = e.state; put = e.produced; counted = e.answered }
     in
     omega (arith, finish_within call, c.finish-finished.auto.output)
@@ -18,6 +18,6 @@ within c =
 pub slice_bounds-write_all-end : goal.slice_bounds-write_all-end
 slice_bounds-write_all-end c = within (goal.at.slice_bounds-write_all-end c).After-finish-finished
 
-pub slice_bounds-write_all-end-in-loop-turns : goal.slice_bounds-write_all-end-in-loop-turns
-slice_bounds-write_all-end-in-loop-turns c =
-    sym (length-take-le _ _ (within (goal.at.slice_bounds-write_all-end-in-loop-turns c).After-finish-finished))
+pub slice_bounds-write_all-end-in-loop : goal.slice_bounds-write_all-end-in-loop
+slice_bounds-write_all-end-in-loop c =
+    sym (length-take-le _ _ (within (goal.at.slice_bounds-write_all-end-in-loop c).After-finish-finished))
