@@ -75,8 +75,8 @@ pub(crate) fn shift_of(row: Row, s: u8) -> u8
     }
 }
 
-// 01: the choice used, the first whose w has weight middle, s before v. One exists, so the search ends before the loop does. For each s the word
-// of v = 1 is weighed. From v to v + 1 the symbol at v loses 1 mod q, and the excess with it: it gains q first where that symbol is 0.
+// 01: the choice used, the first whose w has weight middle, s before v. One exists, so the loop never ends by itself. For each s the
+// word of v = 1 is weighed. From v to v + 1 the symbol at v loses 1 mod q, and the excess with it: it gains q first where that symbol is 0.
 // In edition 18 v counts one more than 02's, which starts from 0; a complement is balanced where the word is.
 fn earliest(row: Row, d: &[u8; 97]) -> Choice
     requires { Valid row × SymbolArray row.q 97 d.now × Walked (parameters row) (take row.balanced d.now) }

@@ -21,6 +21,8 @@ fn progression(q: u16, first: u16, step: u16) -> Lanes
     r
 }
 
+// A call for each row: written into the loop over the rows, it would be worked on by lanes of several rows, which takes longer.
+#[inline(never)]
 fn raised_row(q: u16, y: u16, symbols: &Lanes) -> Lanes
     requires { (q ≤ 8) × (y ≤ q) × LanesBelow q symbols.now }
     ensures { LanesAre (λ t. 2 * ((y + get_or symbols.now t 0) % q)) result }

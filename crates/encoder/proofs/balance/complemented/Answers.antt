@@ -5,4 +5,6 @@ use Rattle.encoder.proofs.Changing.{changed_next}
 use Rattle.encoder.proofs.balance.complemented.Goals as goal
 
 pub overflow_sub-y-in-loop-y : goal.overflow_sub-y-in-loop-y
-overflow_sub-y-in-loop-y c = omega (arith, changed_next c.loop-y.invariant, c.requires.below c.loop-y.y-index, c.loop-y-test.true, c.loop-y.invariant.size, c.requires.size)
+overflow_sub-y-in-loop-y c =
+    let inv = c.loop-y.invariant in
+    omega (arith, changed_next inv, c.requires.below c.loop-y.y-index, c.loop-y-test.true, inv.size, c.requires.size)
