@@ -13,29 +13,21 @@ mod print;
 mod text;
 
 use decoder::{Changes, Decoded};
-use encoder::Encoded;
 use print::{
     FILL, STDOUT_FILENO, is_untouched, print_change, print_error, print_number, print_refusal,
     print_unopened, print_word,
 };
+use refusals::Refusal;
 use std::fs::File;
 use std::io::Read;
 use syndromes::Correction;
-use text::{field, parse_number, parse_symbols, smaller, until};
-
-// The operation that a file has cases of.
-#[derive(Clone, Copy)]
-enum Operation {
-    Encode,
-    Decode,
-    Convert,
-}
+use text::{field, parse_number, parse_symbols};
 
 // The word in an output, or the refusal.
-fn print_encoded(answer: Encoded, out: &[u8]) {
+fn print_encoded(answer: Result<(), Refusal>, out: &[u8]) {
     match answer {
-        Encoded::Done => print_word(out),
-        Encoded::Refused(number) => print_refusal(number, is_untouched(out)),
+        Ok(()) => print_word(out),
+        Err(refusal) => print_refusal(refusal, is_untouched(out)),
     }
 }
 
@@ -85,15 +77,22 @@ fn print_filled(changes: Changes) {
     print_error(0);
 }
 
-fn print_unread(number: u8, first: &[u8], second: &[u8]) {
-    print_refusal(number, is_untouched(first) && is_untouched(second));
+// What a word was read as.
+fn print_decoded(decoded: Decoded) {
+    match decoded {
+        Decoded::Clean => {
+            io::write_all(STDOUT_FILENO, b"C 0 0 0");
+        }
+        Decoded::Corrected(c) => print_corrected(c),
+        Decoded::Filled(changes) => print_filled(changes),
+    }
 }
 
-// The count is left out where an output was changed.
-fn print_unreadable(tried: usize, first: &[u8], second: &[u8]) {
+// An unreadable word has a count, which is left out where an output was changed.
+fn print_unread(refusal: Refusal, tried: usize, first: &[u8], second: &[u8]) {
     let is_kept = is_untouched(first) && is_untouched(second);
-    print_refusal(4, is_kept);
-    if is_kept {
+    print_refusal(refusal, is_kept);
+    if is_kept && refusal == Refusal::Unreadable {
         print_number(tried);
     }
 }
@@ -106,89 +105,58 @@ fn decode_and_print(
     first: &mut [u8],
     second: &mut [u8],
 ) {
-    let answer = decoder::decode(edition, profile, word, first, second);
-    match answer {
-        Decoded::Clean => {
-            io::write_all(STDOUT_FILENO, b"C 0 0 0");
-            print_read(first, second, 0);
+    let decoding = decoder::decode(edition, profile, word, first, second);
+    match decoding.answer {
+        Ok(decoded) => {
+            print_decoded(decoded);
+            print_read(first, second, decoding.tried);
         }
-        Decoded::Corrected(c) => {
-            print_corrected(c);
-            print_read(first, second, c.tried);
-        }
-        Decoded::Filled(changes) => {
-            print_filled(changes);
-            print_read(first, second, 0);
-        }
-        Decoded::Unreadable(tried) => print_unreadable(tried, first, second),
-        Decoded::Refused(number) => print_unread(number, first, second),
+        Err(refusal) => print_unread(refusal, decoding.tried, first, second),
     }
 }
 
 fn answer_pair(line: &[u8]) {
     let mut first = [0u8; 64];
-    let a = smaller(parse_symbols(field(line, 3), &mut first), 64);
+    let first = parse_symbols(field(line, 3), &mut first);
     let mut second = [0u8; 64];
-    let b = smaller(parse_symbols(field(line, 4), &mut second), 64);
+    let second = parse_symbols(field(line, 4), &mut second);
     let mut out = [FILL; 128];
-    let n = smaller(parse_number(field(line, 5)), 128);
+    let n = parse_number(field(line, 5)).min(128);
     let edition = parse_number(field(line, 0));
     let profile = parse_number(field(line, 1));
     let rule = parse_number(field(line, 2));
-    encode_and_print(
-        edition,
-        profile,
-        rule,
-        &first[..a],
-        &second[..b],
-        &mut out[..n],
-    );
+    encode_and_print(edition, profile, rule, first, second, &mut out[..n]);
 }
 
 fn answer_word(line: &[u8]) {
     let mut word = [0u8; 128];
-    let n = smaller(parse_symbols(field(line, 2), &mut word), 128);
+    let word = parse_symbols(field(line, 2), &mut word);
     let mut first = [FILL; 64];
-    let k = smaller(parse_number(field(line, 3)), 64);
+    let k = parse_number(field(line, 3)).min(64);
     let mut second = [FILL; 64];
-    let l = smaller(parse_number(field(line, 4)), 64);
+    let l = parse_number(field(line, 4)).min(64);
     let edition = parse_number(field(line, 0));
     let profile = parse_number(field(line, 1));
-    decode_and_print(
-        edition,
-        profile,
-        &word[..n],
-        &mut first[..k],
-        &mut second[..l],
-    );
+    decode_and_print(edition, profile, word, &mut first[..k], &mut second[..l]);
 }
 
 fn answer_conversion(line: &[u8]) {
     let mut word = [0u8; 128];
-    let n = smaller(parse_symbols(field(line, 2), &mut word), 128);
+    let word = parse_symbols(field(line, 2), &mut word);
     let mut out = [FILL; 128];
-    let l = smaller(parse_number(field(line, 3)), 128);
+    let l = parse_number(field(line, 3)).min(128);
     let edition = parse_number(field(line, 0));
     let profile = parse_number(field(line, 1));
-    convert_and_print(edition, profile, &word[..n], &mut out[..l]);
-}
-
-fn answer(line: &[u8], operation: Operation) {
-    match operation {
-        Operation::Encode => answer_pair(line),
-        Operation::Decode => answer_word(line),
-        Operation::Convert => answer_conversion(line),
-    }
-    io::write_all(STDOUT_FILENO, b"\n");
+    convert_and_print(edition, profile, word, &mut out[..l]);
 }
 
 // Answers each line of a file.
-fn answer_all(input: &[u8], operation: Operation) {
-    let mut from = 0;
-    while from < input.len() {
-        let end = until(input, from, b'\n');
-        answer(&input[from..end], operation);
-        from = end + 1;
+fn answer_all<F: Fn(&[u8])>(input: &[u8], answer: F)
+    requires { F.IsAlwaysCallable answer }
+{
+    for line in input.split_inclusive(|b| *b == b'\n') {
+        answer(line.strip_suffix(b"\n").unwrap_or(line));
+        io::write_all(STDOUT_FILENO, b"\n");
     }
 }
 
@@ -198,10 +166,7 @@ fn read_full<R: Read>(file: &mut R, input: &mut [u8]) -> usize
 {
     let mut done = 0;
     while done < input.len() {
-        let n = match file.read(&mut input[done..]) {
-            Ok(n) => n,
-            Err(_) => 0,
-        };
+        let n = file.read(&mut input[done..]).unwrap_or(0);
         if n == 0 {
             break;
         }
@@ -211,28 +176,33 @@ fn read_full<R: Read>(file: &mut R, input: &mut [u8]) -> usize
 }
 
 // Answers as much of a file as the buffer holds.
-fn run_within<R: Read>(file: &mut R, input: &mut [u8], operation: Operation) {
+fn run_within<R: Read, F: Fn(&[u8])>(file: &mut R, input: &mut [u8], answer: F)
+    requires { F.IsAlwaysCallable answer }
+{
     let n = read_full(file, input);
-    answer_all(&input[..n], operation);
+    answer_all(&input[..n], answer);
 }
 
-// Answers a file of at most 2 MB; what is longer is cut off.
-fn run<R: Read>(file: &mut R, operation: Operation) {
+// Answers a file of at most 2 MB, line by line; what is longer is cut off.
+fn run<R: Read, F: Fn(&[u8])>(file: &mut R, answer: F)
+    requires { F.IsAlwaysCallable answer }
+{
     let mut input = [0u8; 2097152];
-    run_within(file, &mut input, operation);
+    run_within(file, &mut input, answer);
 }
 
 // Answers the file of that name. One that can't be opened is named on standard error.
-fn run_file(rt: &HostRuntime, name: &str, operation: Operation) {
+fn run_file<F: Fn(&[u8])>(rt: &HostRuntime, name: &str, answer: F)
+    requires { F.IsAlwaysCallable answer }
+{
     match File::open(rt, name) {
-        Ok(mut file) => run(&mut file, operation),
+        Ok(mut file) => run(&mut file, answer),
         Err(_) => print_unopened(name),
     }
 }
 
 fn main(rt: HostRuntime) {
-    let mut pairs = rt.stdin();
-    run(&mut pairs, Operation::Encode);
-    run_file(&rt, "words", Operation::Decode);
-    run_file(&rt, "conversions", Operation::Convert);
+    run(&mut rt.stdin(), answer_pair);
+    run_file(&rt, "words", answer_word);
+    run_file(&rt, "conversions", answer_conversion);
 }

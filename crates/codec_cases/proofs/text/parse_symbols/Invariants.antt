@@ -1,12 +1,7 @@
--- `codec_cases::text::parse_symbols` is safe and ends. The invariant: the output keeps its length. The measure is what is left.
+-- `codec_cases::text::parse_symbols` is safe. The invariant: the count is that of the symbols so far.
 -- Assumes nothing.
-use mathlib.Core.Path.{◌≡◌}
-use Prim.Native.Nat.{◌-◌}
-use lib.ListN.{length}
+use Rattle.std.proofs.Common.{◌≤◌, length}
 use Rattle.codec_cases.proofs.text.parse_symbols.Given as goal
 
-abbrev pub invariant-loop-i : goal.invariant-loop-i
-invariant-loop-i l = length l.out ≡ length l.initial.out
-
-abbrev pub decreases-loop-i : goal.decreases-loop-i
-decreases-loop-i l = length l.s - l.i
+abbrev pub invariant-loop-y : goal.invariant-loop-y
+invariant-loop-y l = (goal.iterator-loop-y).can_next l.y-iterator × (l.n ≤ length l.yielded)
