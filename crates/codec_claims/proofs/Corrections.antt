@@ -31,7 +31,7 @@ use Rattle.decoding_theory.proofs.TriedPositions.{corrected_tried}
 use Rattle.locating_theory.specs.ErrorPosition.{at, error_position}
 use Rattle.locating_theory.proofs.Corrected.{position_of_corrected}
 use Rattle.profiles.proofs.Refusing.{three_lengths}
-use Rattle.decoder.specs.declared.word.Decoded.{Decoded}
+use Rattle.decoder.specs.declared.word.Decoding.{Decoding}
 use Rattle.decoder.specs.Decode.{decoded_report, DecodeAllows}
 use Rattle.codec_claims.specs.Decoding.{tried_to, DecodeErrors}
 
@@ -93,7 +93,7 @@ decode_told o i v k l = go (first_refusal (decode_tests o i v k l)) refl
     go (suc n) e = tt
 
 -- of whatever decode's contract allows
-pub correction_told : (o i : ℕ) (v : List ℕ) (r : Decoded) (first first' second second' : List ℕ)
+pub correction_told : (o i : ℕ) (v : List ℕ) (r : Decoding) (first first' second second' : List ℕ)
     → DecodeAllows o i v r first first' second second' → (c : Correction) (t : ℕ) → decoded_report r ≡ success (corrected c) t
     → ErrorTold (profile_in o i).q v c × (t ≡ tried_to (profile_in o i) c.position) × PositionTold (profile_in o i) v c
 correction_told o i v r first first' second second' h c t e =

@@ -35,7 +35,7 @@ use Rattle.profiles.proofs.Refusing.{three_lengths}
 use Rattle.decoding_theory.proofs.Tests.{and_three}
 use Rattle.decoding_theory.proofs.Changed.{summed}
 use Rattle.decoding_theory.proofs.TriedPositions.{corrected_tried}
-use Rattle.decoder.specs.declared.word.Decoded.{Decoded}
+use Rattle.decoder.specs.declared.word.Decoding.{Decoding}
 use Rattle.decoder.specs.Decode.{decoded_report, Answers}
 use Rattle.codec_claims.specs.Decoding.{decode_lengths_fit, decoded_number, Allowed, Carried}
 use Rattle.codec_claims.specs.Decoding.{DecodesAsSent, LetThrough, OnlyLetThrough, ManyErasures, DecodeRefuses}
@@ -57,7 +57,7 @@ module _ (o i : ℕ) (edition : T (is_edition o)) (t : T (is_profile i)) where
 
   -- the contract speaks of the reading and of the count
   pub admitted : (v : List ℕ) → length v ≡ codeword_length p → T (is_received p v) → erasures v ≤ 2
-      → {r : Decoded} {first second : List ℕ} → (a : Allowed o i v r first second)
+      → {r : Decoding} {first second : List ℕ} → (a : Allowed o i v r first second)
       → Answers (answered (received_reading p v) (tried_positions p v)) r
       a.before_first first a.before_second second
   unfolding decode_answer
@@ -83,7 +83,7 @@ module _ (o i : ℕ) (edition : T (is_edition o)) (t : T (is_profile i)) where
   whole v w = none_erased p.q small v (levels v w)
 
   -- and of a word of levels the contract speaks of 01's
-  let_through : (v : List ℕ) → T (is_word p.q (codeword_length p) v) → {r : Decoded} {first second : List ℕ}
+  let_through : (v : List ℕ) → T (is_word p.q (codeword_length p) v) → {r : Decoding} {first second : List ℕ}
       → (a : Allowed o i v r first second)
       → Answers (answered (reading p v) (tried_positions p v)) r a.before_first first a.before_second second
   let_through v w {r} {first} {second} a =
@@ -94,7 +94,7 @@ module _ (o i : ℕ) (edition : T (is_edition o)) (t : T (is_profile i)) where
       (admitted v (word_length p.q (codeword_length p) v w) (levels_received p.q v below) (omega arith) a)
 
   -- where the reading gives the pair of u, and t positions are tried, so the answer says
-  pub answered_by : (u : List ℕ) {d : Reading} {f : Finding} {n t : ℕ} {r : Decoded} {bf first bs second : List ℕ}
+  pub answered_by : (u : List ℕ) {d : Reading} {f : Finding} {n t : ℕ} {r : Decoding} {bf first bs second : List ℕ}
       → d ≡ read_as p f u → n ≡ t → Answers (answered d n) r bf first bs second
       → (decoded_report r ≡ success f t) × Carried o i u first second
   answered_by u {d} {f} {n} {t} {r} {bf} {first} {bs} {second} e g a =

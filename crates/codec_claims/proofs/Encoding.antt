@@ -5,6 +5,7 @@ use mathlib.Core.List.{List, [], ◌∷◌}
 use Prim.Native.Nat.{ℕ, suc}
 use native.Mathlib.Omega.{arith}
 use lib.Dec.{T}
+use Rattle.std.specs.Prelude.{Result}
 use lib.ListN.{length}
 use Rattle.code_theory.specs.Parameters.{is_edition, Parameters, Sized}
 use Rattle.code_theory.specs.Codeword.{interleaved}
@@ -19,12 +20,12 @@ use Rattle.code_theory.proofs.Encoded.{encoded_carries}
 use Rattle.code_theory.proofs.Profiles.{profiles_fit}
 use Rattle.code_theory.proofs.Refusal.{past, stops}
 use Rattle.profiles.proofs.Refusing.{Accepted, accepted_by}
-use Rattle.encoder.specs.declared.Encoded.{Encoded}
+use Rattle.refusals.specs.declared.Refusal.{Refusal}
 use Rattle.encoder.specs.Answer.{EncodeAllows}
 use Rattle.codec_claims.specs.Encoding.{encode_lengths_fit, levels_fit, Takes, WordOf, EncodeWrites, RefusedBy, EncodeRefuses}
 use Rattle.encoder.proofs.Refusing.{output_kept, output_done}
 
-module _ {o i l : ℕ} {a b : List ℕ} {r : Encoded} {out out' : List ℕ} (h : EncodeAllows o i l a b r out out') where
+module _ {o i l : ℕ} {a b : List ℕ} {r : Result (Unit {0}) Refusal} {out out' : List ℕ} (h : EncodeAllows o i l a b r out out') where
   -- the number k + 1 refuses the call
   refused_by_lem : (k : ℕ) → suc k ≡ encode_refusal o i l a b (length out) → RefusedBy (suc k) r out out'
   refused_by_lem k e = (h.answer ∙ ap outcome (sym e), h.output ∙ sym (output_kept o i l a b out e (λ z. omega arith)))

@@ -24,7 +24,7 @@ use Rattle.code_theory.proofs.Whole.{levels_received, erased_received}
 use Rattle.code_theory.proofs.Reading.{codeword_word}
 use Rattle.code_theory.proofs.Erased.{erasures_filled, erased_by_filling}
 use Rattle.code_theory.proofs.TriedPositions.{counts_told}
-use Rattle.decoder.specs.declared.word.Decoded.{Decoded}
+use Rattle.decoder.specs.declared.word.Decoding.{Decoding}
 use Rattle.decoder.specs.Decode.{Answers}
 use Rattle.codec_claims.specs.Decoding.{Allowed}
 use Rattle.codec_claims.specs.Filling.{WithErasures, FillsErasures}
@@ -41,7 +41,7 @@ module _ (o i : ℕ) (edition : T (is_edition o)) (t : T (is_profile i)) where
   law = erasures_filled p sized (small o i edition t) 2 (apart p sized (profiles_fit.0 o i t).1)
 
   -- the contract speaks of the rule's reading
-  filled_by : (v : List ℕ) → WithErasures o i v → {r : Decoded} {first second : List ℕ} → (a : Allowed o i v r first second)
+  filled_by : (v : List ℕ) → WithErasures o i v → {r : Decoding} {first second : List ℕ} → (a : Allowed o i v r first second)
       → Answers (answered (filled_reading p v) (tried_positions p v)) r a.before_first first a.before_second second
   filled_by v m {r} {first} {second} a =
       subst (λ (d : Reading). Answers (answered d (tried_positions p v)) r a.before_first first a.before_second second)

@@ -1,32 +1,20 @@
 -- Decoding by the syndromes agrees with decoding, since both contracts go by one answer; and what its contract allows decode's allows,
--- since the count of a clean or filled word is 0. So what holds of decode holds of it; and the step's position is the one that decode
--- corrects.
+-- with the count of that answer. So what holds of decode holds of it; and the step's position is the one that decode corrects.
 -- Assumes nothing.
 use mathlib.Core.Path.{◌≡◌, refl, sym, ap, ap₂, ◌∙◌}
 use mathlib.Core.List.{List}
-use Prim.Native.Nat.{ℕ, zero, suc}
-use native.Mathlib.Nat.{pos_of_ne-zero}
-use lib.Dec.{eqb, ltb}
+use Prim.Native.Nat.{ℕ}
 use lib.ListN.{length}
-use borrow.Author.Tests.{eqb-false}
-use Rattle.modular_theory.proofs.Search.{holds}
-use Rattle.code_theory.specs.Parameters.{Parameters}
-use Rattle.code_theory.specs.Codeword.{codeword}
-use Rattle.code_theory.specs.Erasures.{erasures}
-use Rattle.code_theory.specs.Reading.{clean, corrected, filled, Reading, read, unreadable, changed_at, near_reading, reading, received_reading}
-use Rattle.code_theory.specs.TriedPositions.{tried_positions}
+use Rattle.std.specs.Prelude.{Result, Ok, Err}
+use Rattle.refusals.specs.declared.Refusal.{Refusal}
+use Rattle.refusals.specs.declared.Refusal.TheVariants.{Profile, Length, Symbol, Unreadable, SheetLength, Unsound, BoxNumber, Full, Form, NoRecord, Erasures, Edition, NotClean, LineRule}
 use Rattle.code_theory.specs.Profiles.{profile_in}
-use Rattle.code_theory.specs.Refusal.{first_refusal}
-use Rattle.code_theory.specs.Operations.{answered, read_unless, decode_tests, decode_answer}
+use Rattle.code_theory.specs.Operations.{decode_answer}
 use Rattle.code_theory.specs.Operations.{Report, refusal, failure, success, report, report_number, report_tried}
-use Rattle.code_theory.proofs.Merge.{cases}
-use Rattle.code_theory.proofs.TriedPositions.{balanced_of, counts_told}
 use Rattle.locating_theory.specs.ErrorPosition.{error_position}
 use Rattle.decoder.specs.declared.word.Decoded.{Decoded}
-use Rattle.decoder.specs.declared.word.Decoded.TheVariants as counting
-use Rattle.decoder.specs.declared.syndrome.SyndromeDecoded.{SyndromeDecoded}
-use Rattle.decoder.specs.declared.syndrome.SyndromeDecoded.TheVariants.{Clean, Corrected, Filled, Unreadable, Refused}
-use Rattle.decoder.specs.Decode.{decoded_report}
+use Rattle.decoder.specs.declared.word.Decoded.TheVariants.{Clean, Corrected, Filled}
+use Rattle.decoder.specs.Decode.{report_of, decoded_report}
 use Rattle.decoder.specs.SyndromeDecode.{uncounted, syndrome_report}
 use Rattle.codec_claims.specs.Decoding.{Allowed}
 use Rattle.codec_claims.specs.SyndromeDecoding.{DecodersAgree, Counted, DecodeAllowsSo, SyndromeAllowed, syndrome_number}
@@ -43,82 +31,47 @@ decoders_agree e i v f s r first second h d first' second' k =
       second_same = h.second_out ∙ sym k.second_out;
     }
 
--- an answer with the count t, where it has one
-abbrev with_count : ℕ → SyndromeDecoded → Decoded
-with_count t Clean = counting.Clean
-with_count t (Corrected c) =
-    counting.Corrected (record { position = c.position; symbol = c.symbol; error = c.error; tried = t })
-with_count t (Filled cs) = counting.Filled cs
-with_count t Unreadable = counting.Unreadable t
-with_count t (Refused k) = counting.Refused k
-
+-- a report with the count t, where it has one
 abbrev recounted : ℕ → Report → Report
 recounted t (refusal k) = refusal k
 recounted t (failure n) = failure t
-recounted t (success clean n) = success clean 0
-recounted t (success (corrected c) n) = success (corrected c) t
-recounted t (success (filled cs) n) = success (filled cs) 0
+recounted t (success f n) = success f t
 
-with_count_lem : (t : ℕ) (r : SyndromeDecoded) → decoded_report (with_count t r) ≡ recounted t (syndrome_report r)
-with_count_lem t Clean = refl
-with_count_lem t (Corrected c) = refl
-with_count_lem t (Filled cs) = refl
-with_count_lem t Unreadable = refl
-with_count_lem t (Refused k) = refl
+-- an answer with the count t
+report_counted : (t : ℕ) (r : Result Decoded Refusal) → report_of t r ≡ recounted t (syndrome_report r)
+report_counted t (Ok Clean) = refl
+report_counted t (Ok (Corrected c)) = refl
+report_counted t (Ok (Filled cs)) = refl
+report_counted t (Err Profile) = refl
+report_counted t (Err Length) = refl
+report_counted t (Err Symbol) = refl
+report_counted t (Err Unreadable) = refl
+report_counted t (Err SheetLength) = refl
+report_counted t (Err Unsound) = refl
+report_counted t (Err BoxNumber) = refl
+report_counted t (Err Full) = refl
+report_counted t (Err Form) = refl
+report_counted t (Err NoRecord) = refl
+report_counted t (Err Erasures) = refl
+report_counted t (Err Edition) = refl
+report_counted t (Err NotClean) = refl
+report_counted t (Err LineRule) = refl
 
-recounted_same : (t : ℕ) (a : Report) → recounted t (uncounted a) ≡ recounted t a
-recounted_same t (refusal k) = refl
-recounted_same t (failure n) = refl
-recounted_same t (success clean n) = refl
-recounted_same t (success (corrected c) n) = refl
-recounted_same t (success (filled cs) n) = refl
-
--- a report has its own count, where that of a word that is not searched is 0
-abbrev OwnCount : Report → Type 0
-OwnCount a = recounted (report_tried a) a ≡ a
-
-none_counted : (d : Reading) (t : ℕ) → t ≡ 0 → OwnCount (report (answered d t))
-none_counted unreadable t e = refl
-none_counted (read clean x y) t e = ap (success clean) (sym e)
-none_counted (read (corrected c) x y) t e = refl
-none_counted (read (filled cs) x y) t e = ap (success (filled cs)) (sym e)
-
-near_counted : (p : Parameters) (v : List ℕ) (t : ℕ) → OwnCount (report (answered (near_reading p v) t))
-unfolding near_reading
-near_counted p v t = cases (ltb (changed_at p v) (length v)) (λ e. rw (e, near_reading)) (λ e. rw (e, near_reading))
-
-read_counted : (p : Parameters) (v : List ℕ) → OwnCount (report (answered (reading p v) (tried_positions p v)))
-unfolding reading
-read_counted p v =
-    cases (codeword p v)
-    (λ e. none_counted (reading p v) (tried_positions p v) ((counts_told p v).if_balanced (balanced_of p v (holds _ e))))
-    (λ e. rw (e, reading) (near_counted p v (tried_positions p v)))
-
-received_counted : (p : Parameters) (v : List ℕ) → OwnCount (report (answered (received_reading p v) (tried_positions p v)))
-unfolding received_reading
-received_counted p v =
-    cases (eqb (erasures v) 0) (λ e. rw (e, received_reading) (read_counted p v))
-    (λ e.
-    none_counted (received_reading p v) (tried_positions p v) ((counts_told p v).if_erased (pos_of_ne-zero (eqb-false _ _ e))))
-
-answer_counted : (e i : ℕ) (v : List ℕ) (k l : ℕ) → OwnCount (report (decode_answer e i v k l))
-unfolding decode_answer
-answer_counted e i v k l = go (first_refusal (decode_tests e i v k l))
-  where
-    go : (n : ℕ) → OwnCount (report (read_unless n (received_reading (profile_in e i) v) (tried_positions (profile_in e i) v)))
-    go zero = received_counted (profile_in e i) v
-    go (suc n) = refl
+-- a report has its own count, whatever was left of it
+own_count : (a : Report) → recounted (report_tried a) (uncounted a) ≡ a
+own_count (refusal k) = refl
+own_count (failure n) = refl
+own_count (success f n) = refl
 
 pub decode_allows_so : DecodeAllowsSo
 decode_allows_so e i v f s r first second h =
     let a : Report = report (decode_answer e i v (length f) (length s)) in
     let t : ℕ = report_tried a in
-    let is : decoded_report (with_count t r) ≡ a =
-    with_count_lem t r ∙ ap (recounted t) h.answer ∙ recounted_same t a ∙ answer_counted e i v (length f) (length s) in
+    let is : report_of t r ≡ a = report_counted t r ∙ ap (recounted t) h.answer ∙ own_count a in
     record {
-      decoded = with_count t r;
+      decoded = record { answer = r; tried = t };
       report = h.answer ∙ ap uncounted (sym is);
-      allowed = record { answer = is; first_out = h.first_out; second_out = h.second_out };
+      allowed = record { answer = is; tried = refl; first_out = h.first_out; second_out = h.second_out };
     }
 
 -- What holds of decode.
@@ -128,7 +81,7 @@ number_kept (refusal k) = refl
 number_kept (failure t) = refl
 number_kept (success f t) = refl
 
-module _ (e i : ℕ) {v : List ℕ} {r : SyndromeDecoded} {first second : List ℕ} (a : SyndromeAllowed e i v r first second) where
+module _ (e i : ℕ) {v : List ℕ} {r : Result Decoded Refusal} {first second : List ℕ} (a : SyndromeAllowed e i v r first second) where
   so : Counted e i v a.before_first a.before_second r first second
   so = decode_allows_so e i v a.before_first a.before_second r first second a.allowed
 
