@@ -9,6 +9,7 @@ use Prim.Native.Nat.{ℕ}
 use native.Mathlib.Omega.{arith}
 use lib.Dec.{T, eqb}
 use lib.ListN.{length}
+use Rattle.std.specs.Prelude.{Result}
 use Rattle.modular_theory.proofs.Search.{and_right}
 use Rattle.code_theory.specs.Parameters.{is_edition, Parameters, Sized, codeword_length}
 use Rattle.code_theory.specs.Component.{symbols_below, is_word}
@@ -22,7 +23,7 @@ use Rattle.code_theory.proofs.Whole.{levels_received}
 use Rattle.code_theory.proofs.LineRule.{rule_one}
 use Rattle.code_theory.proofs.Reading.{codeword_word}
 use Rattle.profiles.proofs.Refusing.{accepted_by}
-use Rattle.encoder.specs.declared.Encoded.{Encoded}
+use Rattle.refusals.specs.declared.Refusal.{Refusal}
 use Rattle.encoder.specs.Answer.{encoded_outcome}
 use Rattle.decoder.specs.Decode.{decoded_report}
 use Rattle.codec_claims.specs.Encoding.{WordOf}
@@ -60,7 +61,7 @@ module _ (e i : ℕ) (edition : T (is_edition e)) (known : T (is_profile i)) (u 
       }
 
 -- what a call that no number refuses writes
-written : (e i : ℕ) (u : List ℕ) {r : Encoded} {out out' : List ℕ} → Answered e i u r out out' → convert_refusal e i u (length out) ≡ 0
+written : (e i : ℕ) (u : List ℕ) {r : Result (Unit {0}) Refusal} {out out' : List ℕ} → Answered e i u r out out' → convert_refusal e i u (length out) ≡ 0
     → (encoded_outcome r ≡ done) × (out' ≡ converted e i u)
 written e i u {r} {out} a none =
     (a.allowed.answer ∙ ap outcome none, a.allowed.output ∙ sym (output_done e i u out (sym none)))

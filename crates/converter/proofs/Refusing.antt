@@ -8,6 +8,7 @@ use Prim.Native.Nat.{ℕ, ◌≤◌}
 use native.Mathlib.Omega.{arith}
 use lib.Dec.{T, eqb, leb, le→leb, leb→le, eqb→eq}
 use lib.ListN.{length}
+use Rattle.std.specs.Prelude.{Result}
 use borrow.Author.Tests.{lt-leb}
 use Rattle.modular_theory.specs.Residue.{Prime}
 use Rattle.modular_theory.proofs.Search.{and_left, and_right, and_intro, eq_test, fails}
@@ -22,7 +23,7 @@ use Rattle.code_theory.specs.Operations.{done, outcome_number}
 use Rattle.code_theory.proofs.Merge.{cases}
 use Rattle.code_theory.proofs.Profiles.{profiles_fit, few_levels}
 use Rattle.code_theory.proofs.Refusal.{AllPass, passed_every, past, stops, kept, wrote}
-use Rattle.encoder.specs.declared.Encoded.{Encoded}
+use Rattle.refusals.specs.declared.Refusal.{Refusal}
 use Rattle.encoder.specs.Answer.{encoded_outcome}
 use Rattle.encoder.proofs.Refusing.{number_back, refused_outcome}
 use Rattle.codec_claims.specs.Encoding.{RefusedBy}
@@ -179,7 +180,7 @@ module _ (e i : ℕ) (u : List ℕ) (l : ℕ) where
         by_reading ∙ stops (readable ∷ []) clean [] (reads, tt) (clean_is ∙ other)
 
 -- of whatever convert's contract allows
-module _ {e i : ℕ} {u : List ℕ} {r : Encoded} {out out' : List ℕ} (h : ConvertAllows e i u r out out') where
+module _ {e i : ℕ} {u : List ℕ} {r : Result (Unit {0}) Refusal} {out out' : List ℕ} (h : ConvertAllows e i u r out out') where
   -- the number k refuses the call
   pub refused_by_lem : {k : ℕ} → convert_refusal e i u (length out) ≡ k → k ≢ 0 → RefusedBy k r out out'
   refused_by_lem {k} n some = (h.answer ∙ sym (refused_outcome (sym n) some), h.output ∙ sym (output_kept e i u out (sym n) some))

@@ -6,9 +6,9 @@ use mathlib.Core.Logic.{◌≢◌, ⊎_elim}
 use mathlib.Core.Bool.{Bool, true, false, ◌&&◌}
 use mathlib.Core.List.{List, [], ◌∷◌}
 use Prim.Native.Nat.{ℕ}
-use native.Mathlib.Omega.{arith}
 use lib.Dec.{T, eqb, leb, eqb→eq}
 use lib.ListN.{length}
+use Rattle.std.specs.Prelude.{Result, Err}
 use Rattle.modular_theory.proofs.Search.{and_left, and_right, and_intro, eq_test, fails}
 use Rattle.code_theory.specs.Parameters.{is_edition, Parameters, message_length, codeword_length}
 use Rattle.code_theory.specs.Component.{symbols_below, is_word, is_received}
@@ -22,11 +22,13 @@ use Rattle.code_theory.specs.Operations.{done, outcome, read_unless, decode_answ
 use Rattle.code_theory.proofs.Profiles.{edition_numbers, profiles_fit}
 use Rattle.code_theory.proofs.Carried.{carried_messages}
 use Rattle.code_theory.proofs.LineRule.{balanced_by_one}
-use Rattle.encoder.specs.declared.Encoded.{Encoded}
-use Rattle.encoder.specs.declared.Encoded.TheVariants.{Refused}
+use Rattle.refusals.specs.declared.Refusal.{Refusal}
+use Rattle.refusals.specs.declared.Refusal.TheVariants.{Length, Profile, Edition}
+use Rattle.refusals.specs.Number.{number_of}
+use Rattle.refusals.proofs.Claims.{none_is_success}
 use Rattle.encoder.specs.Answer.{encoded_outcome, EncodeAllows}
 use Rattle.encoder.proofs.Refusing.{refused_outcome}
-use Rattle.decoder.specs.declared.word.Decoded.{Decoded}
+use Rattle.decoder.specs.declared.word.Decoding.{Decoding}
 use Rattle.decoder.specs.Decode.{decoded_report, DecodeAllows}
 use Rattle.codec_claims.specs.Encoding.{encode_lengths_fit, levels_fit}
 use Rattle.codec_claims.specs.Decoding.{Carried}
@@ -72,7 +74,7 @@ lengths a false c d x y z = absurd x
 lengths a true false d x y z = absurd y
 lengths a true true false x y z = absurd z
 
-module _ (e i : ℕ) (u : List ℕ) {d : Decoded} {first first' second second' : List ℕ} (l : ℕ)
+module _ (e i : ℕ) (u : List ℕ) {d : Decoding} {first first' second second' : List ℕ} (l : ℕ)
     (answer : DecodeAllows e i u d first first' second second') (first_long : length first ≡ message_length (profile_in e i))
     (second_long : length second ≡ message_length (profile_in e i)) (out_long : l ≡ codeword_length (profile_in e i)) where
   abbrev p : Parameters
@@ -135,7 +137,7 @@ module _ (e i : ℕ) (known : T (is_profile i)) (u : List ℕ) (long : length u 
       (below false)
 
 -- what encoding may make of the pair in the other edition is the word
-pub encode_converts : (e i : ℕ) (u : List ℕ) {l : ℕ} → PassedOn e i u l → {r : Encoded} {out out' : List ℕ}
+pub encode_converts : (e i : ℕ) (u : List ℕ) {l : ℕ} → PassedOn e i u l → {r : Result (Unit {0}) Refusal} {out out' : List ℕ}
     → length out ≡ codeword_length (profile_in e i)
     → EncodeAllows (other_edition e) i 1 (carried (profile_in e i) true u) (carried (profile_in e i) false u) r out out'
     → (encoded_outcome r ≡ done) × (out' ≡ converted e i u)
@@ -151,35 +153,36 @@ encode_converts e i u passed {r} {out} {out'} room made =
 -- The answers of `convert` before a word is read.
 
 module _ (e i : ℕ) (u out : List ℕ) where
-  -- any number that refuses
-  refuses_by : {k : ℕ} → convert_refusal e i u (length out) ≡ k → k ≢ 0 → ConvertAllows e i u (Refused k) out out
-  refuses_by {k} n some = record { answer = refused_outcome (sym n) some; output = output_kept e i u out (sym n) some }
+  -- any refusal
+  refuses_by : (r : Refusal) → convert_refusal e i u (length out) ≡ number_of r → ConvertAllows e i u (Err r) out out
+  refuses_by r n =
+      record { answer = refused_outcome (sym n) (none_is_success r); output = output_kept e i u out (sym n) (none_is_success r) }
 
-  pub no_edition_lem : is_edition e ≡ false → ConvertAllows e i u (Refused 12) out out
-  no_edition_lem h = refuses_by (is_12 e i u (length out) h) (λ z. omega arith)
+  pub no_edition_lem : is_edition e ≡ false → ConvertAllows e i u (Err Edition) out out
+  no_edition_lem h = refuses_by Edition (is_12 e i u (length out) h)
 
-  pub no_profile : T (is_edition e) → is_profile i ≡ false → ConvertAllows e i u (Refused 1) out out
-  no_profile edition h = refuses_by (is_1 e i u (length out) edition h) (λ z. omega arith)
+  pub no_profile : T (is_edition e) → is_profile i ≡ false → ConvertAllows e i u (Err Profile) out out
+  no_profile edition h = refuses_by Profile (is_1 e i u (length out) edition h)
 
   pub other_length : T (is_edition e) → T (is_profile i) → length out ≢ codeword_length (profile_in e i)
-      → ConvertAllows e i u (Refused 2) out out
+      → ConvertAllows e i u (Err Length) out out
   other_length edition known h =
       let n : ℕ = codeword_length (profile_in e i) in
       let wrong = fails (λ t. h (eqb→eq (length out) n (and_right (eqb (length u) n) (eqb (length out) n) t))) in
-      refuses_by (is_2 e i u (length out) edition known wrong) (λ z. omega arith)
+      refuses_by Length (is_2 e i u (length out) edition known wrong)
 
 -- The answers of `rewrite`, which is handed buffers with room.
-module _ (e i : ℕ) (u : List ℕ) {d : Decoded} {first first' second second' : List ℕ} (out : List ℕ)
+module _ (e i : ℕ) (u : List ℕ) {d : Decoding} {first first' second second' : List ℕ} (out : List ℕ)
     (answer : DecodeAllows e i u d first first' second second') (room : Room e i (length first) (length second) (length out)) where
   number : doubt (decoded_report d) ≡ convert_refusal e i u (length out)
   number = number_is e i u (length out) answer room.first_long room.second_long room.out_long
 
   -- a word that is not clean
-  pub refuses : {k : ℕ} → k ≡ doubt (decoded_report d) → k ≢ 0 → ConvertAllows e i u (Refused k) out out
-  refuses is some = refuses_by e i u out (sym (is ∙ number)) some
+  pub refuses : {r : Refusal} → number_of r ≡ doubt (decoded_report d) → ConvertAllows e i u (Err r) out out
+  refuses {r} is = refuses_by e i u out r (sym (is ∙ number))
 
   -- a clean one
-  pub writes : doubt (decoded_report d) ≡ 0 → {r : Encoded} {out' : List ℕ} → EncodeAllows (other_edition e) i 1 first' second' r out out'
+  pub writes : doubt (decoded_report d) ≡ 0 → {r : Result (Unit {0}) Refusal} {out' : List ℕ} → EncodeAllows (other_edition e) i 1 first' second' r out out'
       → ConvertAllows e i u r out out'
   writes is {r} {out'} made =
       let none : convert_refusal e i u (length out) ≡ 0 = sym number ∙ is in

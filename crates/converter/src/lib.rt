@@ -3,14 +3,16 @@
 #![tactic(auto)]
 
 ghost use Rattle.std.specs.Prelude.{◌≡◌, length};
+ghost use Rattle.refusals.specs.Number.{answer_number};
 ghost use Rattle.decoder.specs.Decode.{decoded_report};
 ghost use Rattle.converter.specs.Conversion.{other_edition};
 ghost use Rattle.converter.specs.Answer.{ConvertAllows};
 ghost use Rattle.converter.specs.Steps.{doubt, Room};
 
-use decoder::{Decoded, decode};
-use encoder::{Encoded, encode};
-use profiles::{EditionLookup, Lookup, edition_of, row_in};
+use decoder::{Decoded, Decoding, decode};
+use encoder::encode;
+use profiles::{edition_of, row_in};
+use refusals::Refusal;
 
 // The edition that a word of this one is converted to.
 fn other_edition(edition: usize) -> usize
@@ -19,16 +21,14 @@ fn other_edition(edition: usize) -> usize
     if edition == 18 { 13 } else { 18 }
 }
 
-// The number that keeps a word from being converted, by what it was read as; 0 where it is clean.
-fn doubt_of(read: Decoded) -> u8
-    ensures { result ≡ doubt (decoded_report read) }
+// What keeps a word from being converted, by what it was read as; nothing where it is clean.
+fn doubt_of(read: Decoding) -> Result<(), Refusal>
+    ensures { answer_number result ≡ doubt (decoded_report read) }
 {
-    match read {
-        Decoded::Clean => 0,
-        Decoded::Corrected(_) => 13,
-        Decoded::Filled(_) => 13,
-        Decoded::Unreadable(_) => 4,
-        Decoded::Refused(number) => number,
+    match read.answer? {
+        Decoded::Clean => Ok(()),
+        Decoded::Corrected(_) => Err(Refusal::NotClean),
+        Decoded::Filled(_) => Err(Refusal::NotClean),
     }
 }
 
@@ -40,31 +40,30 @@ fn rewrite(
     first: &mut [u8],
     second: &mut [u8],
     out: &mut [u8],
-) -> Encoded
+) -> Result<(), Refusal>
     requires { Room edition profile (length first.old) (length second.old) (length out.old) }
     ensures { ConvertAllows edition profile word.now result out.old out.new }
 {
-    let number = doubt_of(decode(edition, profile, word, first, second));
-    if number != 0 {
-        return Encoded::Refused(number);
-    }
+    let read = decode(edition, profile, word, first, second);
+    doubt_of(read)?;
     encode(other_edition(edition), profile, 1, first, second, out)
 }
 
 // 02, T-04: a word of the edition of that number into the word of the other edition. Refused 12: the edition is neither 13 nor 18; 1: no
 // such profile; 2: the word or the output is not N long; 3, 11 and 4 as decoding refuses; 13: the word is read, but as corrected or filled.
 // A refusal leaves the output as it was.
-pub fn convert(edition: usize, profile: usize, word: &[u8], out: &mut [u8]) -> Encoded
+pub fn convert(
+    edition: usize,
+    profile: usize,
+    word: &[u8],
+    out: &mut [u8],
+) -> Result<(), Refusal>
     ensures { ConvertAllows edition profile word.now result out.old out.new }
 {
-    let EditionLookup::Known(known) = edition_of(edition) else {
-        return Encoded::Refused(12);
-    };
-    let Lookup::Found(row) = row_in(known, profile) else {
-        return Encoded::Refused(1);
-    };
+    let known = edition_of(edition).ok_or(Refusal::Edition)?;
+    let row = row_in(known, profile).ok_or(Refusal::Profile)?;
     if out.len() != row.codeword {
-        return Encoded::Refused(2);
+        return Err(Refusal::Length);
     }
     // k, which is at most 45
     let k = row.message;

@@ -1,25 +1,17 @@
--- `converter::rewrite` meets its contract: a word that decoding does not find clean is refused by its number, and of a clean one encoding
+-- `converter::rewrite` meets its contract: a word that decoding does not find clean is refused by what keeps it, and of a clean one encoding
 -- writes the messages in the other edition.
 -- Assumes nothing.
-use native.Mathlib.Omega.{arith}
+use mathlib.Core.Path.{sym}
+use Rattle.std.proofs.lemmas.Result.{err_from_is_err_and}
 use Rattle.converter.proofs.Rewriting.{refuses, writes}
 use Rattle.converter.proofs.rewrite.Goals as goal
-use Rattle.converter.proofs.rewrite.Goals.{After-decode, After-doubt_of-number, Start}
 
-abbrev decoded : After-doubt_of-number → After-decode
-decoded c = (goal.at.After-doubt_of-number c).After-decode
-
-abbrev start : After-doubt_of-number → Start
-start c = (goal.at.After-doubt_of-number c).Start
-
-pub returns-then-number-ne0 : goal.returns-then-number-ne0
-returns-then-number-ne0 c =
-    let read = (goal.at.returns-then-number-ne0 c).After-doubt_of-number in
-    refuses _ _ _ _ (decoded read).decode.ensures (start read).requires c.doubt_of-number.ensures
-    (λ z. omega (arith, c.if-number-ne0.true, z))
+pub returns-in_err-doubt_of : goal.returns-in_err-doubt_of
+returns-in_err-doubt_of c =
+    let p = err_from_is_err_and c.from_residual.result c.from_residual.ensures.1 in
+    rw (p.1, p.2) (refuses _ _ _ _ c.decode-read.ensures c.requires c.in_err-doubt_of.ensures)
 
 pub returns : goal.returns
 returns c =
-    let read = (goal.at.returns c).After-doubt_of-number in
     let answer = rw c.other_edition.ensures at c.encode.ensures in
-    writes _ _ _ _ (decoded read).decode.ensures (start read).requires (omega (arith, read.doubt_of-number.ensures, c.if-number-ne0.false)) answer
+    writes _ _ _ _ c.decode-read.ensures c.requires (sym (c.in_ok-doubt_of.ensures)) answer
