@@ -1,20 +1,15 @@
 // What the C entry points answer, one function for each operation. Crate fogzurt_c exports them; include/fogzurt.h says what C sees of them.
 #![tactic(auto)]
 
-ghost use Rattle.std.specs.Prelude.{◌≡◌, [], ◌∷◌, ◌≤◌, length, nat_abs};
-ghost use Rattle.code_theory.specs.Reading.{filled};
-ghost use Rattle.code_theory.specs.Operations.{encode_refusal, encode_output, outcome_number, success};
+ghost use Rattle.std.specs.Prelude.{◌≡◌, ◌≤◌, length, nat_abs, Ok};
+ghost use Rattle.code_theory.specs.Operations.{encode_refusal, encode_output};
 ghost use Rattle.queue_theory.specs.Allowed.{FormatAllows, EnqueueAllows, PeekAllows, DequeueAllows};
-ghost use Rattle.encoder.specs.Answer.{encoded_outcome};
 ghost use Rattle.converter.specs.Conversion.{convert_refusal, convert_output};
-ghost use Rattle.decoder.specs.Decode.{changes_in, decoded_report};
-ghost use Rattle.decoder.specs.SyndromeDecode.{syndrome_report};
-ghost use Rattle.fogzurt.specs.Packed.{parts_of, joined, twos, packed, PackedAllows, SyndromePackedAllows, Within};
+ghost use Rattle.decoder.specs.Decode.{report_of, decoded_report};
+ghost use Rattle.fogzurt.specs.Packed.{parts_of, twos, packed, PackedAllows, SyndromePackedAllows, Within};
 
-use decoder::{Changes, Decoded, SyndromeDecoded};
-use encoder::Encoded;
-use modular::wide64;
-use syndromes::Correction;
+use decoder::{Changes, Decoded, Decoding};
+use refusals::Refusal;
 
 // The kinds of a decoded word, as C sees them.
 const CLEAN: u8 = 1;
@@ -24,6 +19,7 @@ const CORRECTED: u8 = 2;
 const FILLED: u8 = 3;
 
 // 01: Write.
+#[tactic(auto, using(crate::proofs::Outcome::number_told))]
 pub fn fogzurt_encode(
     edition: usize,
     profile: usize,
@@ -35,17 +31,7 @@ pub fn fogzurt_encode(
     ensures value { result ≡ encode_refusal edition profile rule first.now second.now (length out.old) }
     ensures out_after { out.new ≡ encode_output edition profile rule first.now second.now out.old }
 {
-    outcome_number(encoder::encode(edition, profile, rule, first, second, out))
-}
-
-// The number of an answer to encode or convert; 0 is done.
-fn outcome_number(answer: Encoded) -> u64
-    ensures { result ≡ outcome_number (encoded_outcome answer) }
-{
-    match answer {
-        Encoded::Done => 0,
-        Encoded::Refused(number) => number as u64,
-    }
+    refusals::number(encoder::encode(edition, profile, rule, first, second, out))
 }
 
 // 01: Read.
@@ -73,48 +59,8 @@ pub fn fogzurt_syndrome_decode(
     ensures { SyndromePackedAllows edition profile word.now result
         first.old first.new second.old second.new }
 {
-    pack(with_no_count(decoder::syndrome_decode(edition, profile, word, first, second)))
-}
-
-// An answer that has no count, with 0 for it.
-fn with_no_count(answer: SyndromeDecoded) -> Decoded
-    ensures { decoded_report result ≡ syndrome_report answer }
-{
-    match answer {
-        SyndromeDecoded::Clean => Decoded::Clean,
-        SyndromeDecoded::Corrected(c) => Decoded::Corrected(Correction {
-            position: c.position,
-            symbol: c.symbol,
-            error: c.error,
-            tried: 0,
-        }),
-        SyndromeDecoded::Filled(changes) => Decoded::Filled(changes),
-        SyndromeDecoded::Unreadable => Decoded::Unreadable(0),
-        SyndromeDecoded::Refused(number) => Decoded::Refused(number),
-    }
-}
-
-// The eight bytes of an answer, the number lowest.
-fn join(
-    number: u8,
-    kind: u8,
-    position: u8,
-    symbol: u8,
-    second_position: u8,
-    second_symbol: u8,
-    error: u8,
-    tried: u8,
-) -> u64
-    ensures { result ≡ joined (number ∷ kind ∷ position ∷ symbol ∷ second_position ∷ second_symbol ∷ error ∷ tried ∷ []) }
-{
-    wide64(number)
-        + wide64(kind) * 256
-        + wide64(position) * 65536
-        + wide64(symbol) * 16777216
-        + wide64(second_position) * 4294967296
-        + wide64(second_symbol) * 1099511627776
-        + wide64(error) * 281474976710656
-        + wide64(tried) * 72057594037927936
+    let answer = decoder::syndrome_decode(edition, profile, word, first, second);
+    pack(Decoding { answer, tried: 0 })
 }
 
 // A signed number in a byte: -n is 256 - n.
@@ -122,90 +68,81 @@ fn byte_of(e: i16) -> u8
     requires { nat_abs e ≤ 127 }
     ensures { result ≡ twos e }
 {
-    if e < 0 {
-        return (e + 256) as u8;
-    }
-    e as u8
+    (e as i8).cast_unsigned()
 }
 
-// A filled word, in one number.
-fn pack_filled(changes: Changes) -> u64
-    requires { Within (parts_of (success (filled (changes_in changes)) 0)) }
-    ensures { result ≡ packed (success (filled (changes_in changes)) 0) }
+// A word that is read, in one number: eight bytes, of which the first is the number 0, and the last how many positions were tried.
+#[tactic(auto, unfolding(crate::specs::Packed::packed))]
+fn pack_read(decoded: Decoded, tried: usize) -> u64
+    requires { Within (parts_of (report_of tried (Ok decoded))) }
+    ensures { result ≡ packed (report_of tried (Ok decoded)) }
 {
-    match changes {
-        Changes::One(c) => join(0, FILLED, c.position as u8, c.symbol, 0, 0, 0, 0),
-        Changes::Two(c, d) => join(
-            0,
-            FILLED,
-            c.position as u8,
-            c.symbol,
-            d.position as u8,
-            d.symbol,
-            0,
-            0,
-        ),
-    }
+    let t = tried as u8;
+    let bytes = match decoded {
+        Decoded::Clean => [0, CLEAN, 0, 0, 0, 0, 0, t],
+        Decoded::Corrected(c) => {
+            let error = byte_of(c.error);
+            [0, CORRECTED, c.position as u8, c.symbol, 0, 0, error, t]
+        }
+        Decoded::Filled(Changes::One(c)) => [0, FILLED, c.position as u8, c.symbol, 0, 0, 0, t],
+        Decoded::Filled(Changes::Two(c, d)) => {
+            let (j, k) = (c.position as u8, d.position as u8);
+            [0, FILLED, j, c.symbol, k, d.symbol, 0, t]
+        }
+    };
+    u64::from_le_bytes(bytes)
 }
 
 // Decode's answer in one number.
-fn pack(answer: Decoded) -> u64
-    requires { Within (parts_of (decoded_report answer)) }
-    ensures { result ≡ packed (decoded_report answer) }
+#[tactic(auto, unfolding(crate::specs::Packed::packed))]
+fn pack(decoding: Decoding) -> u64
+    requires { Within (parts_of (decoded_report decoding)) }
+    ensures { result ≡ packed (decoded_report decoding) }
 {
-    match answer {
-        Decoded::Clean => join(0, CLEAN, 0, 0, 0, 0, 0, 0),
-        Decoded::Corrected(c) => {
-            let error = byte_of(c.error);
-            join(
-                0,
-                CORRECTED,
-                c.position as u8,
-                c.symbol,
-                0,
-                0,
-                error,
-                c.tried as u8,
-            )
+    match decoding.answer {
+        Ok(decoded) => pack_read(decoded, decoding.tried),
+        Err(Refusal::Unreadable) => {
+            let number = u8::from(Refusal::Unreadable);
+            let tried = decoding.tried as u8;
+            u64::from_le_bytes([number, 0, 0, 0, 0, 0, 0, tried])
         }
-        Decoded::Filled(changes) => pack_filled(changes),
-        Decoded::Unreadable(tried) => join(4, 0, 0, 0, 0, 0, 0, tried as u8),
-        Decoded::Refused(number) => join(number, 0, 0, 0, 0, 0, 0, 0),
+        Err(refusal) => u64::from(u8::from(refusal)),
     }
 }
 
 // 02, T-04: a word of one edition into that of the other.
+#[tactic(auto, using(crate::proofs::Outcome::number_told))]
 pub fn fogzurt_convert(edition: usize, profile: usize, word: &[u8], out: &mut [u8]) -> u64
     ensures value { result ≡ convert_refusal edition profile word.now (length out.old) }
     ensures out_after { out.new ≡ convert_output edition profile word.now out.old }
 {
-    outcome_number(converter::convert(edition, profile, word, out))
+    refusals::number(converter::convert(edition, profile, word, out))
 }
 
 // 01: Lay out.
 pub fn fogzurt_sheet_format(sheet: &mut [u8]) -> u64
     ensures { FormatAllows sheet.old result sheet.new }
 {
-    queue::number(queue::format(sheet))
+    refusals::number(queue::format(sheet))
 }
 
 // 01: Enter.
 pub fn fogzurt_sheet_enqueue(sheet: &mut [u8], boxno: usize, profile: usize, word: &[u8]) -> u64
     ensures { EnqueueAllows sheet.old boxno profile word.now result sheet.new }
 {
-    queue::number(queue::enqueue(sheet, boxno, profile, word))
+    refusals::number(queue::enqueue(sheet, boxno, profile, word))
 }
 
 // 01: Look.
 pub fn fogzurt_sheet_peek(sheet: &[u8], number: usize, out: &mut [u8]) -> u64
     ensures { PeekAllows sheet.now number out.old result out.new }
 {
-    queue::number(queue::peek(sheet, number, out))
+    refusals::number(queue::peek(sheet, number, out))
 }
 
 // 01: Take off.
 pub fn fogzurt_sheet_dequeue(sheet: &mut [u8], out: &mut [u8]) -> u64
     ensures { DequeueAllows sheet.old out.old result sheet.new out.new }
 {
-    queue::number(queue::dequeue(sheet, out))
+    refusals::number(queue::dequeue(sheet, out))
 }
