@@ -25,7 +25,7 @@ use Rattle.encoder.specs.Answer.{EncodeAllows}
 use Rattle.codec_claims.specs.Encoding.{encode_lengths_fit, levels_fit, Takes, WordOf, EncodeWrites, RefusedBy, EncodeRefuses}
 use Rattle.encoder.proofs.Refusing.{output_kept, output_done}
 
-module _ {o i l : ℕ} {a b : List ℕ} {r : Result (Unit {0}) Refusal} {out out' : List ℕ} (h : EncodeAllows o i l a b r out out') where
+module _ {o i l : ℕ} {a b : List ℕ} {r : Result Unit Refusal} {out out' : List ℕ} (h : EncodeAllows o i l a b r out out') where
   -- the number k + 1 refuses the call
   refused_by_lem : (k : ℕ) → suc k ≡ encode_refusal o i l a b (length out) → RefusedBy (suc k) r out out'
   refused_by_lem k e = (h.answer ∙ ap outcome (sym e), h.output ∙ sym (output_kept o i l a b out e (λ z. omega arith)))

@@ -40,15 +40,15 @@ pub record WordOf (e i l : ℕ) (a b u : List ℕ) : Type 0 where
 -- a pair of the right lengths and levels is written, by either rule
 abbrev pub EncodeWrites : Type 0
 EncodeWrites =
-    (e i l : ℕ) (a b : List ℕ) (r : Result (Unit {0}) Refusal) (out out' : List ℕ) → EncodeAllows e i l a b r out out'
+    (e i l : ℕ) (a b : List ℕ) (r : Result Unit Refusal) (out out' : List ℕ) → EncodeAllows e i l a b r out out'
     → T (is_edition e) → T (is_profile i) → T (is_line_rule l) → T (encode_lengths_fit i a b (length out)) → T (levels_fit i a b)
     → (encoded_outcome r ≡ done) × WordOf e i l a b out'
 
 -- any other call is refused by the first number that applies, and leaves the output
-abbrev pub RefusedBy : ℕ → Result (Unit {0}) Refusal → List ℕ → List ℕ → Type 0
+abbrev pub RefusedBy : ℕ → Result Unit Refusal → List ℕ → List ℕ → Type 0
 RefusedBy k r out out' = (encoded_outcome r ≡ refused_by k) × (out' ≡ out)
 
-pub record RefusesEncoding (e i l : ℕ) (a b : List ℕ) (r : Result (Unit {0}) Refusal) (out out' : List ℕ) : Type 0 where
+pub record RefusesEncoding (e i l : ℕ) (a b : List ℕ) (r : Result Unit Refusal) (out out' : List ℕ) : Type 0 where
   pub by_12 : is_edition e ≡ false → RefusedBy 12 r out out'
   pub by_1 : T (is_edition e) → is_profile i ≡ false → RefusedBy 1 r out out'
   pub by_14 : T (is_edition e) → T (is_profile i) → is_line_rule l ≡ false → RefusedBy 14 r out out'
@@ -58,4 +58,4 @@ pub record RefusesEncoding (e i l : ℕ) (a b : List ℕ) (r : Result (Unit {0})
 
 abbrev pub EncodeRefuses : Type 0
 EncodeRefuses =
-    (e i l : ℕ) (a b : List ℕ) (r : Result (Unit {0}) Refusal) (out out' : List ℕ) → EncodeAllows e i l a b r out out' → RefusesEncoding e i l a b r out out'
+    (e i l : ℕ) (a b : List ℕ) (r : Result Unit Refusal) (out out' : List ℕ) → EncodeAllows e i l a b r out out' → RefusesEncoding e i l a b r out out'

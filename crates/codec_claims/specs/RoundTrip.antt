@@ -21,7 +21,7 @@ pub record GivesBack (a b : List ℕ) (r : Decoding) (first second : List ℕ) :
 
 abbrev pub RoundTrip : Type 0
 RoundTrip =
-    (e i l : ℕ) (a b : List ℕ) (made : Result (Unit {0}) Refusal) (out word : List ℕ) → EncodeAllows e i l a b made out word
+    (e i l : ℕ) (a b : List ℕ) (made : Result Unit Refusal) (out word : List ℕ) → EncodeAllows e i l a b made out word
     → T (is_edition e) → T (is_profile i) → T (is_line_rule l) → T (Encode.encode_lengths_fit i a b (length out)) → T (Encode.levels_fit i a b)
     → (r : Decoding) (before_first first before_second second : List ℕ) → DecodeAllows e i word r before_first first before_second second
     → length before_first ≡ message_length (profile_in e i) → length before_second ≡ message_length (profile_in e i)

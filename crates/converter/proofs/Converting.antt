@@ -61,7 +61,7 @@ module _ (e i : ℕ) (edition : T (is_edition e)) (known : T (is_profile i)) (u 
       }
 
 -- what a call that no number refuses writes
-written : (e i : ℕ) (u : List ℕ) {r : Result (Unit {0}) Refusal} {out out' : List ℕ} → Answered e i u r out out' → convert_refusal e i u (length out) ≡ 0
+written : (e i : ℕ) (u : List ℕ) {r : Result Unit Refusal} {out out' : List ℕ} → Answered e i u r out out' → convert_refusal e i u (length out) ≡ 0
     → (encoded_outcome r ≡ done) × (out' ≡ converted e i u)
 written e i u {r} {out} a none =
     (a.allowed.answer ∙ ap outcome none, a.allowed.output ∙ sym (output_done e i u out (sym none)))

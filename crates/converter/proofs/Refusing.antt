@@ -180,7 +180,7 @@ module _ (e i : ℕ) (u : List ℕ) (l : ℕ) where
         by_reading ∙ stops (readable ∷ []) clean [] (reads, tt) (clean_is ∙ other)
 
 -- of whatever convert's contract allows
-module _ {e i : ℕ} {u : List ℕ} {r : Result (Unit {0}) Refusal} {out out' : List ℕ} (h : ConvertAllows e i u r out out') where
+module _ {e i : ℕ} {u : List ℕ} {r : Result Unit Refusal} {out out' : List ℕ} (h : ConvertAllows e i u r out out') where
   -- the number k refuses the call
   pub refused_by_lem : {k : ℕ} → convert_refusal e i u (length out) ≡ k → k ≢ 0 → RefusedBy k r out out'
   refused_by_lem {k} n some = (h.answer ∙ sym (refused_outcome (sym n) some), h.output ∙ sym (output_kept e i u out (sym n) some))

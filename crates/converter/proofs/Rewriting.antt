@@ -137,7 +137,7 @@ module _ (e i : ℕ) (known : T (is_profile i)) (u : List ℕ) (long : length u 
       (below false)
 
 -- what encoding may make of the pair in the other edition is the word
-pub encode_converts : (e i : ℕ) (u : List ℕ) {l : ℕ} → PassedOn e i u l → {r : Result (Unit {0}) Refusal} {out out' : List ℕ}
+pub encode_converts : (e i : ℕ) (u : List ℕ) {l : ℕ} → PassedOn e i u l → {r : Result Unit Refusal} {out out' : List ℕ}
     → length out ≡ codeword_length (profile_in e i)
     → EncodeAllows (other_edition e) i 1 (carried (profile_in e i) true u) (carried (profile_in e i) false u) r out out'
     → (encoded_outcome r ≡ done) × (out' ≡ converted e i u)
@@ -182,7 +182,7 @@ module _ (e i : ℕ) (u : List ℕ) {d : Decoding} {first first' second second' 
   refuses {r} is = refuses_by e i u out r (sym (is ∙ number))
 
   -- a clean one
-  pub writes : doubt (decoded_report d) ≡ 0 → {r : Result (Unit {0}) Refusal} {out' : List ℕ} → EncodeAllows (other_edition e) i 1 first' second' r out out'
+  pub writes : doubt (decoded_report d) ≡ 0 → {r : Result Unit Refusal} {out' : List ℕ} → EncodeAllows (other_edition e) i 1 first' second' r out out'
       → ConvertAllows e i u r out out'
   writes is {r} {out'} made =
       let none : convert_refusal e i u (length out) ≡ 0 = sym number ∙ is in

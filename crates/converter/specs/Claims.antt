@@ -24,7 +24,7 @@ abbrev pub OtherEdition : Type 0
 OtherEdition = (other_edition 13 ≡ 18) × (other_edition 18 ≡ 13)
 
 -- an answer r to the word u of edition e in profile i, with an output of N symbols, that convert's contract allows
-pub record Answered (e i : ℕ) (u : List ℕ) (r : Result (Unit {0}) Refusal) (out out' : List ℕ) : Type 0 where
+pub record Answered (e i : ℕ) (u : List ℕ) (r : Result Unit Refusal) (out out' : List ℕ) : Type 0 where
   pub long : length out ≡ codeword_length (profile_in e i)
   pub allowed : ConvertAllows e i u r out out'
 
@@ -36,40 +36,40 @@ SamePair e e' i u v = WordOf e' i 1 (carried (profile_in e i) true u) (carried (
 abbrev pub ConvertWrites : Type 0
 ConvertWrites =
     (e i : ℕ) → T (is_edition e) → T (is_profile i) → (u : List ℕ) → T (codeword (profile_in e i) u)
-    → (r : Result (Unit {0}) Refusal) (out out' : List ℕ) → Answered e i u r out out' → (encoded_outcome r ≡ done) × SamePair e (other_edition e) i u out'
+    → (r : Result Unit Refusal) (out out' : List ℕ) → Answered e i u r out out' → (encoded_outcome r ≡ done) × SamePair e (other_edition e) i u out'
 
 -- 02: "Converting there and back gives the writer's own word for that pair"
 abbrev pub ThereAndBack : Type 0
 ThereAndBack =
     (e i : ℕ) → T (is_edition e) → T (is_profile i) → (u : List ℕ) → T (codeword (profile_in e i) u)
-    → (r : Result (Unit {0}) Refusal) (out there : List ℕ) → Answered e i u r out there
-    → (r' : Result (Unit {0}) Refusal) (out' back : List ℕ) → Answered (other_edition e) i there r' out' back
+    → (r : Result Unit Refusal) (out there : List ℕ) → Answered e i u r out there
+    → (r' : Result Unit Refusal) (out' back : List ℕ) → Answered (other_edition e) i there r' out' back
     → (encoded_outcome r' ≡ done) × SamePair e e i u back
 
 -- so a word that encode made by line rule 1 comes back
 abbrev pub OwnWordBack : Type 0
 OwnWordBack =
-    (e i : ℕ) (a b : List ℕ) (made : Result (Unit {0}) Refusal) (before u : List ℕ) → EncodeAllows e i 1 a b made before u
+    (e i : ℕ) (a b : List ℕ) (made : Result Unit Refusal) (before u : List ℕ) → EncodeAllows e i 1 a b made before u
     → T (is_edition e) → T (is_profile i) → T (encode_lengths_fit i a b (length before)) → T (levels_fit i a b)
-    → (r : Result (Unit {0}) Refusal) (out there : List ℕ) → Answered e i u r out there
-    → (r' : Result (Unit {0}) Refusal) (out' back : List ℕ) → Answered (other_edition e) i there r' out' back
+    → (r : Result Unit Refusal) (out there : List ℕ) → Answered e i u r out there
+    → (r' : Result Unit Refusal) (out' back : List ℕ) → Answered (other_edition e) i there r' out' back
     → (encoded_outcome r' ≡ done) × (back ≡ u)
 
 -- The answer by what decode and encode may answer: d to the same word, with the messages `first` and `second`.
-pub record FollowsReading (e i : ℕ) (d : Decoding) (first second : List ℕ) (r : Result (Unit {0}) Refusal) (out out' : List ℕ) : Type 0 where
+pub record FollowsReading (e i : ℕ) (d : Decoding) (first second : List ℕ) (r : Result Unit Refusal) (out out' : List ℕ) : Type 0 where
   -- 02: "The order of reading applies"
   pub refused : decoded_number d ≢ 0 → RefusedBy (decoded_number d) r out out'
   -- 02: "13, the word reads but as mended or filled"
   pub doubtful : (f : Finding) (t : ℕ) → decoded_report d ≡ success f t → f ≢ clean → RefusedBy 13 r out out'
   -- and a clean word is written as encode writes its messages in the other edition, by line rule 1
-  pub written : decoded_report d ≡ success clean 0 → (made : Result (Unit {0}) Refusal) (before v : List ℕ)
+  pub written : decoded_report d ≡ success clean 0 → (made : Result Unit Refusal) (before v : List ℕ)
       → EncodeAllows (other_edition e) i 1 first second made before v → length before ≡ codeword_length (profile_in e i)
       → (encoded_outcome r ≡ done) × (out' ≡ v)
 
 abbrev pub ConvertFollows : Type 0
 ConvertFollows =
     (e i : ℕ) (u : List ℕ) (d : Decoding) (first second : List ℕ) → Allowed e i u d first second
-    → (r : Result (Unit {0}) Refusal) (out out' : List ℕ) → Answered e i u r out out' → FollowsReading e i d first second r out out'
+    → (r : Result Unit Refusal) (out out' : List ℕ) → Answered e i u r out out' → FollowsReading e i d first second r out out'
 
 -- 02: "It must not pass a doubtful word on"
 
@@ -95,7 +95,7 @@ pub record PassedOn (e i : ℕ) (u : List ℕ) (l : ℕ) : Type 0 where
 
 abbrev pub OnlyCodewords : Type 0
 OnlyCodewords =
-    (e i : ℕ) (u : List ℕ) (r : Result (Unit {0}) Refusal) (out out' : List ℕ) → ConvertAllows e i u r out out'
+    (e i : ℕ) (u : List ℕ) (r : Result Unit Refusal) (out out' : List ℕ) → ConvertAllows e i u r out out'
     → encoded_outcome r ≡ done → PassedOn e i u (length out)
 
 -- the lengths of the word and of the output are the profile's
@@ -103,7 +103,7 @@ abbrev pub convert_lengths_fit : ℕ → List ℕ → ℕ → Bool
 convert_lengths_fit i u l = eqb (length u) (codeword_length (profile i)) && eqb l (codeword_length (profile i))
 
 -- any other call is refused, by the first number that applies, and leaves the output
-pub record RefusesConverting (e i : ℕ) (u : List ℕ) (r : Result (Unit {0}) Refusal) (out out' : List ℕ) : Type 0 where
+pub record RefusesConverting (e i : ℕ) (u : List ℕ) (r : Result Unit Refusal) (out out' : List ℕ) : Type 0 where
   pub by_12 : is_edition e ≡ false → RefusedBy 12 r out out'
   pub by_1 : T (is_edition e) → is_profile i ≡ false → RefusedBy 1 r out out'
   pub by_2 : T (is_edition e) → T (is_profile i) → convert_lengths_fit i u (length out) ≡ false → RefusedBy 2 r out out'
@@ -118,7 +118,7 @@ pub record RefusesConverting (e i : ℕ) (u : List ℕ) (r : Result (Unit {0}) R
 
 abbrev pub ConvertRefuses : Type 0
 ConvertRefuses =
-    (e i : ℕ) (u : List ℕ) (r : Result (Unit {0}) Refusal) (out out' : List ℕ) → ConvertAllows e i u r out out' → RefusesConverting e i u r out out'
+    (e i : ℕ) (u : List ℕ) (r : Result Unit Refusal) (out out' : List ℕ) → ConvertAllows e i u r out out' → RefusesConverting e i u r out out'
 
 pub record Claims : Type 0 where
   pub other_edition_lem : OtherEdition

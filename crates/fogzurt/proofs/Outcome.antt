@@ -9,9 +9,9 @@ use Rattle.code_theory.specs.Operations.{outcome, outcome_number}
 use Rattle.encoder.specs.Answer.{encoded_outcome}
 use Rattle.encoder.proofs.Refusing.{number_back}
 
-same_number : (r : Result (Unit {0}) Refusal) → answer_number r ≡ outcome_number (encoded_outcome r)
+same_number : (r : Result Unit Refusal) → answer_number r ≡ outcome_number (encoded_outcome r)
 same_number (Ok done) = refl
 same_number (Err r) = refl
 
-pub number_told : (r : Result (Unit {0}) Refusal) {n : ℕ} → encoded_outcome r ≡ outcome n → answer_number r ≡ n
+pub number_told : (r : Result Unit Refusal) {n : ℕ} → encoded_outcome r ≡ outcome n → answer_number r ≡ n
 number_told r {n} e = same_number r ∙ ap outcome_number e ∙ number_back n
