@@ -13,7 +13,6 @@ use Rattle.code_theory.specs.Operations.{decode_answer}
 use Rattle.code_theory.specs.Operations.{Report, refusal, failure, success, report, report_number, report_tried}
 use Rattle.locating_theory.specs.ErrorPosition.{error_position}
 use Rattle.decoder.specs.declared.word.Decoded.{Decoded}
-use Rattle.decoder.specs.declared.word.Decoded.TheVariants.{Clean, Corrected, Filled}
 use Rattle.decoder.specs.Decode.{report_of, decoded_report}
 use Rattle.decoder.specs.SyndromeDecode.{uncounted, syndrome_report}
 use Rattle.codec_claims.specs.Decoding.{Allowed}
@@ -39,9 +38,7 @@ recounted t (success f n) = success f t
 
 -- an answer with the count t
 report_counted : (t : ℕ) (r : Result Decoded Refusal) → report_of t r ≡ recounted t (syndrome_report r)
-report_counted t (Ok Clean) = refl
-report_counted t (Ok (Corrected c)) = refl
-report_counted t (Ok (Filled cs)) = refl
+report_counted t (Ok d) = refl
 report_counted t (Err Profile) = refl
 report_counted t (Err Length) = refl
 report_counted t (Err Symbol) = refl

@@ -1,7 +1,7 @@
 -- `converter::convert` meets its contract: 12, 1 and an output of another length are refused first, and what they let through is rewritten
 -- by way of two arrays of k symbols.
 -- Assumes nothing.
-use mathlib.Core.Path.{◌≡◌, sym, subst, ◌∙◌}
+use mathlib.Core.Path.{sym, subst, ◌∙◌}
 use native.Mathlib.Omega.{arith}
 use lib.Dec.{T}
 use lib.Seq.{length-take-le}
