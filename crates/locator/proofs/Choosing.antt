@@ -26,6 +26,7 @@ use Rattle.locating_theory.proofs.Index.{index_is}
 use Rattle.locating_theory.proofs.Inverse.{inverse_below}
 use Rattle.locator.specs.Steps.{Inverse, LocatedIndex}
 
+-- the choice where neither passes
 choose_neither : (t : ℕ → Bool) (k l none : ℕ) → t k ≡ false → t l ≡ false → choose t k l none ≡ none
 unfolding choose
 choose_neither t k l none f h = rw (f, choose, h)
@@ -66,6 +67,7 @@ module _ (p : Parameters) (sized : Sized p) (prime : Prime p.q) {e z : ℤ} (rea
         let none = choose_neither (holds_with p b g S S') k l (position_count p b) (sym h ∙ f) (sym h') in
         omega (arith, sym none ∙ chosen ∙ located_error o p sized prime b e error S S')
 
+-- how many positions a parity has at most
 pub count_upto : (t : Row) (b : Bool) → position_count (parameters t) b ≤ t.n + 1
 count_upto t true = omega arith
 count_upto t false = omega arith
