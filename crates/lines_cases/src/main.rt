@@ -11,7 +11,7 @@ use std::io::Read;
 // The stream that answers are written to, by POSIX's number.
 const STDOUT_FILENO: i32 = 1;
 
-// How a file is cut: into pieces of one size, or of mixed sizes, one of 1 to 400 and another at each turn.
+// How a file is cut: into pieces of one size, or of mixed sizes, of 1 to 400: from 16 down, then from 400 down, and again.
 #[derive(Clone, Copy, PartialEq, Eq, Debug)]
 enum Pieces {
     Of(usize),
@@ -22,7 +22,7 @@ impl Pieces {
     fn size(self, turn: u64) -> usize {
         match self {
             Pieces::Of(size) => size,
-            Pieces::Mixed => 1 + (turn % 400) as usize,
+            Pieces::Mixed => 1 + ((u64::MAX - turn) % 400) as usize,
         }
     }
 }
