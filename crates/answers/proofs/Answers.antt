@@ -1,13 +1,16 @@
 -- From what decoding reports and leaves in its outputs to the line's answer.
 -- Assumes nothing.
-use Rattle.std.proofs.Common.{◌≡◌, ℕ, ◌-◌, ◌≤◌, true, false, List, length, take, sym, refl, ap, ◌∙◌, zero-le}
+use Rattle.std.proofs.Common.{◌≡◌, ℕ, Err, ◌-◌, ◌≤◌, true, false, List, length, take, sym, refl, ap, ◌∙◌, zero-le}
 use Rattle.code_theory.specs.Parameters.{message_length}
 use Rattle.code_theory.specs.Profiles.{is_profile, profile}
 use Rattle.code_theory.proofs.Profiles.{profile_none}
 use Rattle.code_theory.specs.Reading.{read, unreadable}
 use Rattle.code_theory.specs.Operations.{Answer, refused, answered, decode_answer, Report, report, decode_output}
-use Rattle.decoder.specs.SyndromeDecode.{uncounted}
-use Rattle.lines_theory.specs.Line.{line_edition, answer_line, read_answer, line_answer}
+use Rattle.refusals.specs.declared.Refusal.{Refusal}
+use Rattle.refusals.specs.declared.Refusal.TheVariants.{Profile, Length, Symbol, Unreadable, SheetLength, Unsound, BoxNumber, Full, Form, NoRecord, Erasures, Edition, NotClean, LineRule}
+use Rattle.refusals.specs.Number.{number_of}
+use Rattle.decoder.specs.SyndromeDecode.{uncounted, syndrome_report}
+use Rattle.lines_theory.specs.Line.{line_edition, refusal_line, answer_line, read_answer, line_answer}
 use Rattle.lines_theory.proofs.Order.{line_good}
 use Rattle.lines_theory.proofs.Bounds.{SmallAnswer, decode_small}
 use Rattle.answers.proofs.Forms.{GoodLine}
@@ -19,6 +22,23 @@ line_shown : (i : ℕ) (d : Answer) (out out' : List ℕ)
 line_shown i (refused n) out out' = refl
 line_shown i (answered unreadable t) out out' = refl
 line_shown i (answered (read f a b) t) out out' = refl
+
+-- a refusal shows its number, and so does that of an unreadable word
+pub shown_refused : (i : ℕ) (r : Refusal) (a b : List ℕ) → refusal_line (number_of r) ≡ shown_line i (syndrome_report (Err r)) a b
+shown_refused i Profile a b = refl
+shown_refused i Length a b = refl
+shown_refused i Symbol a b = refl
+shown_refused i Unreadable a b = refl
+shown_refused i SheetLength a b = refl
+shown_refused i Unsound a b = refl
+shown_refused i BoxNumber a b = refl
+shown_refused i Full a b = refl
+shown_refused i Form a b = refl
+shown_refused i NoRecord a b = refl
+shown_refused i Erasures a b = refl
+shown_refused i Edition a b = refl
+shown_refused i NotClean a b = refl
+shown_refused i LineRule a b = refl
 
 small_report : (d : Answer) (out out' : List ℕ) → SmallAnswer d
     → Small (uncounted (report d)) (decode_output true d out) (decode_output false d out')

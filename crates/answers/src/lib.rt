@@ -9,6 +9,8 @@ ghost use Rattle.std.specs.Prelude.{◌≡◌, ◌≤◌, length};
 ghost use Rattle.lines_theory.specs.Line.{line_answer};
 ghost use Rattle.lines_theory.specs.Feed.{overwritten};
 
+use refusals::Refusal;
+
 // What an answer is written into. The longest, of profile 4 with two filled places of two digits, has 108 bytes, byte 10 included.
 pub type AnswerBuffer = [u8; 128];
 
@@ -21,7 +23,7 @@ pub fn answer(line: &[u8], out: &mut AnswerBuffer) -> usize
 {
     let mut word = [0u8; 99];
     let Some(profile) = form::parse(line, &mut word) else {
-        return text::refusal_line(out, 9);
+        return text::refusal_line(out, Refusal::Form);
     };
     let n = line.len() - 2;
     respond::respond(profile, &word[..n], out)

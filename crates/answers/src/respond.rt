@@ -6,15 +6,16 @@ ghost use Rattle.decoder.specs.SyndromeDecode.{syndrome_report};
 ghost use Rattle.lines_theory.specs.Line.{answer_line, read_answer};
 ghost use Rattle.answers.specs.Writing.{Written, shown_line, Small};
 
-use decoder::{Change, Changes, SyndromeDecoded};
-use profiles::{Lookup, row_of};
+use decoder::{Change, Changes, Decoded};
+use profiles::row_of;
+use refusals::Refusal;
 
 // 02, T-03: boxlines stays with the edition of 2013.
 const EDITION: usize = 13;
 
 // What decoding answered, as a line.
 fn write_decoded(
-    decoded: SyndromeDecoded,
+    decoded: Result<Decoded, Refusal>,
     profile: usize,
     first: &[u8],
     second: &[u8],
@@ -26,14 +27,14 @@ fn write_decoded(
         (shown_line profile (syndrome_report decoded) first.now second.now) }
 {
     match decoded {
-        SyndromeDecoded::Clean => {
+        Ok(Decoded::Clean) => {
             let none = Change {
                 position: 0,
                 symbol: 0,
             };
             crate::text::reading_line(out, profile, b'C', Changes::One(none), 0, first, second)
         }
-        SyndromeDecoded::Corrected(c) => {
+        Ok(Decoded::Corrected(c)) => {
             let one = Change {
                 position: c.position,
                 symbol: c.symbol,
@@ -41,11 +42,10 @@ fn write_decoded(
             let error = c.error;
             crate::text::reading_line(out, profile, b'M', Changes::One(one), error, first, second)
         }
-        SyndromeDecoded::Filled(changes) => {
+        Ok(Decoded::Filled(changes)) => {
             crate::text::reading_line(out, profile, b'F', changes, 0, first, second)
         }
-        SyndromeDecoded::Unreadable => crate::text::refusal_line(out, 4),
-        SyndromeDecoded::Refused(number) => crate::text::refusal_line(out, number),
+        Err(refusal) => crate::text::refusal_line(out, refusal),
     }
 }
 
@@ -71,7 +71,7 @@ fn respond_with(
 fn message_length(profile: usize) -> usize
     ensures { (result ≡ message_length (Profiles.profile profile)) × (result ≤ 45) }
 {
-    let Lookup::Found(row) = row_of(profile) else {
+    let Some(row) = row_of(profile) else {
         return 0;
     };
     row.message

@@ -1,12 +1,14 @@
 // Writing an answer line into its buffer, field by field. Each function writes from an index on and returns the index after.
 ghost use Rattle.std.specs.Prelude.{◌≡◌, ◌+◌, ◌<◌, ◌≤◌, [], ◌∷◌, ◌++◌, map, length, unsigned_abs};
 ghost use Rattle.code_theory.specs.Component.{Below};
+ghost use Rattle.refusals.specs.Number.{number_of};
 ghost use Rattle.decoder.specs.Decode.{change_of, changes_in};
 ghost use Rattle.lines_theory.specs.Line.{digit_byte, decimal, signed_decimal, refusal_line, changes_before, reading_line};
 ghost use Rattle.lines_theory.specs.Sizes.{ChangesWithin};
 ghost use Rattle.answers.specs.Writing.{Written, heading_of};
 
 use decoder::{Change, Changes};
+use refusals::Refusal;
 
 // Two bytes.
 fn pair(out: &mut [u8], at: usize, a: u8, b: u8) -> usize
@@ -59,12 +61,12 @@ fn word(out: &mut [u8], at: usize, symbols: &[u8], last: u8) -> usize
 }
 
 // 01: "For a refused one: R, a space and the number."
-pub(crate) fn refusal_line(out: &mut [u8], n: u8) -> usize
-    requires { (n ≤ 99) × (length out.old ≡ 128) }
-    ensures { Written out.old out.new 0 result (refusal_line n) }
+pub(crate) fn refusal_line(out: &mut [u8], refusal: Refusal) -> usize
+    requires { length out.old ≡ 128 }
+    ensures { Written out.old out.new 0 result (refusal_line (number_of refusal)) }
 {
     let at = pair(out, 0, b'R', b' ');
-    decimal(out, at, usize::from(n), b'\n')
+    decimal(out, at, usize::from(u8::from(refusal)), b'\n')
 }
 
 // The place of a change and the symbol sent there, each with a space.

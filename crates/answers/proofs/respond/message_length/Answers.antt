@@ -9,5 +9,5 @@ returns-in_default c = message_none _ (none_found _ _ c.row_of.ensures c.in_defa
 
 pub returns : goal.returns
 returns c =
-    let of = row_found _ _ c.row_of.ensures c.in-Found.is in
+    let of = row_found _ _ c.row_of.ensures c.in-Some.is in
     (message_is of, message_short of)

@@ -5,4 +5,4 @@ use Rattle.answers.proofs.text.refusal_line.Goals as goal
 
 pub returns : goal.returns
 returns c =
-    refusal_written _ c.pair-at.ensures (rw c.from.ensures at c.decimal.ensures.text)
+    refusal_written _ c.pair-at.ensures (rw (c.from-2.ensures, c.from.ensures) at c.decimal.ensures.text)
