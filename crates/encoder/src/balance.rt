@@ -9,7 +9,6 @@ ghost use Rattle.code_theory.specs.LineRule.{rule1, line_rule_of, balanced_by};
 ghost use Rattle.profiles.specs.Row.{parameters, Valid};
 ghost use Rattle.encoder.specs.Symbols.{SymbolArray, PrefixSums, ZeroFirst, Walked, Chosen, Raised, rise_at};
 
-use crate::least_peak::least_peak;
 use modular::{SumArray, add, remainders, sub};
 use profiles::{Edition, Row};
 use symbols::weigh;
@@ -45,16 +44,14 @@ fn rise(i: u8, from: u8, s: u8) -> u8
     if i < from { s } else { s + 1 }
 }
 
-// s added mod q to every symbol of the array, and 1 more from an index on. The index is compared as a byte: many are at once.
-fn raised(q: u8, d: &[u8; 97], s: u8, from: u8) -> [u8; 97]
-    requires { SymbolArray q 97 d.now × (s < q) }
-    ensures { Raised q d.now s from result }
-{
-    let mut w = *d;
-    for (i, y) in w.iter_mut().enumerate() {
-        *y = add(q, *y, rise(i as u8, from, s));
-    }
-    w
+// What the choices shift (01: the integrated x), by the row of its profile.
+#[derive(Drop)]
+pub(crate) struct Integral {
+    pub(crate) row: Row,
+    pub(crate) symbols: [u8; 97],
+    ghost valid: { Valid row },
+    ghost few: { row.q ≤ 8 },
+    ghost levels: { SymbolArray row.q 97 symbols },
 }
 
 // A choice by what it makes of the integral: `shift` is added to every symbol, and 1 more from position v on.
@@ -75,27 +72,55 @@ pub(crate) fn shift_of(row: Row, s: u8) -> u8
     }
 }
 
-// 01: the choice used, the first whose w has weight middle, s before v. One exists, so the loop never ends by itself. For each s the
-// word of v = 1 is weighed. From v to v + 1 the symbol at v loses 1 mod q, and the excess with it: it gains q first where that symbol is 0.
-// In edition 18 v counts one more than 02's, which starts from 0; a complement is balanced where the word is.
-fn earliest(row: Row, d: &[u8; 97]) -> Choice
-    requires { Valid row × SymbolArray row.q 97 d.now × Walked (parameters row) (take row.balanced d.now) }
-    ensures { Chosen rule1 (parameters row) (take row.balanced d.now) result.shift result.v }
-{
-    for s in 0..row.q {
-        let shift = shift_of(row, s);
-        let mut gain = [0u8; 16];
-        gain[usize::from(row.q - 1 - shift)] = row.q;
-        let w = raised(row.q, d, shift, 0);
-        let mut excess = weigh(&w, row.balanced, row.target).excess;
-        for v in 1..row.balanced + 1 {
-            if excess == 0 {
-                return Choice { shift, v };
+impl Integral {
+    // s added mod q to every symbol of the array, and 1 more from an index on. The index is compared as a byte: many are at once.
+    fn raised(&self, s: u8, from: u8) -> [u8; 97]
+        requires { s < self.now.row.q }
+        ensures { Raised self.now.row.q self.now.symbols s from result }
+    {
+        let q = self.row.q;
+        let mut w = self.symbols;
+        for (i, y) in w.iter_mut().enumerate() {
+            *y = add(q, *y, rise(i as u8, from, s));
+        }
+        w
+    }
+
+    // 01: the choice used, the first whose w has weight middle, s before v. One exists, so the loop never ends by itself. For each s the
+    // word of v = 1 is weighed. From v to v + 1 the symbol at v loses 1 mod q, and the excess with it: it gains q first where that symbol
+    // is 0. In edition 18 v counts one more than 02's, which starts from 0; a complement is balanced where the word is.
+    fn earliest(&self) -> Choice
+        requires { Walked (parameters self.now.row) (take self.now.row.balanced self.now.symbols) }
+        ensures { Chosen rule1 (parameters self.now.row) (take self.now.row.balanced self.now.symbols) result.shift result.v }
+    {
+        let row = self.row;
+        for s in 0..row.q {
+            let shift = shift_of(row, s);
+            let mut gain = [0u8; 16];
+            gain[usize::from(row.q - 1 - shift)] = row.q;
+            let w = self.raised(shift, 0);
+            let mut excess = weigh(&w, row.balanced, row.target).excess;
+            for v in 1..row.balanced + 1 {
+                if excess == 0 {
+                    return Choice { shift, v };
+                }
+                excess = excess + i32::from(gain[usize::from(self.symbols[v - 1])]) - 1;
             }
-            excess = excess + i32::from(gain[usize::from(d[v - 1])]) - 1;
+        }
+        unreachable!()
+    }
+
+    // The choice that a line rule takes, 2 or else 1.
+    fn choose(&self, rule: usize) -> Choice
+        requires { Walked (parameters self.now.row) (take self.now.row.balanced self.now.symbols) }
+        ensures { Chosen (line_rule_of rule) (parameters self.now.row) (take self.now.row.balanced self.now.symbols) result.shift result.v }
+    {
+        if rule == 2 {
+            self.least_peak()
+        } else {
+            self.earliest()
         }
     }
-    unreachable!()
 }
 
 // Each symbol y of an array made q - 1 - y.
@@ -120,18 +145,6 @@ fn word_of_shift(row: Row, w: [u8; 97]) -> [u8; 97]
     }
 }
 
-// The choice that a line rule takes, 2 or else 1.
-fn choose(row: Row, rule: usize, d: &[u8; 97]) -> Choice
-    requires { Valid row × (row.q ≤ 8) × SymbolArray row.q 97 d.now × Walked (parameters row) (take row.balanced d.now) }
-    ensures { Chosen (line_rule_of rule) (parameters row) (take row.balanced d.now) result.shift result.v }
-{
-    if rule == 2 {
-        least_peak(row, d)
-    } else {
-        earliest(row, d)
-    }
-}
-
 // 01: w of the choice used, of the components in x after a zero.
 pub(crate) fn balanced(row: Row, rule: usize, x: &[u8; 97]) -> [u8; 97]
     requires { Valid row × (row.q ≤ 8) × SymbolArray row.q row.balanced x.now
@@ -140,8 +153,9 @@ pub(crate) fn balanced(row: Row, rule: usize, x: &[u8; 97]) -> [u8; 97]
         ≡ balanced_by (line_rule_of rule) (parameters row)
         (with_zero (parameters row) (drop 1 (take row.balanced x.now))) }
 {
-    let d = integrated(row.q, row.balanced, x);
-    let choice = choose(row, rule, &d);
-    let w = raised(row.q, &d, choice.shift, (choice.v - 1) as u8);
+    let symbols = integrated(row.q, row.balanced, x);
+    let integral = Integral { row, symbols };
+    let choice = integral.choose(rule);
+    let w = integral.raised(choice.shift, (choice.v - 1) as u8);
     word_of_shift(row, w)
 }

@@ -8,7 +8,7 @@ ghost use Rattle.peaks_theory.specs.Costs.{check_offset};
 ghost use Rattle.peaks_theory.specs.Claims.{Seeded};
 ghost use Rattle.encoder.specs.Symbols.{SymbolArray, Walked, Chosen, lowest_s};
 
-use crate::balance::{Choice, shift_of};
+use crate::balance::{Choice, Integral, shift_of};
 use modular::remainder;
 use peaks::{Lanes, least_peaks};
 use profiles::{Edition, Row};
@@ -32,21 +32,6 @@ struct Alphas {
     step: u8,
 }
 
-fn seed(row: Row, d: &[u8; 97]) -> Alphas
-    requires { Valid row × SymbolArray row.q 97 d.now }
-    ensures { Seeded (parameters row) (take row.balanced d.now) result.first result.step × (result.first < row.q)
-        × (result.step < row.q) }
-{
-    let weight = weigh(d, row.balanced, row.target);
-    let positions = row.n + 1;
-    let first = remainder(
-        row.q,
-        usize::from(weight.odd) + check_offset(row) + positions,
-    );
-    let step = remainder(row.q, positions);
-    Alphas { first, step }
-}
-
 // The first s with the lowest of the least peaks, by their shifts.
 fn lowest_s(row: Row, costs: &Lanes) -> u8
     requires { Valid row × (row.q ≤ 8) }
@@ -64,14 +49,33 @@ fn lowest_s(row: Row, costs: &Lanes) -> u8
     lowest
 }
 
-// 02: the choice of line rule 2. There are eight levels at most: a shift for each lane.
-pub(crate) fn least_peak(row: Row, d: &[u8; 97]) -> Choice
-    requires { Valid row × (row.q ≤ 8) × SymbolArray row.q 97 d.now × Walked (parameters row) (take row.balanced d.now) }
-    ensures { Chosen rule2 (parameters row) (take row.balanced d.now) result.shift result.v }
-{
-    let seed = seed(row, d);
-    let found = least_peaks(row.q, row.balanced, seed.first, seed.step, d);
-    let shift = shift_of(row, lowest_s(row, &found.costs));
-    let v = usize::from(found.indices[usize::from(shift)]) + 1;
-    Choice { shift, v }
+impl Integral {
+    fn seed(&self) -> Alphas
+        ensures { Seeded (parameters self.now.row) (take self.now.row.balanced self.now.symbols) result.first result.step
+            × (result.first < self.now.row.q)
+            × (result.step < self.now.row.q) }
+    {
+        let row = self.row;
+        let weight = weigh(&self.symbols, row.balanced, row.target);
+        let positions = row.n + 1;
+        let first = remainder(
+            row.q,
+            usize::from(weight.odd) + check_offset(row) + positions,
+        );
+        let step = remainder(row.q, positions);
+        Alphas { first, step }
+    }
+
+    // 02: the choice of line rule 2. There are eight levels at most: a shift for each lane.
+    pub(crate) fn least_peak(&self) -> Choice
+        requires { Walked (parameters self.now.row) (take self.now.row.balanced self.now.symbols) }
+        ensures { Chosen rule2 (parameters self.now.row) (take self.now.row.balanced self.now.symbols) result.shift result.v }
+    {
+        let row = self.row;
+        let seed = self.seed();
+        let found = least_peaks(row.q, row.balanced, seed.first, seed.step, &self.symbols);
+        let shift = shift_of(row, lowest_s(row, &found.costs));
+        let v = usize::from(found.indices[usize::from(shift)]) + 1;
+        Choice { shift, v }
+    }
 }

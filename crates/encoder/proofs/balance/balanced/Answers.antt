@@ -31,13 +31,13 @@ walks c =
 pub choose-choice-requires : goal.choose-choice-requires
 choose-choice-requires c =
     let a = (goal.at.choose-choice-requires c).Start in
-    let integral = c.integrated-d.ensures in
-    (c.requires.0, c.requires.1, integral.1, record { of = zeroPut a; is = integral.0 ∙ sym (walks a) })
+    let integral = c.integrated-symbols.ensures in
+    record { of = zeroPut a; is = integral.0 ∙ sym (walks a) }
 
 pub returns : goal.returns
 returns c =
     let a = (goal.at.returns c).Start in
-    let integral = c.integrated-d.ensures in
+    let integral = c.integrated-symbols.ensures in
     let p = parameters c.args.row in
     let m = c.args.row.balanced in
     let shifted = raised_is m integral.1 c.requires.2.room c.raised-w.ensures (search rules) in
