@@ -1,12 +1,17 @@
 -- What moves the four rows of a syndrome by a column.
 -- Assumes nothing.
-use Rattle.std.specs.Prelude.{◌≡◌, List, [], ◌∷◌, ℕ, ◌+◌, ◌*◌, ◌%◌, ◌≤◌, ◌<◌, T, get_or}
+use Rattle.std.specs.Prelude.{◌≡◌, ◌≢◌, ◌⊎◌, List, [], ◌∷◌, ℕ, ◌+◌, ◌-◌, ◌*◌, ◌%◌, ◌≤◌, ◌<◌, T, get_or, Option, Some, None}
 use Rattle.decoding_theory.specs.Syndromes.{near_syndromes}
 use Rattle.profiles.specs.declared.row.Row.{Row}
 use Rattle.profiles.specs.Row.{parameters}
 use Rattle.symbols.specs.declared.sums.Syndrome.{Syndrome}
 use Rattle.syndromes.specs.Rows.{FourRows, rows_of}
 use Rattle.decoder.specs.Multiples.{Multiples}
+
+-- r is column a of the n columns, if there is one
+abbrev pub ColumnAt : ℕ → List (List ℕ) → ℕ → Option (List ℕ) → Type 0
+ColumnAt n columns a (Some r) = (a ≢ 0) × (a ≤ n) × (r ≡ get_or columns (a - 1) [])
+ColumnAt n columns a None = (a ≡ 0) ⊎ (n < a)
 
 -- the four rows with f times a column of three digits and a 1 added
 abbrev pub moved_rows : ℕ → ℕ → List ℕ → List ℕ → List ℕ

@@ -8,6 +8,7 @@ ghost use Rattle.decoder.specs.Totals.{WholeWord, Components};
 
 use differences::{correct_differences, difference_body};
 use profiles::{Edition, Row};
+use symbols::Body;
 
 // Whether the differences are taken backward: the earlier symbol less the later.
 pub(crate) fn is_backward(row: Row) -> bool
@@ -21,7 +22,7 @@ pub(crate) fn is_backward(row: Row) -> bool
 }
 
 // The components of a word, into x, an array of levels.
-pub(crate) fn take_components(row: Row, word: &[u8], x: &mut [u8; 97])
+pub(crate) fn take_components(row: Row, word: &[u8], x: &mut Body)
     requires { WholeWord row word.now × BodyArray row x.old }
     ensures { Components row word.now x.new }
 {
@@ -29,7 +30,7 @@ pub(crate) fn take_components(row: Row, word: &[u8], x: &mut [u8; 97])
 }
 
 // The components in x of a word, once the symbol at index i is y.
-pub(crate) fn correct_components(row: Row, word: &[u8], i: usize, y: u8, x: &mut [u8; 97])
+pub(crate) fn correct_components(row: Row, word: &[u8], i: usize, y: u8, x: &mut Body)
     requires { WholeWord row word.now × Components row word.now x.old × (y < row.q) }
     ensures { Components row (set word.now i y) x.new }
 {

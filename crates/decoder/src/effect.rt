@@ -12,7 +12,7 @@ use crate::locate::Search;
 use crate::multiples::multiples;
 use modular::sub;
 use profiles::Row;
-use symbols::Syndromes;
+use symbols::{Matrix, Syndromes};
 
 // How often the column comes in, in the first component and in the second.
 #[derive(Clone, Copy)]
@@ -79,7 +79,7 @@ pub(crate) fn effect_of(row: Row, parity: usize, e: u8) -> Effect
 // The syndromes once the symbol at index k of the parity is corrected, by the multiples that were made for trying.
 pub(crate) fn syndromes_after(
     search: Search,
-    columns: &[[u8; 3]; 48],
+    columns: &Matrix,
     effect: Effect,
     k: usize,
 ) -> Syndromes
@@ -100,7 +100,7 @@ pub(crate) fn syndromes_after(
 }
 
 // The same where no position was tried: for one column each a table would cost more.
-pub(crate) fn syndromes_at(search: Search, columns: &[[u8; 3]; 48], k: usize) -> Syndromes
+pub(crate) fn syndromes_at(search: Search, columns: &Matrix, k: usize) -> Syndromes
     requires { Searches search × Columns search.row.q search.row.n columns.now × (k ≤ 48) }
     ensures { After search k result }
 {

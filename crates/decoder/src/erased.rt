@@ -20,10 +20,10 @@ use crate::word::{Change, Changes, Decoded};
 use fillings::{Erased, Filling, Sums, cleared, fill_one, fill_two};
 use profiles::Row;
 use refusals::Refusal;
-use symbols::{Syndrome, Syndromes, columns};
+use symbols::{Body, Matrix, Syndrome, Syndromes, columns};
 
 // What one more of the symbol at index i of the body adds to the syndromes: a column to one, and a column taken from the other.
-fn one_more(row: Row, columns: &[[u8; 3]; 48], i: usize) -> Syndromes
+fn one_more(row: Row, columns: &Matrix, i: usize) -> Syndromes
     requires { Valid row × Columns row.q row.n columns.now × (i < row.balanced) }
     ensures { OneMore row i result }
 {
@@ -38,7 +38,7 @@ fn one_more(row: Row, columns: &[[u8; 3]; 48], i: usize) -> Syndromes
 }
 
 // The erased symbol at index i of a word.
-fn erased_at(row: Row, columns: &[[u8; 3]; 48], i: usize) -> Erased
+fn erased_at(row: Row, columns: &Matrix, i: usize) -> Erased
     requires { Valid row × Columns row.q row.n columns.now × (i < row.codeword) }
     ensures { ErasedHere row i result }
 {
@@ -72,7 +72,7 @@ fn sums_in(row: Row, s: Totals) -> Sums
 }
 
 // What the symbol at index i of a word, which has 0 there, is filled with. The word's components are put into x.
-fn find_one(row: Row, word: &[u8], i: usize, x: &mut [u8; 97]) -> Option<Filling<1>>
+fn find_one(row: Row, word: &[u8], i: usize, x: &mut Body) -> Option<Filling<1>>
     requires { WholeWord row word.now × BodyArray row x.old × (i < row.codeword) }
     ensures { FilledBy row word.now (i ∷ []) x.new result }
 {
@@ -83,7 +83,7 @@ fn find_one(row: Row, word: &[u8], i: usize, x: &mut [u8; 97]) -> Option<Filling
 }
 
 // The same of the symbols at the indices i and j.
-fn find_two(row: Row, word: &[u8], i: usize, j: usize, x: &mut [u8; 97]) -> Option<Filling<2>>
+fn find_two(row: Row, word: &[u8], i: usize, j: usize, x: &mut Body) -> Option<Filling<2>>
     requires { WholeWord row word.now × BodyArray row x.old × (i < row.codeword) × (j < row.codeword) }
     ensures { FilledBy row word.now (i ∷ j ∷ []) x.new result }
 {

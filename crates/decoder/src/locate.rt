@@ -14,6 +14,7 @@ use locator::error_position;
 use modular::add;
 use modular::plain::less;
 use profiles::Row;
+use symbols::Matrix;
 use syndromes::near;
 
 // What the search for the changed symbol goes by: the sums over the word, and the parity whose check symbol disagrees, 0 for the odd
@@ -57,7 +58,7 @@ fn off_by_lack(search: Search) -> bool
 // that is seen first.
 fn near_after(
     search: Search,
-    columns: &[[u8; 3]; 48],
+    columns: &Matrix,
     by_first: &[u8; 16],
     by_second: &[u8; 16],
     k: usize,
@@ -80,7 +81,7 @@ fn near_after(
 // Whether the symbol x at index k of the parity can be the one that changed: the three tests of a position.
 fn fits(
     search: Search,
-    columns: &[[u8; 3]; 48],
+    columns: &Matrix,
     by_first: &[u8; 16],
     by_second: &[u8; 16],
     k: usize,
@@ -101,7 +102,7 @@ fn fits(
 // The first index of the parity that fits.
 fn first_fit(
     search: Search,
-    columns: &[[u8; 3]; 48],
+    columns: &Matrix,
     by_first: &[u8; 16],
     by_second: &[u8; 16],
     word: &[u8],
@@ -127,7 +128,7 @@ fn first_fit(
 // The same. Where the check symbol is off by something else than the weight, no position fits, and none has to be tried.
 pub(crate) fn locate(
     search: Search,
-    columns: &[[u8; 3]; 48],
+    columns: &Matrix,
     by_first: &[u8; 16],
     by_second: &[u8; 16],
     word: &[u8],

@@ -11,11 +11,11 @@ ghost use Rattle.decoder.specs.Outputs.{Restored, Outputs, Messages, RestoredMes
 
 use modular::sub;
 use profiles::Row;
-use symbols::Syndrome;
+use symbols::{Body, Syndrome};
 use syndromes::{is_zero, position};
 
 // One component restored by its syndrome: as it is, or with 1 taken from the symbol that the syndrome names.
-fn restore(row: Row, s: Syndrome, side: usize, x: &mut [u8; 97])
+fn restore(row: Row, s: Syndrome, side: usize, x: &mut Body)
     requires { BodyArray row x.old × FourRows row (rows s) × T (near_syndrome (parameters row) (rows_of row (rows s))) × (side ≤ 1) }
     ensures { Restored row (rows_of row (rows s)) (is_first side) x.old x.new }
 {
@@ -27,7 +27,7 @@ fn restore(row: Row, s: Syndrome, side: usize, x: &mut [u8; 97])
 }
 
 // The symbols of both components at the indices i to end - 1, into the outputs from `next` on.
-fn copy_run(x: &[u8; 97], i: usize, end: usize, next: usize, first: &mut [u8], second: &mut [u8])
+fn copy_run(x: &Body, i: usize, end: usize, next: usize, first: &mut [u8], second: &mut [u8])
     requires { (i ≤ end) × (end ≤ 48) × (next + (end - i) ≤ length first.old) × (next + (end - i) ≤ length second.old) }
     ensures first_after { first.new ≡ copied_run x.now 1 i (end - i) next first.old }
     ensures second_after { second.new ≡ copied_run x.now 2 i (end - i) next second.old }
@@ -40,7 +40,7 @@ fn copy_run(x: &[u8; 97], i: usize, end: usize, next: usize, first: &mut [u8], s
 }
 
 // The messages of both components: the symbols at the positions that are no check positions, 2 and the powers of q.
-fn extract(row: Row, x: &[u8; 97], first: &mut [u8], second: &mut [u8])
+fn extract(row: Row, x: &Body, first: &mut [u8], second: &mut [u8])
     requires { BodyArray row x.now × Outputs row first.old second.old }
     ensures { Messages row x.now first.new second.new }
 {
@@ -64,7 +64,7 @@ pub(crate) fn write_pair(
     row: Row,
     s: Syndrome,
     t: Syndrome,
-    x: &mut [u8; 97],
+    x: &mut Body,
     first: &mut [u8],
     second: &mut [u8],
 )

@@ -10,7 +10,7 @@ ghost use Rattle.decoder.specs.Changed.{ChangedWith};
 
 use crate::effect::{effect_of, syndromes_after, syndromes_at};
 use crate::locate::{Search, fit_located, locate, position_count};
-use symbols::Syndromes;
+use symbols::{Matrix, Syndromes};
 
 // Its index among the positions of the parity and the syndromes once it is corrected, if there is one; and how many positions were tried.
 #[derive(Clone, Copy)]
@@ -27,7 +27,7 @@ pub(crate) trait Method {
     fn changed_symbol(
         search: Search,
         profile: usize,
-        columns: &[[u8; 3]; 48],
+        columns: &Matrix,
         word: &[u8],
     ) -> ChangedSymbol
         requires { Searches search × Columns search.row.q search.row.n columns.now × WholeWord search.row word.now
@@ -49,7 +49,7 @@ impl Method for Trying {
     fn changed_symbol(
         search: Search,
         _profile: usize,
-        columns: &[[u8; 3]; 48],
+        columns: &Matrix,
         word: &[u8],
     ) -> ChangedSymbol {
         let effect = effect_of(search.row, search.parity, search.s.lack);
@@ -80,7 +80,7 @@ impl Method for Locating {
     fn changed_symbol(
         search: Search,
         profile: usize,
-        columns: &[[u8; 3]; 48],
+        columns: &Matrix,
         word: &[u8],
     ) -> ChangedSymbol {
         let found = fit_located(search, profile, word).map(|k| (

@@ -9,7 +9,7 @@ ghost use Rattle.decoder.specs.Totals.{WholeWord, sums_of, Components, Totalled,
 use crate::differenced::take_components;
 use modular::negative;
 use profiles::Row;
-use symbols::{Checks, Syndrome, checks_of, syndromes_of, weigh};
+use symbols::{Body, Checks, Matrix, Syndrome, checks_of, syndromes_of, weigh};
 
 #[derive(Clone, Copy)]
 pub(crate) struct Totals {
@@ -26,7 +26,7 @@ pub(crate) struct Totals {
 }
 
 // The sums over a word, of whose body x holds the differences.
-fn total(row: Row, columns: &[[u8; 3]; 48], word: &[u8], x: &[u8; 97]) -> Totals
+fn total(row: Row, columns: &Matrix, word: &[u8], x: &Body) -> Totals
     requires { WholeWord row word.now × Components row word.now x.now × Columns row.q row.n columns.now }
     ensures { Totalled row result × (sums_of row result ≡ sums (parameters row) word.now) }
 {
@@ -52,7 +52,7 @@ fn total(row: Row, columns: &[[u8; 3]; 48], word: &[u8], x: &[u8; 97]) -> Totals
 }
 
 // The sums over a word, whose components are put into x, an array of levels.
-pub(crate) fn sums_of(row: Row, columns: &[[u8; 3]; 48], word: &[u8], x: &mut [u8; 97]) -> Totals
+pub(crate) fn sums_of(row: Row, columns: &Matrix, word: &[u8], x: &mut Body) -> Totals
     requires { WholeWord row word.now × Columns row.q row.n columns.now × BodyArray row x.old }
     ensures { SummedWord row word.now x.new result }
 {

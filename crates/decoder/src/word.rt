@@ -23,7 +23,7 @@ use crate::method::{Method, Trying};
 use crate::totals::{Totals, sums_of};
 use profiles::{Erasures, Row, edition_of, row_in, screen};
 use refusals::Refusal;
-use symbols::{Syndromes, columns};
+use symbols::{Body, Matrix, Syndromes, columns};
 use syndromes::{Correction, corrected, judge_balanced};
 
 // What is said of an erased symbol that was filled: its position, from 1, and the symbol sent there.
@@ -97,7 +97,7 @@ fn correct(
     after: Syndromes,
     word: &[u8],
     k: usize,
-    x: &mut [u8; 97],
+    x: &mut Body,
     first: &mut [u8],
     second: &mut [u8],
 ) -> Decoded
@@ -117,10 +117,10 @@ fn correct(
 fn decode_unbalanced<M: Method>(
     profile: usize,
     row: Row,
-    columns: &[[u8; 3]; 48],
+    columns: &Matrix,
     s: Totals,
     word: &[u8],
-    x: &mut [u8; 97],
+    x: &mut Body,
     first: &mut [u8],
     second: &mut [u8],
 ) -> Decoding
@@ -153,7 +153,7 @@ fn decode_unbalanced<M: Method>(
 fn decode_balanced(
     row: Row,
     s: Totals,
-    x: &mut [u8; 97],
+    x: &mut Body,
     first: &mut [u8],
     second: &mut [u8],
 ) -> Result<Decoded, Refusal>

@@ -1,25 +1,24 @@
 -- `decoder::column::moved` meets its contract: the four rows move as the rows of the definition do, and a column outside the matrix moves
 -- none.
 -- Assumes nothing.
-use mathlib.Core.Logic.{inl, inr}
+use mathlib.Core.Path.{subst}
 use Rattle.syndromes.proofs.Moving.{moved_still}
 use Rattle.decoder.proofs.Moving.{movable, moved_column, four_equal}
 use Rattle.decoder.proofs.column.moved.Goals as goal
 
-pub returns-then-a-eq0 : goal.returns-then-a-eq0
-returns-then-a-eq0 c = let asked = c.requires in moved_still _ asked.0 _ asked.2 _ _ (inl c.if-a-eq0.true)
-
-pub returns-then-row-a : goal.returns-then-row-a
-returns-then-row-a c = let asked = c.requires in moved_still _ asked.0 _ asked.2 _ _ (inr c.if-row-a.true)
-
 pub moved_rows-requires : goal.moved_rows-requires
 moved_rows-requires c =
-    let asked = c.requires in
-    movable _ asked.0 asked.1 asked.2 asked.3 _ c.if-a-eq0.false c.if-row-a.false
+    let (valid, columns, levels, table) = c.requires in
+    let (some, within, is) = c.in-Some.ensures in
+    rw is (movable _ valid columns levels table _ some within)
 
-pub returns : goal.returns
-returns c =
-    let asked = c.requires in
+pub returns-in-None : goal.returns-in-None
+returns-in-None c = let asked = c.requires in moved_still _ asked.0 _ asked.2 _ _ c.in-None.ensures
+
+pub returns-in-Some : goal.returns-in-Some
+returns-in-Some c =
+    let (valid, columns, levels, _) = c.requires in
+    let (some, within, is) = c.in-Some.ensures in
     let made = c.moved_rows.ensures in
     let same = four_equal made.low made.mid made.high made.ones in
-    moved_column _ asked.0 _ asked.2 _ asked.1 _ c.if-a-eq0.false c.if-row-a.false same
+    moved_column _ valid _ levels _ columns _ some within (rw is at same)
