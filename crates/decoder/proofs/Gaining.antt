@@ -1,7 +1,7 @@
 -- The multiples by which a symbol that gains something moves the syndromes: those of what it gains or of the negative, by the component,
 -- the parity and the edition.
 -- Assumes nothing.
-use mathlib.Core.Path.{◌≡◌, refl, sym, ap, subst, ◌∙◌}
+use mathlib.Core.Path.{◌≡◌, refl, sym, ap, ◌∙◌}
 use mathlib.Core.Bool.{Bool, true, false, not}
 use mathlib.Core.List.{List}
 use Prim.Native.Nat.{ℕ, zero, suc, ◌+◌, ◌-◌, ◌%◌, ◌≤◌, ◌<◌}
@@ -10,6 +10,7 @@ use native.Mathlib.Numerals.{add-one}
 use native.Mathlib.Omega.{arith}
 use lib.Dec.{eqb}
 use lib.ListN.{get_or}
+use Rattle.std.specs.Prelude.{if◌then◌else◌}
 use borrow.Author.Tests.{ne_eqb}
 use Rattle.modular_theory.specs.Residue.{minus}
 use Rattle.modular_theory.proofs.Residue.{of_eq, ◌then◌, reduce, minus_is, already_reduced}
@@ -71,26 +72,28 @@ module _ (p : Parameters) {e : ℕ} (small : e < p.q) (b : Bool) where
 
 -- e and its negative, so used
 module _ (t : Row) {e : ℕ} (small : e < t.q) (b : Bool) {less : ℕ} (less-is : less ≡ minus t.q 0 e) where
-  pub first_less : first_loses (parameters t) b ≡ true → FactorsOf t b e less e
-  first_less h =
-      let (x, y) = subst (Factors (parameters t) small b (parameters t) b) h (factors (parameters t) small b) in
-      record { first_is = less-is ∙ x; second_is = y }
+  abbrev loses : Bool
+  loses = first_loses (parameters t) b
 
-  pub first_more : first_loses (parameters t) b ≡ false → FactorsOf t b e e less
-  first_more h =
-      let (x, y) = subst (Factors (parameters t) small b (parameters t) b) h (factors (parameters t) small b) in
-      record { first_is = x; second_is = less-is ∙ y }
+  pub factors_sides : {f g : ℕ} → f ≡ (if loses then less else e) → g ≡ (if loses then e else less) → FactorsOf t b e f g
+  factors_sides {f} {g} f-is g-is = go loses (factors (parameters t) small b) f-is g-is
+    where
+      go : (d : Bool) → Factors (parameters t) small b (parameters t) b d → f ≡ (if d then less else e) → g ≡ (if d then e else less)
+          → FactorsOf t b e f g
+      go true (x, y) h k = record { first_is = h ∙ less-is ∙ x; second_is = k ∙ y }
+      go false (x, y) h k = record { first_is = h ∙ x; second_is = k ∙ less-is ∙ y }
 
--- and the tables of their multiples
-pub moves_of : {t : Row} {b : Bool} {e f g : ℕ} {F G : List ℕ} → FactorsOf t b e f g → Multiples t.q F × (get_or F 1 0 ≡ f)
-    → Multiples t.q G × (get_or G 1 0 ≡ g) → Moves t b e F G
-moves_of fs m l =
-    record {
-      first_table = m.0;
-      second_table = l.0;
-      first_by = m.1 ∙ fs.first_is;
-      second_by = l.1 ∙ fs.second_is;
-    }
+  -- and the tables of their multiples
+  pub moves_sides : {M L F G : List ℕ} → Multiples t.q M × (get_or M 1 0 ≡ e) → Multiples t.q L × (get_or L 1 0 ≡ less)
+      → F ≡ (if loses then L else M) → G ≡ (if loses then M else L) → Moves t b e F G
+  moves_sides {M} {L} {F} {G} m l F-is G-is = go loses (factors (parameters t) small b) F-is G-is
+    where
+      go : (d : Bool) → Factors (parameters t) small b (parameters t) b d → F ≡ (if d then L else M) → G ≡ (if d then M else L)
+          → Moves t b e F G
+      go true (x, y) h k =
+          rw (h, k) (record { first_table = l.0; second_table = m.0; first_by = l.1 ∙ less-is ∙ x; second_by = m.1 ∙ y })
+      go false (x, y) h k =
+          rw (h, k) (record { first_table = m.0; second_table = l.0; first_by = m.1 ∙ x; second_by = l.1 ∙ less-is ∙ y })
 
 -- The columns that a symbol at index k of a parity meets.
 

@@ -30,13 +30,13 @@ row_own {o} {i} {t} of = subst (λ (o : Edition). RowOf o i t) (sym (ap (λ (p :
 
 module _ (x : Search) {i : ℕ} (of : RowOf (edition_is x.row.edition) i x.row) where
   pub located_by : {odd : Bool} {e : ℤ} {l : model.Location} → odd ≡ parity_of x → e ≡ x.s.excess
-      → l ≡ error_position (in_edition (edition_is x.row.edition) (profile i)) odd e (rows_among (profile i).r (rows x.s.first))
-      (rows_among (profile i).r (rows x.s.second))
+      → l ≡ error_position (in_edition (edition_is x.row.edition) (profile i)) odd e (rows_among (profile i).r (rows x.s.syndromes.first))
+      (rows_among (profile i).r (rows x.s.syndromes.second))
       → l ≡ error_position (parameters_of x) (parity_of x) x.s.excess (sums_in x).first (sums_in x).second
   unfolding rows_of rows_among
   located_by o e g =
       let by : Parameters → Bool → ℤ → model.Location =
-      λ p b z. error_position p b z (rows_among p.r (rows x.s.first)) (rows_among p.r (rows x.s.second)) in
+      λ p b z. error_position p b z (rows_among p.r (rows x.s.syndromes.first)) (rows_among p.r (rows x.s.syndromes.second)) in
       g ∙ ap₂ (by (in_edition (edition_is x.row.edition) (profile i))) o e
       ∙ ap (λ (p : Parameters). by p (parity_of x) x.s.excess) (sym of.same)
 

@@ -7,7 +7,7 @@ use Prim.Native.Nat.{ℕ, ◌+◌, ◌-◌, ◌*◌, ◌≤◌, min}
 use native.Mathlib.Nat.{mul-le-mul, min-eq_left}
 use native.Mathlib.Omega.{arith}
 use lib.ListN.{length, get_or, take}
-use lib.IntN.{pos, neg_ℤ, ◌-ℤ◌}
+use lib.IntN.{pos, neg_ℤ, ◌-ℤ◌, nat_abs}
 use Rattle.modular_theory.specs.Residue.{remainder}
 use Rattle.modular_theory.proofs.Residue.{remainder_below}
 use Rattle.modular_theory.proofs.Integer.{difference_within}
@@ -83,6 +83,11 @@ module _ {t : Row} {word x : List ℕ} (is : WholeWord t word) (held : Component
     pub excess_is : k.excess ≡ pos (weight (body (parameters t) word)) -ℤ pos (target (parameters t))
     excess_is = rw (e, copy_is, target_is is.valid)
 
+    pub excess_light : nat_abs k.excess ≤ 1358
+    excess_light =
+        let small : target (parameters t) ≤ 1358 = rw (target_is is.valid) at (target_small is.valid) in
+        rw excess_is (difference_within 1358 (weight (body (parameters t) word)) (target (parameters t)) body_light small)
+
     pub asked_are : {c : Checks} → c ≡ checks_of t.q t.delta k
         → (b : Bool) → check_of c b ≡ check_symbol t.q b (body (parameters t) word)
     asked_are f b =
@@ -114,8 +119,8 @@ module _ {t : Row} {word x : List ℕ} (is : WholeWord t word) (held : Component
   module _ (s : Totals) (e : s.excess ≡ pos (weight (body (parameters t) word)) -ℤ pos (target (parameters t)))
       (g : (b : Bool) → check_of s.asked b ≡ check_symbol t.q b (body (parameters t) word)) where
     pub totals_are : s.arrived.alpha ≡ get_or word t.balanced 0 → s.arrived.beta ≡ get_or word (t.balanced + 1) 0
-        → rows_of t (rows s.first) ≡ syndromes (parameters t) (received (parameters t) true word)
-        → rows_of t (rows s.second) ≡ syndromes (parameters t) (received (parameters t) false word)
+        → rows_of t (rows s.syndromes.first) ≡ syndromes (parameters t) (received (parameters t) true word)
+        → rows_of t (rows s.syndromes.second) ≡ syndromes (parameters t) (received (parameters t) false word)
         → sums_of t s ≡ sums (parameters t) word
     totals_are f i h k = rw (e, asked_is, arrived_is, h, k)
       where
@@ -130,7 +135,7 @@ module _ {t : Row} {word x : List ℕ} (is : WholeWord t word) (held : Component
         arrived_is = fun_ext arrived
 
     pub totalled : s.lack ≡ residue_of_negative t.q s.excess
-        → FourRows t (rows s.first) → FourRows t (rows s.second) → Totalled t s
+        → FourRows t (rows s.syndromes.first) → FourRows t (rows s.syndromes.second) → Totalled t s
     unfolding lack
     totalled d f h =
         let small : target (parameters t) ≤ 1358 = rw (target_is is.valid) at (target_small is.valid) in

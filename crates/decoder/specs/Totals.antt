@@ -26,8 +26,8 @@ sums_of t s =
       excess = s.excess;
       asked = check_of s.asked;
       arrived = check_of s.arrived;
-      first = rows_of t (rows s.first);
-      second = rows_of t (rows s.second);
+      first = rows_of t (rows s.syndromes.first);
+      second = rows_of t (rows s.syndromes.second);
     }
 
 -- the rest follows from the sums, and each is small: 97 symbols below 15 weigh at most 1358, as does their balancing value
@@ -36,8 +36,8 @@ pub record Totalled (t : Row) (s : Totals) : Type 0 where
   pub lacks : s.lack ≡ lack (parameters t) (sums_of t s)
   pub lack_below : s.lack < t.q
   pub asked_below : (b : Bool) → check_of s.asked b < t.q
-  pub first_rows : FourRows t (rows s.first)
-  pub second_rows : FourRows t (rows s.second)
+  pub first_rows : FourRows t (rows s.syndromes.first)
+  pub second_rows : FourRows t (rows s.syndromes.second)
 
 -- x holds the differences of the body of the word u, after a symbol that is not looked at, and so its components
 pub record Components (t : Row) (u x : List ℕ) : Type 0 where

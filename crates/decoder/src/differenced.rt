@@ -14,11 +14,7 @@ use symbols::Body;
 pub(crate) fn is_backward(row: Row) -> bool
     ensures { result ≡ is_backward (parameters row) }
 {
-    let edition = row.edition;
-    match edition {
-        Edition::Of2013 => false,
-        Edition::Of2018 => true,
-    }
+    row.edition == Edition::Of2018
 }
 
 // The components of a word, into x, an array of levels.

@@ -1,5 +1,5 @@
 // What a change of a symbol of one parity does to the two syndromes: a multiple of a column is added to each.
-ghost use Rattle.std.specs.Prelude.{◌≡◌, ◌≤◌, ◌<◌};
+ghost use Rattle.std.specs.Prelude.{◌≡◌, ◌≤◌, ◌<◌, if◌then◌else◌};
 ghost use Rattle.profiles.specs.Row.{Valid, parameters};
 ghost use Rattle.symbols.specs.Columns.{Columns};
 ghost use Rattle.decoder.specs.Sides.{is_first};
@@ -14,18 +14,11 @@ use modular::sub;
 use profiles::Row;
 use symbols::{Matrix, Syndromes};
 
-// How often the column comes in, in the first component and in the second.
+// What is used in the first component, and in the second.
 #[derive(Clone, Copy)]
-pub(crate) struct Factors {
-    pub(crate) first: u8,
-    pub(crate) second: u8,
-}
-
-// The multiples, of each level, by which the first component's syndrome moves, and the second's.
-#[derive(Drop)]
-pub(crate) struct Effect {
-    pub(crate) first: [u8; 16],
-    pub(crate) second: [u8; 16],
+pub(crate) struct Sides<T> {
+    pub(crate) first: T,
+    pub(crate) second: T,
 }
 
 // Whether the first component loses what a symbol of the parity gains, and the second gains it; if not, it is the other way round. This is
@@ -33,69 +26,59 @@ pub(crate) struct Effect {
 fn first_loses(row: Row, parity: usize) -> bool
     ensures { result ≡ first_loses (parameters row) (is_first parity) }
 {
-    if is_backward(row) {
-        return parity != 0;
-    }
-    parity == 0
+    is_backward(row) != (parity == 0)
 }
 
-// Where a symbol of the parity gains e, they are e and its negative.
-fn factors_of(row: Row, parity: usize, e: u8) -> Factors
+// What stands for the gain where a symbol of the parity gains it, and for its negative.
+fn by_side<T>(row: Row, parity: usize, more: T, less: T) -> Sides<T>
+    ensures first { result.first ≡ if first_loses (parameters row) (is_first parity) then less else more }
+    ensures second { result.second ≡ if first_loses (parameters row) (is_first parity) then more else less }
+{
+    if first_loses(row, parity) {
+        Sides {
+            first: less,
+            second: more,
+        }
+    } else {
+        Sides {
+            first: more,
+            second: less,
+        }
+    }
+}
+
+// How often the column comes in where a symbol of the parity gains e: e times and its negative.
+fn factors_of(row: Row, parity: usize, e: u8) -> Sides<u8>
     requires { Valid row × (e < row.q) }
     ensures { FactorsOf row (is_first parity) e result.first result.second }
 {
-    let less = sub(row.q, 0, e);
-    if first_loses(row, parity) {
-        return Factors {
-            first: less,
-            second: e,
-        };
-    }
-    Factors {
-        first: e,
-        second: less,
-    }
+    by_side(row, parity, e, sub(row.q, 0, e))
 }
 
-// The multiples of both, for trying many columns. Each table is made before it is known whose it is, which is quicker.
-pub(crate) fn effect_of(row: Row, parity: usize, e: u8) -> Effect
+// The multiples of both, of each level, for trying many columns. Each table is made before it is known whose it is, which is quicker.
+pub(crate) fn effect_of(row: Row, parity: usize, e: u8) -> Sides<[u8; 16]>
     requires { Valid row × (e < row.q) }
     ensures { Moves row (is_first parity) e result.first result.second }
 {
     let more = multiples(row.q, e);
     let less = multiples(row.q, sub(row.q, 0, e));
-    if first_loses(row, parity) {
-        return Effect {
-            first: less,
-            second: more,
-        };
-    }
-    Effect {
-        first: more,
-        second: less,
-    }
+    by_side(row, parity, more, less)
 }
 
 // The syndromes once the symbol at index k of the parity is corrected, by the multiples that were made for trying.
 pub(crate) fn syndromes_after(
     search: Search,
     columns: &Matrix,
-    effect: Effect,
+    effect: Sides<[u8; 16]>,
     k: usize,
 ) -> Syndromes
     requires { Tries search columns.now effect.first effect.second × (k ≤ 48) }
     ensures { After search k result }
 {
-    let parity = search.parity;
+    let Search { row, s, parity } = search;
     Syndromes {
-        first: moved(search.row, columns, search.s.first, &effect.first, k + 1),
-        second: moved(
-            search.row,
-            columns,
-            search.s.second,
-            &effect.second,
-            k + parity,
-        ),
+        first: moved(row, columns, s.syndromes.first, &effect.first, k + 1),
+        second: moved(row, columns, s.syndromes.second, &effect.second, k + parity),
     }
 }
 
@@ -104,16 +87,10 @@ pub(crate) fn syndromes_at(search: Search, columns: &Matrix, k: usize) -> Syndro
     requires { Searches search × Columns search.row.q search.row.n columns.now × (k ≤ 48) }
     ensures { After search k result }
 {
-    let parity = search.parity;
-    let factors = factors_of(search.row, parity, search.s.lack);
+    let Search { row, s, parity } = search;
+    let factors = factors_of(row, parity, s.lack);
     Syndromes {
-        first: plus_column(search.row, columns, search.s.first, factors.first, k + 1),
-        second: plus_column(
-            search.row,
-            columns,
-            search.s.second,
-            factors.second,
-            k + parity,
-        ),
+        first: plus_column(row, columns, s.syndromes.first, factors.first, k + 1),
+        second: plus_column(row, columns, s.syndromes.second, factors.second, k + parity),
     }
 }

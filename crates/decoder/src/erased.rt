@@ -64,10 +64,7 @@ fn sums_in(row: Row, s: Totals) -> Sums
         excess: s.excess as i16,
         asked: s.asked,
         arrived: s.arrived,
-        syndromes: Syndromes {
-            first: s.first,
-            second: s.second,
-        },
+        syndromes: s.syndromes,
     }
 }
 
@@ -108,10 +105,9 @@ fn complete_one(
 {
     let mut x = [0u8; 97];
     let filling = find_one(row, word, i, &mut x).ok_or(Refusal::Unreadable)?;
-    let after = filling.syndromes;
     let y = filling.symbols[0];
     correct_components(row, word, i, y, &mut x);
-    write_pair(row, after.first, after.second, &mut x, first, second);
+    write_pair(row, filling.syndromes, &mut x, first, second);
     Ok(Decoded::Filled(Changes::One(Change {
         position: i + 1,
         symbol: y,
@@ -133,13 +129,12 @@ fn complete_two(
 {
     let mut x = [0u8; 97];
     let filling = find_two(row, word, i, j, &mut x).ok_or(Refusal::Unreadable)?;
-    let after = filling.syndromes;
     let y = filling.symbols[0];
     let z = filling.symbols[1];
     correct_components(row, word, i, y, &mut x);
     word[i] = y;
     correct_components(row, word, j, z, &mut x);
-    write_pair(row, after.first, after.second, &mut x, first, second);
+    write_pair(row, filling.syndromes, &mut x, first, second);
     Ok(Decoded::Filled(Changes::Two(
         Change {
             position: i + 1,

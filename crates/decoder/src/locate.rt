@@ -39,8 +39,7 @@ pub(crate) fn balancing_symbol(search: Search, x: u8) -> u8
     requires { Searches search }
     ensures { result ≡ balancing_symbol (parameters_of search) (sums_in search) x }
 {
-    let excess = search.s.excess;
-    less(search.row.q, x, excess)
+    less(search.row.q, x, search.s.excess)
 }
 
 // Whether the check symbol of the parity is off by as much as the weight, mod q.
@@ -48,10 +47,17 @@ fn off_by_lack(search: Search) -> bool
     requires { Searches search }
     ensures { result ≡ off_by_lack (parameters_of search) (sums_in search) (parity_of search) }
 {
+    let Totals {
+        lack,
+        asked,
+        arrived,
+        ..
+    } = search.s;
     if search.parity == 0 {
-        return add(search.row.q, search.s.asked.alpha, search.s.lack) == search.s.arrived.alpha;
+        add(search.row.q, asked.alpha, lack) == arrived.alpha
+    } else {
+        add(search.row.q, asked.beta, lack) == arrived.beta
     }
-    add(search.row.q, search.s.asked.beta, search.s.lack) == search.s.arrived.beta
 }
 
 // Whether the syndromes are near once the symbol at index k of the parity is corrected. At most positions neither is zero then, and
@@ -68,17 +74,20 @@ fn near_after(
 {
     let a = k + 1;
     let b = k + search.parity;
-    if !moves_to_zero(search.row, columns, search.s.first, by_first, a) {
-        if !moves_to_zero(search.row, columns, search.s.second, by_second, b) {
-            return false;
-        }
+    let row = search.row;
+    let s = search.s.syndromes;
+    if !moves_to_zero(row, columns, s.first, by_first, a)
+        && !moves_to_zero(row, columns, s.second, by_second, b)
+    {
+        return false;
     }
-    let first = moved(search.row, columns, search.s.first, by_first, a);
-    let second = moved(search.row, columns, search.s.second, by_second, b);
-    near(search.row.q, search.row.n, first, second)
+    let first = moved(row, columns, s.first, by_first, a);
+    let second = moved(row, columns, s.second, by_second, b);
+    near(row.q, row.n, first, second)
 }
 
 // Whether the symbol x at index k of the parity can be the one that changed: the three tests of a position.
+#[tactic(auto, using(crate::proofs::Sent::sent_none, crate::proofs::Sent::sent_some), unfolding(decoding_theory::specs::Decoded::fits))]
 fn fits(
     search: Search,
     columns: &Matrix,
@@ -90,13 +99,9 @@ fn fits(
     requires { Tries search columns.now by_first.now by_second.now × (k ≤ 48) }
     ensures { result ≡ fits (parameters_of search) (sums_in search) (parity_of search) k x }
 {
-    if balancing_symbol(search, x) == search.row.q {
-        return false;
-    }
-    if !off_by_lack(search) {
-        return false;
-    }
-    near_after(search, columns, by_first, by_second, k)
+    balancing_symbol(search, x) != search.row.q
+        && off_by_lack(search)
+        && near_after(search, columns, by_first, by_second, k)
 }
 
 // The first index of the parity that fits.
@@ -152,8 +157,8 @@ fn locate_error(search: Search, profile: usize) -> Option<usize>
         profile,
         search.parity == 0,
         search.s.excess,
-        search.s.first,
-        search.s.second,
+        search.s.syndromes.first,
+        search.s.syndromes.second,
     )
 }
 

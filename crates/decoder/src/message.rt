@@ -11,7 +11,7 @@ ghost use Rattle.decoder.specs.Outputs.{Restored, Outputs, Messages, RestoredMes
 
 use modular::sub;
 use profiles::Row;
-use symbols::{Body, Syndrome};
+use symbols::{Body, Syndrome, Syndromes};
 use syndromes::{is_zero, position};
 
 // One component restored by its syndrome: as it is, or with 1 taken from the symbol that the syndrome names.
@@ -59,20 +59,13 @@ fn extract(row: Row, x: &Body, first: &mut [u8], second: &mut [u8])
     copy_run(x, i, n, next, first, second);
 }
 
-// Both messages of the components in x, which have the syndromes s and t.
-pub(crate) fn write_pair(
-    row: Row,
-    s: Syndrome,
-    t: Syndrome,
-    x: &mut Body,
-    first: &mut [u8],
-    second: &mut [u8],
-)
-    requires { BodyArray row x.old × NearFourRows row (rows s) (rows t) × Outputs row first.old second.old }
+// Both messages of the components in x, which have the syndromes s.
+pub(crate) fn write_pair(row: Row, s: Syndromes, x: &mut Body, first: &mut [u8], second: &mut [u8])
+    requires { BodyArray row x.old × NearFourRows row (rows s.first) (rows s.second) × Outputs row first.old second.old }
     ensures { RestoredMessages (parameters row) (part true row.n x.old) (part false row.n x.old)
-        (rows_of row (rows s)) (rows_of row (rows t)) first.new second.new }
+        (rows_of row (rows s.first)) (rows_of row (rows s.second)) first.new second.new }
 {
-    restore(row, s, 0, x);
-    restore(row, t, 1, x);
+    restore(row, s.first, 0, x);
+    restore(row, s.second, 1, x);
     extract(row, x, first, second);
 }

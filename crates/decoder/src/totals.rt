@@ -9,7 +9,7 @@ ghost use Rattle.decoder.specs.Totals.{WholeWord, sums_of, Components, Totalled,
 use crate::differenced::take_components;
 use modular::negative;
 use profiles::Row;
-use symbols::{Body, Checks, Matrix, Syndrome, checks_of, syndromes_of, weigh};
+use symbols::{Body, Checks, Matrix, Syndromes, checks_of, syndromes_of, weigh};
 
 #[derive(Clone, Copy)]
 pub(crate) struct Totals {
@@ -20,9 +20,8 @@ pub(crate) struct Totals {
     // The check symbols α and β: as the body asks for, and as received.
     pub(crate) asked: Checks,
     pub(crate) arrived: Checks,
-    // The syndromes of the components.
-    pub(crate) first: Syndrome,
-    pub(crate) second: Syndrome,
+    // Those of the components.
+    pub(crate) syndromes: Syndromes,
 }
 
 // The sums over a word, of whose body x holds the differences.
@@ -30,24 +29,17 @@ fn total(row: Row, columns: &Matrix, word: &[u8], x: &Body) -> Totals
     requires { WholeWord row word.now × Components row word.now x.now × Columns row.q row.n columns.now }
     ensures { Totalled row result × (sums_of row result ≡ sums (parameters row) word.now) }
 {
-    let q = row.q;
     let m = row.balanced;
-    let sums = weigh(word, m, row.target);
-    let excess = sums.excess;
-    let asked = checks_of(q, row.delta, sums);
-    let alpha = word[m];
-    let beta = word[m + 1];
-    let arrived = Checks { alpha, beta };
-    let syndromes = syndromes_of(q, row.n, columns, x);
-    let first = syndromes.first;
-    let second = syndromes.second;
+    let weight = weigh(word, m, row.target);
     Totals {
-        excess,
-        lack: negative(q, excess),
-        asked,
-        arrived,
-        first,
-        second,
+        excess: weight.excess,
+        lack: negative(row.q, weight.excess),
+        asked: checks_of(row.q, row.delta, weight),
+        arrived: Checks {
+            alpha: word[m],
+            beta: word[m + 1],
+        },
+        syndromes: syndromes_of(row.q, row.n, columns, x),
     }
 }
 

@@ -65,8 +65,8 @@ fn judge(row: Row, s: Totals) -> Result<Decoded, Refusal>
         row.q,
         row.n,
         row.balanced as u8,
-        s.first,
-        s.second,
+        s.syndromes.first,
+        s.syndromes.second,
         s.asked,
         s.arrived,
     )?;
@@ -109,7 +109,7 @@ fn correct(
     let i = 2 * k + search.parity;
     let y = balancing_symbol(search, word[i]);
     correct_components(search.row, word, i, y, x);
-    write_pair(search.row, after.first, after.second, x, first, second);
+    write_pair(search.row, after, x, first, second);
     Decoded::Corrected(corrected(i + 1, word[i], y))
 }
 
@@ -162,7 +162,7 @@ fn decode_balanced(
         first.old first.new second.old second.new }
 {
     let found = judge(row, s)?;
-    write_pair(row, s.first, s.second, x, first, second);
+    write_pair(row, s.syndromes, x, first, second);
     Ok(found)
 }
 

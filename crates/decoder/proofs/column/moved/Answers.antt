@@ -1,7 +1,6 @@
 -- `decoder::column::moved` meets its contract: the four rows move as the rows of the definition do, and a column outside the matrix moves
 -- none.
 -- Assumes nothing.
-use mathlib.Core.Path.{subst}
 use Rattle.syndromes.proofs.Moving.{moved_still}
 use Rattle.decoder.proofs.Moving.{movable, moved_column, four_equal}
 use Rattle.decoder.proofs.column.moved.Goals as goal
