@@ -52,12 +52,7 @@ fn rewrite(
 // 02, T-04: a word of the edition of that number into the word of the other edition. Refused 12: the edition is neither 13 nor 18; 1: no
 // such profile; 2: the word or the output is not N long; 3, 11 and 4 as decoding refuses; 13: the word is read, but as corrected or filled.
 // A refusal leaves the output as it was.
-pub fn convert(
-    edition: usize,
-    profile: usize,
-    word: &[u8],
-    out: &mut [u8],
-) -> Result<(), Refusal>
+pub fn convert(edition: usize, profile: usize, word: &[u8], out: &mut [u8]) -> Result<(), Refusal>
     ensures { ConvertAllows edition profile word.now result out.old out.new }
 {
     let known = edition_of(edition).ok_or(Refusal::Edition)?;
