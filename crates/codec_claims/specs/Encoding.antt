@@ -58,4 +58,5 @@ pub record RefusesEncoding (e i l : ℕ) (a b : List ℕ) (r : Result Unit Refus
 
 abbrev pub EncodeRefuses : Type 0
 EncodeRefuses =
-    (e i l : ℕ) (a b : List ℕ) (r : Result Unit Refusal) (out out' : List ℕ) → EncodeAllows e i l a b r out out' → RefusesEncoding e i l a b r out out'
+    (e i l : ℕ) (a b : List ℕ) (r : Result Unit Refusal) (out out' : List ℕ) → EncodeAllows e i l a b r out out'
+    → RefusesEncoding e i l a b r out out'
