@@ -2,8 +2,10 @@
 ghost use Rattle.std.specs.Prelude.{◌≡◌, ◌≤◌, length};
 ghost use Rattle.code_theory.specs.Parameters.{message_length};
 ghost use Rattle.code_theory.specs.Profiles as Profiles;
+ghost use Rattle.code_theory.specs.Reading.{changes_of, error_of};
+ghost use Rattle.decoder.specs.Decode.{changes_in, finding_of};
 ghost use Rattle.decoder.specs.SyndromeDecode.{syndrome_report};
-ghost use Rattle.lines_theory.specs.Line.{answer_line, read_answer};
+ghost use Rattle.lines_theory.specs.Line.{letter, answer_line, read_answer};
 ghost use Rattle.answers.specs.Writing.{Written, shown_line, Small};
 
 use decoder::{Change, Changes, Decoded};
@@ -12,6 +14,31 @@ use refusals::Refusal;
 
 // 02, T-03: boxlines stays with the edition of 2013.
 const EDITION: usize = 13;
+
+// The kind of a reading, its changes and its error. A clean word has zeros for its change.
+fn fields(decoded: Decoded) -> (u8, Changes, i16)
+    ensures kind { result.0 ≡ letter (finding_of decoded) }
+    ensures changes { changes_in result.1 ≡ changes_of (finding_of decoded) }
+    ensures error { result.2 ≡ error_of (finding_of decoded) }
+{
+    match decoded {
+        Decoded::Clean => {
+            let none = Change {
+                position: 0,
+                symbol: 0,
+            };
+            (b'C', Changes::One(none), 0)
+        }
+        Decoded::Corrected(c) => {
+            let one = Change {
+                position: c.position,
+                symbol: c.symbol,
+            };
+            (b'M', Changes::One(one), c.error)
+        }
+        Decoded::Filled(changes) => (b'F', changes, 0),
+    }
+}
 
 // What decoding answered, as a line.
 fn write_decoded(
@@ -27,23 +54,9 @@ fn write_decoded(
         (shown_line profile (syndrome_report decoded) first.now second.now) }
 {
     match decoded {
-        Ok(Decoded::Clean) => {
-            let none = Change {
-                position: 0,
-                symbol: 0,
-            };
-            crate::text::reading_line(out, profile, b'C', Changes::One(none), 0, first, second)
-        }
-        Ok(Decoded::Corrected(c)) => {
-            let one = Change {
-                position: c.position,
-                symbol: c.symbol,
-            };
-            let error = c.error;
-            crate::text::reading_line(out, profile, b'M', Changes::One(one), error, first, second)
-        }
-        Ok(Decoded::Filled(changes)) => {
-            crate::text::reading_line(out, profile, b'F', changes, 0, first, second)
+        Ok(read) => {
+            let (kind, changes, error) = fields(read);
+            crate::text::reading_line(out, profile, kind, changes, error, first, second)
         }
         Err(refusal) => crate::text::refusal_line(out, refusal),
     }
