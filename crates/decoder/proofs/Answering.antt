@@ -30,7 +30,8 @@ use Rattle.syndromes.specs.Judgement.{judgement_report, balanced_report}
 use Rattle.decoder.specs.declared.word.Decoded.{Decoded}
 use Rattle.decoder.specs.declared.word.Decoded.TheVariants.{Clean, Corrected}
 use Rattle.decoder.specs.declared.word.Decoding.{Decoding}
-use Rattle.decoder.specs.Sides.{is_first}
+use Rattle.decoder.specs.declared.parity.Parity.{Parity}
+use Rattle.decoder.specs.Parity.{is_odd}
 use Rattle.decoder.specs.Outputs.{RestoredMessages}
 use Rattle.decoder.specs.Decode.{finding_of, report_of, ReadAs, Answers}
 use Rattle.decoder.specs.Steps.{JudgedAs, Judged, wrong_parity}
@@ -144,22 +145,22 @@ module _ (p : Parameters) (s : Sums) where
     answer_for b = answered (decoded_body p s b v) (tried_body p s b v)
 
     -- by the parity that is wrong
-    abbrev AnsweredFor : Option ℕ → Type 0
+    abbrev AnsweredFor : Option Parity → Type 0
     AnsweredFor None = answer ≡ answered unreadable 0
-    AnsweredFor (Some parity) = (parity ≤ 1) × (answer ≡ answer_for (is_first parity))
+    AnsweredFor (Some parity) = answer ≡ answer_for (is_odd parity)
 
     unbalanced : (a b : Bool) → agrees s true ≡ a → agrees s false ≡ b → AnsweredFor (wrong_parity a b)
     unfolding decoded_unbalanced tried_unbalanced
     unbalanced true true e f = rw (e, decoded_unbalanced, tried_unbalanced, f)
-    unbalanced true false e f = (omega arith, rw (e, decoded_unbalanced, tried_unbalanced, f))
-    unbalanced false true e f = (omega arith, rw (e, decoded_unbalanced, tried_unbalanced, f))
+    unbalanced true false e f = rw (e, decoded_unbalanced, tried_unbalanced, f)
+    unbalanced false true e f = rw (e, decoded_unbalanced, tried_unbalanced, f)
     unbalanced false false e f = rw (e, decoded_unbalanced, tried_unbalanced, f)
 
-    module _ {o : Option ℕ} (e : o ≡ wrong_parity (agrees s true) (agrees s false)) where
+    module _ {o : Option Parity} (e : o ≡ wrong_parity (agrees s true) (agrees s false)) where
       pub unbalanced_none : o ≡ None → answer ≡ answered unreadable 0
       unbalanced_none f = subst AnsweredFor (sym e ∙ f) (unbalanced (agrees s true) (agrees s false) refl refl)
 
-      pub unbalanced_one : {parity : ℕ} → o ≡ Some parity → (parity ≤ 1) × (answer ≡ answer_for (is_first parity))
+      pub unbalanced_one : {parity : Parity} → o ≡ Some parity → answer ≡ answer_for (is_odd parity)
       unbalanced_one f = subst AnsweredFor (sym e ∙ f) (unbalanced (agrees s true) (agrees s false) refl refl)
 
     -- The search for the changed symbol.

@@ -4,7 +4,7 @@ use mathlib.Core.Path.{◌≡◌, refl, sym, ap, ◌∙◌}
 use mathlib.Core.Logic.{◌⊎◌, inl, inr}
 use mathlib.Core.Bool.{Bool, true, false}
 use mathlib.Core.List.{List, [], ◌∷◌}
-use Prim.Native.Nat.{ℕ, zero, suc, ◌+◌, ◌-◌, ◌*◌, ◌/◌, ◌%◌, ◌≤◌, ◌<◌}
+use Prim.Native.Nat.{ℕ, zero, suc, ◌+◌, ◌-◌, ◌*◌, ◌/◌, ◌%◌, ◌<◌}
 use native.Mathlib.Omega.{arith}
 use lib.Dec.{eqb}
 use lib.ListN.{get_or}
@@ -20,12 +20,11 @@ use Rattle.profiles.specs.Row.{parameters, Valid}
 use Rattle.symbols.specs.declared.sums.Syndrome.{Syndrome}
 use Rattle.symbols.specs.declared.sums.Syndromes.{Syndromes}
 use Rattle.symbols.specs.Syndromes.{rows}
-use Rattle.decoder.specs.Sides.{is_first}
 use Rattle.syndromes.specs.Rows.{FourRows, rows_of, Moved}
 use Rattle.decoder.specs.Search.{Moves}
 use Rattle.decoder.specs.Erased.{SameRows, SameErased, in_body_lem, as_check_lem, OneMore}
 use Rattle.syndromes.proofs.FourRows.{row_cases, rows_digit, rows_last}
-use Rattle.decoder.proofs.Gaining.{first_test, first_column, second_column, moved_by}
+use Rattle.decoder.proofs.Gaining.{first_column, moved_by}
 
 -- the four rows of a word of zeros
 abbrev pub zero_row : List ℕ
@@ -68,15 +67,13 @@ module _ (t : Row) (v : Valid t) where
       record { four = s; levels = m.levels; is = refl; are = sym (m.are ∙ moved_zero f a ∙ moved_by p c b k (gain_by p 1) f-is a-is []) }
 
   -- what one more of a symbol of the body adds
-  pub added_one : (i : ℕ) {F G : List ℕ} (y : Syndromes) → Moves t (is_first (i % 2)) 1 F G
-      → Moved t (get_or F 1 0) (i / 2 + 1) zero_row (rows y.first)
-      → Moved t (get_or G 1 0) (i / 2 + i % 2) zero_row (rows y.second) → OneMore t i y
-  added_one i y w m m' =
-      let b : Bool = is_first (i % 2) in
-      let even : i % 2 ≤ 1 = omega arith in
+  pub added_one : (i : ℕ) {b : Bool} {a : ℕ} {F G : List ℕ} (y : Syndromes) → b ≡ eqb (i % 2) 0 → a ≡ column_of false b (i / 2)
+      → Moves t b 1 F G → Moved t (get_or F 1 0) (i / 2 + 1) zero_row (rows y.first) → Moved t (get_or G 1 0) a zero_row (rows y.second)
+      → OneMore t i y
+  added_one i {b} y is a-is w m m' =
       record {
-        first = rw (first_test (i % 2)) (more_rows true b (i / 2) w.first_by (first_column b (i / 2)) m);
-        second = rw (first_test (i % 2)) (more_rows false b (i / 2) w.second_by (second_column (i % 2) (i / 2) even) m');
+        first = rw (← is) (more_rows true b (i / 2) w.first_by (first_column b (i / 2)) m);
+        second = rw (← is) (more_rows false b (i / 2) w.second_by a-is m');
       }
 
   -- The erased symbol at an index.

@@ -1,10 +1,10 @@
 -- The tests of a position, and the search for the first that passes them.
 -- Assumes nothing.
-use mathlib.Core.Path.{◌≡◌, refl, ap, ◌∙◌}
+use mathlib.Core.Path.{◌≡◌, ap, ◌∙◌}
 use mathlib.Core.Logic.{⊎_elim}
 use mathlib.Core.Bool.{Bool, true, false}
 use mathlib.Core.List.{List}
-use Prim.Native.Nat.{ℕ, zero, suc, ◌+◌, ◌-◌, ◌*◌, ◌%◌, ◌≤◌, ◌<◌}
+use Prim.Native.Nat.{ℕ, ◌+◌, ◌%◌, ◌≤◌, ◌<◌}
 use native.Mathlib.Omega.{arith}
 use lib.Dec.{eqb}
 use lib.ListN.{get_or}
@@ -12,56 +12,38 @@ use Rattle.modular_theory.specs.Search.{least}
 use Rattle.modular_theory.proofs.Search.{least_is, least_le, least_hit, le_or_lt, holds}
 use Rattle.code_theory.specs.Parameters.{Parameters}
 use Rattle.code_theory.proofs.Merge.{cases}
-use Rattle.decoding_theory.specs.Syndromes.{near_syndromes, index, moved, moved_of}
+use Rattle.decoding_theory.specs.Syndromes.{near_syndromes, index, moved, column_of, moved_of}
 use Rattle.decoding_theory.specs.Decoded.{Sums, gain_by, gain, in_range, off_by_lack, near_after, fits, position_count, first_fit}
 use Rattle.decoding_theory.proofs.Tests.{false_test}
-use Rattle.decoder.specs.declared.locate.Search.{Search}
-use Rattle.decoder.specs.Sides.{is_first}
-use Rattle.decoder.specs.Totals.{Totalled}
-use Rattle.decoder.specs.Search.{parameters_of, sums_in, parity_of, Searches, FactorsOf, Tries, after}
-use Rattle.decoder.proofs.Gaining.{first_column, second_column, moved_by}
-
--- Parities by number.
-
-pub index_is : (parity k : ℕ) → parity ≤ 1 → index (is_first parity) k ≡ 2 * k + parity
-index_is zero k h = omega arith
-index_is (suc zero) k h = refl
-index_is (suc (suc j)) k h = absurd (omega arith)
-
-pub positions_are : (p : Parameters) (parity : ℕ) → parity ≤ 1 → position_count p (is_first parity) ≡ p.n + 1 - parity
-positions_are p zero h = omega arith
-positions_are p (suc zero) h = omega arith
-positions_are p (suc (suc j)) h = absurd (omega arith)
-
-not_first : (parity : ℕ) → (parity ≡ 0 → ⊥) → is_first parity ≡ false
-not_first zero z = absurd (z refl)
-not_first (suc parity) z = refl
+use Rattle.decoder.specs.declared.search.Search.{Search}
+use Rattle.decoder.specs.declared.parity.Parity.TheVariants.{Odd, Even}
+use Rattle.decoder.specs.Search.{parameters_of, sums_in, parity_of, FactorsOf, Tries, after}
+use Rattle.decoder.proofs.Gaining.{first_column, moved_by}
 
 -- the check symbol of the parity
-module _ (x : Search) (w : Totalled x.row x.s) {y : ℕ} where
-  pub off_odd : x.parity ≡ 0 → y ≡ (x.s.asked.alpha + x.s.lack) % x.row.q
+module _ (x : Search) {y : ℕ} where
+  pub off_odd : x.parity ≡ Odd → y ≡ (x.s.asked.alpha + x.s.lack) % x.row.q
       → eqb y x.s.arrived.alpha ≡ off_by_lack (parameters_of x) (sums_in x) (parity_of x)
   unfolding off_by_lack
-  off_odd z e = rw (z, ← w.lacks, e)
+  off_odd z e = rw (z, ← x.totalled.lacks, e)
 
-  pub off_even : (x.parity ≡ 0 → ⊥) → y ≡ (x.s.asked.beta + x.s.lack) % x.row.q
+  pub off_even : x.parity ≡ Even → y ≡ (x.s.asked.beta + x.s.lack) % x.row.q
       → eqb y x.s.arrived.beta ≡ off_by_lack (parameters_of x) (sums_in x) (parity_of x)
   unfolding off_by_lack
-  off_even z e = rw (not_first x.parity z, ← w.lacks, e)
+  off_even z e = rw (z, ← x.totalled.lacks, e)
 
 -- A syndrome with a multiple of its column added is the one after the correction.
-module _ {x : Search} (given : Searches x) {f g : ℕ} (fs : FactorsOf x.row (parity_of x) x.s.lack f g) (k : ℕ) (S : List ℕ) where
+module _ (x : Search) {f g : ℕ} (fs : FactorsOf x.row (parity_of x) x.s.lack f g) (k : ℕ) (S : List ℕ) where
   -- component c's, where what the symbol lacks is as it was summed up
   lacking : (c : Bool) → moved_of (parameters_of x) c (parity_of x) k (gain_by (parameters_of x) x.s.lack) S ≡ after x k c S
   lacking c =
-      ap (λ (e : ℕ). moved_of (parameters_of x) c (parity_of x) k (gain_by (parameters_of x) e) S) given.totalled.lacks
+      ap (λ (e : ℕ). moved_of (parameters_of x) c (parity_of x) k (gain_by (parameters_of x) e) S) x.totalled.lacks
 
   pub first_after : moved (parameters_of x) f (k + 1) S ≡ after x k true S
   first_after = moved_by _ true (parity_of x) k _ fs.first_is (first_column (parity_of x) k) S ∙ lacking true
 
-  pub second_after : moved (parameters_of x) g (k + x.parity) S ≡ after x k false S
-  second_after =
-      moved_by _ false (parity_of x) k _ fs.second_is (second_column x.parity k given.parity_number) S ∙ lacking false
+  pub second_after : {a : ℕ} → a ≡ column_of false (parity_of x) k → moved (parameters_of x) g a S ≡ after x k false S
+  second_after a-is = moved_by _ false (parity_of x) k _ fs.second_is a-is S ∙ lacking false
 
 -- so it is by the tables
 module _ {x : Search} {columns : List (List ℕ)} {F G : List ℕ} (a : Tries x columns F G) (k : ℕ) (S : List ℕ) where
@@ -69,10 +51,10 @@ module _ {x : Search} {columns : List (List ℕ)} {F G : List ℕ} (a : Tries x 
   factors_by = record { first_is = a.moves.first_by; second_is = a.moves.second_by }
 
   pub first_moved : moved (parameters_of x) (get_or F 1 0) (k + 1) S ≡ after x k true S
-  first_moved = first_after a.given factors_by k S
+  first_moved = first_after x factors_by k S
 
-  pub second_moved : moved (parameters_of x) (get_or G 1 0) (k + x.parity) S ≡ after x k false S
-  second_moved = second_after a.given factors_by k S
+  pub second_moved : {b : ℕ} → b ≡ column_of false (parity_of x) k → moved (parameters_of x) (get_or G 1 0) b S ≡ after x k false S
+  second_moved = second_after x factors_by k S
 
 -- A position fits where it passes the three tests.
 module _ (p : Parameters) (S : Sums) (b : Bool) (k x : ℕ) where
@@ -104,32 +86,25 @@ least_none test n f =
     ⊎_elim (λ (h : n ≤ least test n). omega (arith, least_le test n))
     (λ (h : least test n < n). absurd (false_test (f (least test n) h) (least_hit test n h))) (le_or_lt n (least test n))
 
-module _ (p : Parameters) (S : Sums) (word : List ℕ) (parity : ℕ) (h : parity ≤ 1) where
+module _ (p : Parameters) (S : Sums) (word : List ℕ) (b : Bool) where
   -- the test of index k
-  abbrev test_at : ℕ → Bool
-  test_at k = fits p S (is_first parity) k (get_or word (2 * k + parity) 0)
-
-  -- as the definition has it
-  abbrev test_of : ℕ → Bool
-  test_of k = fits p S (is_first parity) k (get_or word (index (is_first parity) k) 0)
-
-  same : (k : ℕ) → test_of k ≡ test_at k
-  same k = ap (λ (i : ℕ). fits p S (is_first parity) k (get_or word i 0)) (index_is parity k h)
+  abbrev test : ℕ → Bool
+  test k = fits p S b k (get_or word (index b k) 0)
 
   abbrev first : ℕ
-  first = first_fit p S (is_first parity) word
+  first = first_fit p S b word
 
   abbrev count : ℕ
-  count = position_count p (is_first parity)
+  count = position_count p b
 
-  pub first_found : (k : ℕ) → k < count → ((j : ℕ) → j < k → test_at j ≡ false) → test_at k ≡ true → (first ≡ k) × (k < count)
+  pub first_found : (k : ℕ) → k < count → ((j : ℕ) → j < k → test j ≡ false) → test k ≡ true → (first ≡ k) × (k < count)
   unfolding first_fit
-  first_found k l f e = (least_is test_of count k l (holds _ (same k ∙ e)) (λ j i. false_test (same j ∙ f j i)), l)
+  first_found k l f e = (least_is test count k l (holds _ e) (λ j i. false_test (f j i)), l)
 
-  pub none_found : ((j : ℕ) → j < count → test_at j ≡ false) → first ≡ count
+  pub none_found : ((j : ℕ) → j < count → test j ≡ false) → first ≡ count
   unfolding first_fit
-  none_found f = least_none test_of count (λ j i. same j ∙ f j i)
+  none_found f = least_none test count f
 
   -- nothing fits where the check symbol is off by something else than the weight
-  pub none_off : off_by_lack p S (is_first parity) ≡ false → first ≡ count
-  none_off e = none_found (λ j i. fits_off p S (is_first parity) j (get_or word (2 * j + parity) 0) e)
+  pub none_off : off_by_lack p S b ≡ false → first ≡ count
+  none_off e = none_found (λ j i. fits_off p S b j (get_or word (index b j) 0) e)

@@ -1,17 +1,15 @@
 -- The multiples by which a symbol that gains something moves the syndromes: those of what it gains or of the negative, by the component,
 -- the parity and the edition.
 -- Assumes nothing.
-use mathlib.Core.Path.{◌≡◌, refl, sym, ap, ◌∙◌}
-use mathlib.Core.Bool.{Bool, true, false, not}
+use mathlib.Core.Path.{◌≡◌, sym, ap, ◌∙◌}
+use mathlib.Core.Bool.{Bool, true, false}
 use mathlib.Core.List.{List}
-use Prim.Native.Nat.{ℕ, zero, suc, ◌+◌, ◌-◌, ◌%◌, ◌≤◌, ◌<◌}
-use native.Mathlib.Nat.{zero-add, not-suc-le-zero}
+use Prim.Native.Nat.{ℕ, ◌+◌, ◌-◌, ◌%◌, ◌≤◌, ◌<◌}
+use native.Mathlib.Nat.{zero-add}
 use native.Mathlib.Numerals.{add-one}
 use native.Mathlib.Omega.{arith}
-use lib.Dec.{eqb}
 use lib.ListN.{get_or}
 use Rattle.std.specs.Prelude.{if◌then◌else◌}
-use borrow.Author.Tests.{ne_eqb}
 use Rattle.modular_theory.specs.Residue.{minus}
 use Rattle.modular_theory.proofs.Residue.{of_eq, ◌then◌, reduce, minus_is, already_reduced}
 use Rattle.code_theory.specs.Parameters.{Edition, edition13, edition18, Parameters, in_edition}
@@ -20,26 +18,9 @@ use Rattle.decoding_theory.specs.Decoded.{gain_by}
 use Rattle.profiles.specs.declared.row.Row.{Row}
 use Rattle.profiles.specs.Row.{parameters}
 use Rattle.decoder.specs.Multiples.{Multiples}
-use Rattle.decoder.specs.Sides.{is_first}
-use Rattle.decoder.specs.Direction.{is_backward, first_loses}
+use Rattle.decoder.specs.Direction.{first_loses}
 use Rattle.decoder.specs.Search.{FactorsOf, Moves}
 use Rattle.syndromes.proofs.Moving.{moved_congruent}
-
--- the test of a parity by its number
-pub first_test : (parity : ℕ) → eqb parity 0 ≡ is_first parity
-first_test zero = refl
-first_test (suc parity) = ne_eqb (suc parity) 0 (λ z. not-suc-le-zero {n = 0} (omega (arith, z)))
-
-module _ (p : Parameters) (parity : ℕ) where
-  -- by the direction
-  abbrev loses_by : Bool → Bool
-  loses_by d = elim d [ true ↦ not (is_first parity) | false ↦ is_first parity ]
-
-  pub loses_backward : is_backward p ≡ true → not (eqb parity 0) ≡ first_loses p (is_first parity)
-  loses_backward e = ap not (first_test parity) ∙ ap loses_by (sym e)
-
-  pub loses_forward : is_backward p ≡ false → eqb parity 0 ≡ first_loses p (is_first parity)
-  loses_forward e = first_test parity ∙ ap loses_by (sym e)
 
 -- A symbol of the parity b gains e.
 module _ (p : Parameters) {e : ℕ} (small : e < p.q) (b : Bool) where
@@ -99,11 +80,6 @@ module _ (t : Row) {e : ℕ} (small : e < t.q) (b : Bool) {less : ℕ} (less-is 
 
 pub first_column : (b : Bool) (k : ℕ) → k + 1 ≡ column_of true b k
 first_column b k = add-one k
-
-pub second_column : (parity k : ℕ) → parity ≤ 1 → k + parity ≡ column_of false (is_first parity) k
-second_column zero k h = omega arith
-second_column (suc zero) k h = omega arith
-second_column (suc (suc j)) k h = absurd (omega arith)
 
 -- a syndrome with a multiple of such a column added is the one after the gain
 pub moved_by : (p : Parameters) (c b : Bool) (k g : ℕ) {f a : ℕ} → f ≡ times p c b g % p.q → a ≡ column_of c b k → (S : List ℕ)

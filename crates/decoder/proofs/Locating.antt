@@ -20,7 +20,7 @@ use Rattle.profiles.specs.Edition.{edition_is}
 use Rattle.profiles.specs.Row.{parameters, RowOf}
 use Rattle.symbols.specs.Syndromes.{rows}
 use Rattle.syndromes.specs.Rows.{rows_among, rows_of}
-use Rattle.decoder.specs.declared.locate.Search.{Search}
+use Rattle.decoder.specs.declared.search.Search.{Search}
 use Rattle.decoder.specs.Totals.{WholeWord}
 use Rattle.decoder.specs.Search.{parameters_of, sums_in, parity_of}
 

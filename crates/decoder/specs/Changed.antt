@@ -2,7 +2,7 @@
 -- Assumes nothing.
 use Rattle.std.specs.Prelude.{◌≡◌, List, ℕ, Option, Some, None}
 use Rattle.symbols.specs.declared.sums.Syndromes.{Syndromes}
-use Rattle.decoder.specs.declared.locate.Search.{Search}
+use Rattle.decoder.specs.declared.search.Search.{Search}
 use Rattle.decoder.specs.declared.method.ChangedSymbol.{ChangedSymbol}
 use Rattle.decoder.specs.Search.{After}
 use Rattle.decoder.specs.Locate.{FirstFit}

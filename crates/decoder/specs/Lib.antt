@@ -3,6 +3,7 @@ pub mod Method
 pub mod Multiples
 pub mod Rows
 pub mod Sides
+pub mod Parity
 pub mod Received
 pub mod Totals
 pub mod Search

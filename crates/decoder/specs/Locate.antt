@@ -5,9 +5,9 @@ use Rattle.decoding_theory.specs.Decoded.{position_count, first_fit}
 use Rattle.decoding_theory.specs.TriedPositions.{tried_body}
 use Rattle.locating_theory.specs.ErrorPosition.{error_position}
 use Rattle.locator.specs.Location.{location_of}
-use Rattle.decoder.specs.declared.locate.Search.{Search}
+use Rattle.decoder.specs.declared.search.Search.{Search}
 use Rattle.decoder.specs.Totals.{WholeWord}
-use Rattle.decoder.specs.Search.{parameters_of, sums_in, parity_of, Searches}
+use Rattle.decoder.specs.Search.{parameters_of, sums_in, parity_of}
 
 -- the first index of the word that fits is found, or that there is none
 abbrev pub FirstFit : Search → List ℕ → Option ℕ → Type 0
@@ -21,7 +21,6 @@ tried_in x word = tried_body (parameters_of x) (sums_in x) (parity_of x) word
 
 -- index k of the word is the first that fits
 pub record FitsFirst (x : Search) (word : List ℕ) (k : ℕ) : Type 0 where
-  pub given : Searches x
   pub is : WholeWord x.row word
   pub first : first_fit (parameters_of x) (sums_in x) (parity_of x) word ≡ k
   pub within : k < position_count (parameters_of x) (parity_of x)

@@ -1,19 +1,19 @@
 -- What the search for a changed symbol goes by, and what correcting one does to the syndromes.
 -- Assumes nothing.
-use Rattle.std.specs.Prelude.{◌≡◌, Bool, true, false, List, ℕ, ◌%◌, ◌≤◌, get_or}
+use Rattle.std.specs.Prelude.{◌≡◌, Bool, true, false, List, ℕ, ◌%◌, get_or}
 use Rattle.code_theory.specs.Parameters.{Parameters}
 use Rattle.decoding_theory.specs.Syndromes.{times, moved_of}
 use Rattle.decoding_theory.specs.Decoded.{Sums, gain_by, gain}
 use Rattle.profiles.specs.declared.row.Row.{Row}
-use Rattle.profiles.specs.Row.{Valid, parameters}
+use Rattle.profiles.specs.Row.{parameters}
 use Rattle.symbols.specs.declared.sums.Syndromes.{Syndromes}
 use Rattle.symbols.specs.Columns.{Columns}
 use Rattle.symbols.specs.Syndromes.{rows}
-use Rattle.decoder.specs.declared.locate.Search.{Search}
+use Rattle.decoder.specs.declared.search.Search.{Search}
 use Rattle.decoder.specs.Multiples.{Multiples}
 use Rattle.syndromes.specs.Rows.{FourRows, rows_of}
-use Rattle.decoder.specs.Sides.{is_first}
-use Rattle.decoder.specs.Totals.{sums_of, Totalled}
+use Rattle.decoder.specs.Parity.{is_odd}
+use Rattle.decoder.specs.Totals.{sums_of}
 
 -- the parameters, the sums and the parity, as the definitions of crate decoding_theory have them
 abbrev pub parameters_of : Search → Parameters
@@ -23,13 +23,7 @@ abbrev pub sums_in : Search → Sums
 sums_in x = sums_of x.row x.s
 
 abbrev pub parity_of : Search → Bool
-parity_of x = is_first x.parity
-
--- a row with the sums over a word, and one of the two parities
-pub record Searches (x : Search) : Type 0 where
-  pub valid : Valid x.row
-  pub totalled : Totalled x.row x.s
-  pub parity_number : x.parity ≤ 1
+parity_of x = is_odd x.parity
 
 -- how often the column comes in, in the first component and in the second, where a symbol of the parity b gains e
 pub record FactorsOf (t : Row) (b : Bool) (e f g : ℕ) : Type 0 where
@@ -45,7 +39,6 @@ pub record Moves (t : Row) (b : Bool) (e : ℕ) (byFirst bySecond : List ℕ) : 
 
 -- what a position is tried with: all of that, and the row's columns
 pub record Tries (x : Search) (columns : List (List ℕ)) (byFirst bySecond : List ℕ) : Type 0 where
-  pub given : Searches x
   pub table : Columns x.row.q x.row.n columns
   pub moves : Moves x.row (parity_of x) x.s.lack byFirst bySecond
 

@@ -17,15 +17,17 @@ use Rattle.profiles.specs.Refusal.{decode_number, screening, screened}
 use Rattle.profiles.specs.Row.{parameters, RowOf}
 use Rattle.symbols.specs.Syndromes.{part}
 use Rattle.decoder.specs.declared.totals.Totals.{Totals}
+use Rattle.decoder.specs.declared.parity.Parity.{Parity}
+use Rattle.decoder.specs.declared.parity.Parity.TheVariants.{Odd, Even}
 use Rattle.decoder.specs.declared.word.Decoded.{Decoded}
 use Rattle.decoder.specs.Totals.{sums_of}
 use Rattle.decoder.specs.Decode.{finding_of, ReadAs}
 
 -- the parity whose check symbol alone disagrees, by whether each agrees
-abbrev pub wrong_parity : Bool → Bool → Option ℕ
+abbrev pub wrong_parity : Bool → Bool → Option Parity
 wrong_parity true true = None
-wrong_parity true false = Some 1
-wrong_parity false true = Some 0
+wrong_parity true false = Some Even
+wrong_parity false true = Some Odd
 wrong_parity false false = None
 
 -- a balanced body with the sums s is read with the finding f: its components are then near codewords

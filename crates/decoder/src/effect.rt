@@ -2,14 +2,15 @@
 ghost use Rattle.std.specs.Prelude.{◌≡◌, ◌≤◌, ◌<◌, if◌then◌else◌};
 ghost use Rattle.profiles.specs.Row.{Valid, parameters};
 ghost use Rattle.symbols.specs.Columns.{Columns};
-ghost use Rattle.decoder.specs.Sides.{is_first};
+ghost use Rattle.decoder.specs.Parity.{is_odd};
 ghost use Rattle.decoder.specs.Direction.{first_loses};
-ghost use Rattle.decoder.specs.Search.{Searches, FactorsOf, Moves, Tries, After};
+ghost use Rattle.decoder.specs.Search.{FactorsOf, Moves, Tries, After};
 
 use crate::column::{moved, plus_column};
 use crate::differenced::is_backward;
-use crate::locate::Search;
 use crate::multiples::multiples;
+use crate::parity::Parity;
+use crate::search::Search;
 use modular::sub;
 use profiles::Row;
 use symbols::{Matrix, Syndromes};
@@ -23,16 +24,16 @@ pub(crate) struct Sides<T> {
 
 // Whether the first component loses what a symbol of the parity gains, and the second gains it; if not, it is the other way round. This is
 // all that the edition decides here.
-fn first_loses(row: Row, parity: usize) -> bool
-    ensures { result ≡ first_loses (parameters row) (is_first parity) }
+fn first_loses(row: Row, parity: Parity) -> bool
+    ensures { result ≡ first_loses (parameters row) (is_odd parity) }
 {
-    is_backward(row) != (parity == 0)
+    is_backward(row) != parity.is_odd()
 }
 
 // What stands for the gain where a symbol of the parity gains it, and for its negative.
-fn by_side<T>(row: Row, parity: usize, more: T, less: T) -> Sides<T>
-    ensures first { result.first ≡ if first_loses (parameters row) (is_first parity) then less else more }
-    ensures second { result.second ≡ if first_loses (parameters row) (is_first parity) then more else less }
+fn by_side<T>(row: Row, parity: Parity, more: T, less: T) -> Sides<T>
+    ensures first { result.first ≡ if first_loses (parameters row) (is_odd parity) then less else more }
+    ensures second { result.second ≡ if first_loses (parameters row) (is_odd parity) then more else less }
 {
     if first_loses(row, parity) {
         Sides {
@@ -48,17 +49,17 @@ fn by_side<T>(row: Row, parity: usize, more: T, less: T) -> Sides<T>
 }
 
 // How often the column comes in where a symbol of the parity gains e: e times and its negative.
-fn factors_of(row: Row, parity: usize, e: u8) -> Sides<u8>
+fn factors_of(row: Row, parity: Parity, e: u8) -> Sides<u8>
     requires { Valid row × (e < row.q) }
-    ensures { FactorsOf row (is_first parity) e result.first result.second }
+    ensures { FactorsOf row (is_odd parity) e result.first result.second }
 {
     by_side(row, parity, e, sub(row.q, 0, e))
 }
 
 // The multiples of both, of each level, for trying many columns. Each table is made before it is known whose it is, which is quicker.
-pub(crate) fn effect_of(row: Row, parity: usize, e: u8) -> Sides<[u8; 16]>
+pub(crate) fn effect_of(row: Row, parity: Parity, e: u8) -> Sides<[u8; 16]>
     requires { Valid row × (e < row.q) }
-    ensures { Moves row (is_first parity) e result.first result.second }
+    ensures { Moves row (is_odd parity) e result.first result.second }
 {
     let more = multiples(row.q, e);
     let less = multiples(row.q, sub(row.q, 0, e));
@@ -78,19 +79,31 @@ pub(crate) fn syndromes_after(
     let Search { row, s, parity } = search;
     Syndromes {
         first: moved(row, columns, s.syndromes.first, &effect.first, k + 1),
-        second: moved(row, columns, s.syndromes.second, &effect.second, k + parity),
+        second: moved(
+            row,
+            columns,
+            s.syndromes.second,
+            &effect.second,
+            parity.second_column(k),
+        ),
     }
 }
 
 // The same where no position was tried: for one column each a table would cost more.
 pub(crate) fn syndromes_at(search: Search, columns: &Matrix, k: usize) -> Syndromes
-    requires { Searches search × Columns search.row.q search.row.n columns.now × (k ≤ 48) }
+    requires { Columns search.row.q search.row.n columns.now × (k ≤ 48) }
     ensures { After search k result }
 {
     let Search { row, s, parity } = search;
     let factors = factors_of(row, parity, s.lack);
     Syndromes {
         first: plus_column(row, columns, s.syndromes.first, factors.first, k + 1),
-        second: plus_column(row, columns, s.syndromes.second, factors.second, k + parity),
+        second: plus_column(
+            row,
+            columns,
+            s.syndromes.second,
+            factors.second,
+            parity.second_column(k),
+        ),
     }
 }

@@ -15,6 +15,7 @@ use crate::column::moved;
 use crate::differenced::correct_components;
 use crate::effect::effect_of;
 use crate::message::write_pair;
+use crate::parity::Parity;
 use crate::totals::{Totals, sums_of};
 use crate::word::{Change, Changes, Decoded};
 use fillings::{Erased, Filling, Sums, cleared, fill_one, fill_two};
@@ -28,12 +29,12 @@ fn one_more(row: Row, columns: &Matrix, i: usize) -> Syndromes
     ensures { OneMore row i result }
 {
     let zero = Syndrome::ZERO;
-    let parity = i % 2;
+    let parity = Parity::of(i);
     let k = i / 2;
     let effect = effect_of(row, parity, 1);
     Syndromes {
         first: moved(row, columns, zero, &effect.first, k + 1),
-        second: moved(row, columns, zero, &effect.second, k + parity),
+        second: moved(row, columns, zero, &effect.second, parity.second_column(k)),
     }
 }
 
@@ -49,10 +50,10 @@ fn erased_at(row: Row, columns: &Matrix, i: usize) -> Erased
         return Erased::Beta;
     }
     let adds = one_more(row, columns, i);
-    if i % 2 == 0 {
-        return Erased::Odd(adds);
+    match Parity::of(i) {
+        Parity::Odd => Erased::Odd(adds),
+        Parity::Even => Erased::Even(adds),
     }
-    Erased::Even(adds)
 }
 
 // The sums that filling starts from.

@@ -11,6 +11,8 @@ mod locate;
 mod message;
 mod method;
 mod multiples;
+mod parity;
+mod search;
 mod syndrome;
 mod totals;
 mod word;

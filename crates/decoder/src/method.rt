@@ -4,12 +4,11 @@ ghost use Rattle.profiles.specs.Edition.{edition_is};
 ghost use Rattle.profiles.specs.Row.{RowOf};
 ghost use Rattle.symbols.specs.Columns.{Columns};
 ghost use Rattle.decoder.specs.Totals.{WholeWord};
-ghost use Rattle.decoder.specs.Search.{Searches};
 ghost use Rattle.decoder.specs.Locate.{tried_in};
 ghost use Rattle.decoder.specs.Changed.{ChangedWith};
 
 use crate::effect::{effect_of, syndromes_after, syndromes_at};
-use crate::locate::{Search, fit_located, locate, position_count};
+use crate::search::Search;
 use symbols::{Matrix, Syndromes};
 
 // Its index among the positions of the parity and the syndromes once it is corrected, if there is one; and how many positions were tried.
@@ -30,7 +29,7 @@ pub(crate) trait Method {
         columns: &Matrix,
         word: &[u8],
     ) -> ChangedSymbol
-        requires { Searches search × Columns search.row.q search.row.n columns.now × WholeWord search.row word.now
+        requires { Columns search.row.q search.row.n columns.now × WholeWord search.row word.now
             × (search.s.excess ≢ pos 0) × RowOf (edition_is search.row.edition) profile search.row }
         ensures { ChangedWith search word.now (count (tried_in search word.now)) result };
 
@@ -53,7 +52,7 @@ impl Method for Trying {
         word: &[u8],
     ) -> ChangedSymbol {
         let effect = effect_of(search.row, search.parity, search.s.lack);
-        match locate(search, columns, &effect.first, &effect.second, word) {
+        match search.locate(columns, &effect.first, &effect.second, word) {
             Some(k) => {
                 let after = syndromes_after(search, columns, effect, k);
                 ChangedSymbol {
@@ -63,7 +62,7 @@ impl Method for Trying {
             }
             None => ChangedSymbol {
                 found: None,
-                tried: position_count(search),
+                tried: search.position_count(),
             },
         }
     }
@@ -83,10 +82,9 @@ impl Method for Locating {
         columns: &Matrix,
         word: &[u8],
     ) -> ChangedSymbol {
-        let found = fit_located(search, profile, word).map(|k| (
-            k,
-            syndromes_at(search, columns, k),
-        ));
+        let found = search
+            .fit_located(profile, word)
+            .map(|k| (k, syndromes_at(search, columns, k)));
         ChangedSymbol { found, tried: 0 }
     }
 }

@@ -17,9 +17,10 @@ ghost use Rattle.decoder.specs.Steps.{Admits, Judged, wrong_parity, BalancedAnsw
 
 use crate::differenced::correct_components;
 use crate::erased::{decode_one, decode_two};
-use crate::locate::{Search, balancing_symbol};
 use crate::message::write_pair;
 use crate::method::{Method, Trying};
+use crate::parity::Parity;
+use crate::search::Search;
 use crate::totals::{Totals, sums_of};
 use profiles::{Erasures, Row, edition_of, row_in, screen};
 use refusals::Refusal;
@@ -76,16 +77,16 @@ fn judge(row: Row, s: Totals) -> Result<Decoded, Refusal>
     }
 }
 
-// The parity whose check symbol alone disagrees: 0 for the odd positions, 1 for the even ones.
-fn wrong_parity(s: Totals) -> Option<usize>
+// The parity of the positions whose check symbol alone disagrees.
+fn wrong_parity(s: Totals) -> Option<Parity>
     ensures { result ≡ wrong_parity (eqb s.asked.alpha s.arrived.alpha) (eqb s.asked.beta s.arrived.beta) }
 {
     match (
         s.asked.alpha == s.arrived.alpha,
         s.asked.beta == s.arrived.beta,
     ) {
-        (false, true) => Some(0),
-        (true, false) => Some(1),
+        (false, true) => Some(Parity::Odd),
+        (true, false) => Some(Parity::Even),
         _ => None,
     }
 }
@@ -106,8 +107,8 @@ fn correct(
     ensures { ReadAs (decoded_body (parameters_of search) (sums_in search) (parity_of search) word.now) (Ok result)
         first.old first.new second.old second.new }
 {
-    let i = 2 * k + search.parity;
-    let y = balancing_symbol(search, word[i]);
+    let i = search.parity.index(k);
+    let y = search.balancing_symbol(word[i]);
     correct_components(search.row, word, i, y, x);
     write_pair(search.row, after, x, first, second);
     Decoded::Corrected(corrected(i + 1, word[i], y))

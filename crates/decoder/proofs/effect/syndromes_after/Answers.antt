@@ -13,5 +13,5 @@ returns c =
       first_rows = first.levels;
       second_rows = second.levels;
       first_is = first.are ∙ first_moved tries _ _;
-      second_is = second.are ∙ second_moved tries _ _;
+      second_is = second.are ∙ second_moved tries _ _ c.second_column.ensures;
     }

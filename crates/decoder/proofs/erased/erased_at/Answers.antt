@@ -4,7 +4,8 @@ use mathlib.Core.Logic.{◌≢◌}
 use mathlib.Core.Bool.{true, false}
 use Prim.Native.Nat.{◌≤◌, ◌<◌}
 use native.Mathlib.Omega.{arith}
-use borrow.Author.Tests.{eq-eqb, ne_eqb}
+use mathlib.Core.Path.{sym, ap, ◌∙◌}
+use Rattle.decoder.specs.Parity.{is_odd}
 use Rattle.decoder.proofs.Erasing.{here_alpha, here_beta, here_body}
 use Rattle.decoder.proofs.erased.erased_at.Goals as goal
 use Rattle.decoder.proofs.erased.erased_at.Goals.{Else-row-i, Start}
@@ -28,10 +29,12 @@ returns-then-row-i c = here_beta _ c.requires.0 _ c.if-row-i.true
 pub one_more-adds-requires : goal.one_more-adds-requires
 one_more-adds-requires c = ((start (goal.at.one_more-adds-requires c).Else-row-i).requires.0, (start (goal.at.one_more-adds-requires c).Else-row-i).requires.1, within (goal.at.one_more-adds-requires c).Else-row-i)
 
-pub returns-then-i-eq0 : goal.returns-then-i-eq0
-returns-then-i-eq0 c =
-    here_body _ (start (goal.at.returns-then-i-eq0 c).Else-row-i).requires.0 _ _ true (within (goal.at.returns-then-i-eq0 c).Else-row-i) (eq-eqb _ _ c.if-i-eq0.true) c.one_more-adds.ensures
+pub returns-in-Odd : goal.returns-in-Odd
+returns-in-Odd c =
+    let start = (goal.at.returns-in-Odd c).Else-row-i in
+    here_body _ c.requires.0 _ _ true (within start) (sym c.of.ensures ∙ ap is_odd c.in-Odd.is) c.one_more-adds.ensures
 
-pub returns : goal.returns
-returns c =
-    here_body _ (start (goal.at.returns c).Else-row-i).requires.0 _ _ false (within (goal.at.returns c).Else-row-i) (ne_eqb _ _ c.if-i-eq0.false) c.one_more-adds.ensures
+pub returns-in-Even : goal.returns-in-Even
+returns-in-Even c =
+    let start = (goal.at.returns-in-Even c).Else-row-i in
+    here_body _ c.requires.0 _ _ false (within start) (sym c.of.ensures ∙ ap is_odd c.in-Even.is) c.one_more-adds.ensures

@@ -5,4 +5,4 @@ use Rattle.decoder.proofs.erased.one_more.Goals as goal
 
 pub returns : goal.returns
 returns c =
-    added_one _ c.requires.0 c.args.i _ c.effect_of-effect.ensures c.moved.ensures c.moved-2.ensures
+    added_one _ c.requires.0 c.args.i _ c.of-parity.ensures c.second_column.ensures c.effect_of-effect.ensures c.moved.ensures c.moved-2.ensures

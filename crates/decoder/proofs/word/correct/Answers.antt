@@ -10,7 +10,7 @@ use Rattle.decoder.proofs.word.correct.Goals as goal
 pub correct_components-requires : goal.correct_components-requires
 correct_components-requires c =
     let (found, _, held, _) = c.requires in
-    (found.is, held, fit_level found c.balancing_symbol-y.ensures)
+    (found.is, held, fit_level found c.index-i.ensures c.balancing_symbol-y.ensures)
 
 pub write_pair-requires : goal.write_pair-requires
 write_pair-requires c =
@@ -24,5 +24,5 @@ pub returns : goal.returns
 returns c =
     let (found, after, _, _) = c.requires in
     let parts = c.correct_components.ensures.parts in
-    read_found _ _ (fit_read found after c.balancing_symbol-y.ensures) (messages_of (parts true) (parts false) c.write_pair.ensures)
+    read_found _ _ (fit_read found c.index-i.ensures after c.balancing_symbol-y.ensures) (messages_of (parts true) (parts false) c.write_pair.ensures)
     (ap (λ (x : Correction). corrected x) c.corrected.ensures)

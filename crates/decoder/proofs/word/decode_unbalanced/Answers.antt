@@ -14,11 +14,11 @@ returns-in_default g c =
 pub returns-in-Some-found : goal.returns-in-Some-found
 returns-in-Some-found g c =
     let one = unbalanced_one _ _ _ c.wrong_parity.ensures c.in-Some.is in
-    answers_as (ap (answer_by g.M.Method.count) one.1) (answers_read c.correct.ensures c.changed_symbol-changed.ensures.tried)
+    answers_as (ap (answer_by g.M.Method.count) one) (answers_read c.correct.ensures c.changed_symbol-changed.ensures.tried)
 
 pub returns-in-None : goal.returns-in-None
 returns-in-None g c =
     let one = unbalanced_one _ _ _ c.wrong_parity.ensures c.in-Some.is in
     let none = subst (FoundSymbol _ c.args.word.now) c.in-None.is c.changed_symbol-changed.ensures.found in
-    answers_as (ap (answer_by g.M.Method.count) one.1)
+    answers_as (ap (answer_by g.M.Method.count) one)
     (answers_read (read_unreadable _ _ (body_none _ _ _ _ none)) c.changed_symbol-changed.ensures.tried)

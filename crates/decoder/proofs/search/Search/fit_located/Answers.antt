@@ -1,4 +1,4 @@
--- `decoder::locate::fit_located` meets its contract: an index that fits explains the syndromes, and at most one does, the one located.
+-- `decoder::search::Search::fit_located` meets its contract: an index that fits explains the syndromes, and at most one does, the one located.
 -- Assumes nothing.
 use mathlib.Core.Path.{◌≡◌, sym, ◌∙◌}
 use mathlib.Core.List.{List}
@@ -9,17 +9,17 @@ use Rattle.locating_theory.specs.ErrorPosition as model
 use Rattle.locating_theory.specs.ErrorPosition.{at, error_position}
 use Rattle.locating_theory.proofs.Located.{fit_none_off, fit_nowhere, fit_out_of_range, fit_at}
 use Rattle.locator.proofs.Answering.{row_prime}
-use Rattle.decoder.specs.declared.locate.Search.{Search}
+use Rattle.decoder.specs.declared.search.Search.{Search}
 use Rattle.decoder.specs.Search.{parameters_of, sums_in, parity_of}
 use Rattle.decoder.proofs.Sent.{sent_none, sent_some}
 use Rattle.decoder.proofs.Locating.{word_levels, position_within}
-use Rattle.decoder.proofs.locate.fit_located.Goals as goal
-use Rattle.decoder.proofs.locate.fit_located.Goals.{In_ok-i, Start}
+use Rattle.decoder.proofs.search.Search.fit_located.Goals as goal
+use Rattle.decoder.proofs.search.Search.fit_located.Goals.{In_ok-i, Start}
 
 -- the call
 module _ (start : Start) where
   abbrev x : Search
-  x = start.args.search
+  x = start.args.self
 
   abbrev word : List ℕ
   word = start.args.word.now
@@ -48,7 +48,7 @@ returns-then-not-off_by_lack c = fit_none_off _ _ _ _ (sym c.off_by_lack.ensures
 pub returns-in_err-i : goal.returns-in_err-i
 returns-in_err-i c =
     let start = (goal.at.returns-in_err-i c).Start in
-    let (_, whole, excess, _) = c.requires in
+    let (whole, excess, _) = c.requires in
     rw c.from_residual.ensures
     (fit_nowhere (parameters_of (x start)) (sums_in (x start)) (parity_of (x start)) (word start) excess (word_levels whole)
     (sym c.in_err-i.ensures))
@@ -57,15 +57,15 @@ pub overflow_sub-i : goal.overflow_sub-i
 overflow_sub-i c = (within (goal.at.overflow_sub-i c).In_ok-i).0
 
 pub bounds-word-i : goal.bounds-word-i
-bounds-word-i c = omega (arith, (within (goal.at.bounds-word-i c).In_ok-i).1, c.requires.1.long)
+bounds-word-i c = omega (arith, (within (goal.at.bounds-word-i c).In_ok-i).1, c.requires.0.long)
 
-pub returns-then-balancing_symbol-search : goal.returns-then-balancing_symbol-search
-returns-then-balancing_symbol-search c =
-    let at = (goal.at.returns-then-balancing_symbol-search c).In_ok-i in
+pub returns-then-balancing_symbol-self : goal.returns-then-balancing_symbol-self
+returns-then-balancing_symbol-self c =
+    let at = (goal.at.returns-then-balancing_symbol-self c).In_ok-i in
     let start = begun at in
-    let (given, _, _, of) = c.requires in
-    let none = sent_none _ _ _ (sym c.balancing_symbol.ensures ∙ c.if-balancing_symbol-search.true) in
-    fit_out_of_range (parameters_of (x start)) (sums_in (x start)) (parity_of (x start)) (word start) (named at) (is_at at) given.valid.sized
+    let (_, _, of) = c.requires in
+    let none = sent_none _ _ _ (sym c.balancing_symbol.ensures ∙ c.if-balancing_symbol-self.true) in
+    fit_out_of_range (parameters_of (x start)) (sums_in (x start)) (parity_of (x start)) (word start) (named at) (is_at at) (x start).valid.sized
     (row_prime of) none
 
 pub returns : goal.returns
@@ -73,5 +73,5 @@ returns c =
     let at = (goal.at.returns c).In_ok-i in
     let start = begun at in
     let by_lack = sym c.off_by_lack.ensures ∙ c.if-not-off_by_lack.false in
-    let in_range_lem = sent_some _ _ _ (λ e. c.if-balancing_symbol-search.false (c.balancing_symbol.ensures ∙ e)) in
+    let in_range_lem = sent_some _ _ _ (λ e. c.if-balancing_symbol-self.false (c.balancing_symbol.ensures ∙ e)) in
     fit_at (parameters_of (x start)) (sums_in (x start)) (parity_of (x start)) (word start) (named at) (is_at at) by_lack in_range_lem
