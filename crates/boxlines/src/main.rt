@@ -3,7 +3,7 @@
 // and whether a read or a write failed.
 #![tactic(auto)]
 
-ghost use Rattle.std.specs.Prelude.{◌<◌, ◌≤◌, ℕ, length, Option, IfSome};
+ghost use Rattle.std.specs.Prelude.{◌<◌, ℕ, length, Option};
 ghost use Rattle.lines.specs.States.{model_of};
 ghost use Rattle.boxlines.specs.Turns.{AnswersPiece, AnswersEnd, AnswersRead};
 
@@ -87,8 +87,7 @@ fn proceed(
     input: &[u8],
     output: &mut [u8],
 ) -> Result<Next, Failure>
-    requires room { 0 < length output.old }
-    requires within { IfSome got (λ n. n ≤ length input.now) }
+    requires { 0 < length output.old }
     ensures { AnswersRead (model_of state) got input.now result }
 {
     let Some(n) = got else {
@@ -97,7 +96,7 @@ fn proceed(
     if n == 0 {
         return Ok(Next::Ended(finish(state, output)?));
     }
-    Ok(Next::More(answer(state, &input[..n], output)?))
+    Ok(Next::More(answer(state, &input[..n.min(input.len())], output)?))
 }
 
 // One read, and what comes of it. No contract says which bytes come, so this one speaks of the buffer after the read.
@@ -134,10 +133,10 @@ fn main(rt: HostRuntime) {
         match turn(&mut stdin, state, &mut input, &mut output) {
             Ok(Next::More(answered)) => {
                 state = answered.state;
-                lines = std::num::wrapping_add_u64(lines, answered.lines as u64);
+                lines = lines.wrapping_add(answered.lines as u64);
             }
             Ok(Next::Ended(last)) => {
-                print_end(&rt, Ok(()), std::num::wrapping_add_u64(lines, last as u64));
+                print_end(&rt, Ok(()), lines.wrapping_add(last as u64));
                 return;
             }
             Err(failure) => {

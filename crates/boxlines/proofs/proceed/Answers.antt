@@ -1,6 +1,7 @@
 -- `boxlines::proceed` meets its contract: a read that failed, the end of the input, or bytes.
 -- Assumes nothing.
-use Rattle.std.proofs.Common.{◌≡◌, ℕ, zero, suc, Some, None, Ok, Err, List, take, refl}
+use Rattle.std.proofs.Common.{◌≡◌, ℕ, zero, suc, min, Some, None, Ok, Err, List, length, take, refl}
+use Rattle.std.proofs.lemmas.List.{take_min}
 use Rattle.std.proofs.lemmas.Result.{err_from_is_err_and}
 use Rattle.lines_theory.specs.Feed.{Model}
 use Rattle.boxlines.specs.declared.Failure.{Failure}
@@ -22,15 +23,17 @@ end_failed : (m : Model) (s : List ℕ) (n : ℕ) (f : Failure) → n ≡ 0 → 
 unfolding AnswersRead
 end_failed m s n f e a = rw e a
 
-more : (m : Model) (s : List ℕ) (n : ℕ) (r : Answered) → (n ≡ 0 → ⊥) → AnswersPiece m (take n s) (Ok r) → AnswersRead m (Some n) s (Ok (More r))
+more : (m : Model) (s : List ℕ) (n k : ℕ) (r : Answered) → (n ≡ 0 → ⊥) → k ≡ min n (length s) → AnswersPiece m (take k s) (Ok r)
+    → AnswersRead m (Some n) s (Ok (More r))
 unfolding AnswersRead
-more m s zero r f a = absurd (f refl)
-more m s (suc k) r f a = a
+more m s zero k r f e a = absurd (f refl)
+more m s (suc n) k r f e a = rw (e, take_min (suc n) s) at a
 
-more_failed : (m : Model) (s : List ℕ) (n : ℕ) (e : Failure) → (n ≡ 0 → ⊥) → AnswersPiece m (take n s) (Err e) → AnswersRead m (Some n) s (Err e)
+more_failed : (m : Model) (s : List ℕ) (n k : ℕ) (e : Failure) → (n ≡ 0 → ⊥) → k ≡ min n (length s) → AnswersPiece m (take k s) (Err e)
+    → AnswersRead m (Some n) s (Err e)
 unfolding AnswersRead
-more_failed m s zero e f a = absurd (f refl)
-more_failed m s (suc k) e f a = a
+more_failed m s zero k r f e a = absurd (f refl)
+more_failed m s (suc n) k r f e a = rw (e, take_min (suc n) s) at a
 
 pub returns-in_default : goal.returns-in_default
 returns-in_default c = rw c.in_default.is (failed _ _)
@@ -46,7 +49,7 @@ returns-then-n-eq0 c = rw c.in-Some.is (ended _ _ _ _ c.if-n-eq0.true c.in_ok-fi
 pub returns-in_err-answer : goal.returns-in_err-answer
 returns-in_err-answer c =
     let p = err_from_is_err_and c.from_residual-in_err-answer.result c.from_residual-in_err-answer.ensures.1 in
-    rw (p.1, p.2, c.in-Some.is) (more_failed _ _ _ _ c.if-n-eq0.false c.in_err-answer.ensures)
+    rw (p.1, p.2, c.in-Some.is) (more_failed _ _ _ _ _ c.if-n-eq0.false c.min.ensures c.in_err-answer.ensures)
 
 pub returns : goal.returns
-returns c = rw c.in-Some.is (more _ _ _ _ c.if-n-eq0.false c.in_ok-answer.ensures)
+returns c = rw c.in-Some.is (more _ _ _ _ _ c.if-n-eq0.false c.min.ensures c.in_ok-answer.ensures)
