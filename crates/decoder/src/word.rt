@@ -133,10 +133,8 @@ fn decode_unbalanced<M: Method>(
         first.old first.new second.old second.new }
 {
     let Some(parity) = wrong_parity(s) else {
-        return Decoding {
-            answer: Err(Refusal::Unreadable),
-            tried: 0,
-        };
+        let answer = Err(Refusal::Unreadable);
+        return Decoding { answer, tried: 0 };
     };
     let search = Search { row, s, parity };
     let changed = M::changed_symbol(search, profile, columns, word);
