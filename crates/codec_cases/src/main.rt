@@ -12,142 +12,61 @@ ghost use Rattle.std.specs.Prelude.{◌≤◌, length};
 mod print;
 mod text;
 
-use decoder::{Changes, Decoded};
-use print::{
-    FILL, STDOUT_FILENO, is_untouched, print_change, print_error, print_number, print_refusal,
-    print_unopened, print_word,
-};
-use refusals::Refusal;
+use print::{FILL, Reading, Written};
 use std::fs::File;
 use std::io::Read;
-use syndromes::Correction;
 use text::{field, parse_number, parse_symbols};
 
-// The word in an output, or the refusal.
-fn print_encoded(answer: Result<(), Refusal>, out: &[u8]) {
-    match answer {
-        Ok(()) => print_word(out),
-        Err(refusal) => print_refusal(refusal, is_untouched(out)),
-    }
-}
-
-// Encodes into the output, and prints the word or the refusal.
-fn encode_and_print(
-    edition: usize,
-    profile: usize,
-    rule: usize,
-    first: &[u8],
-    second: &[u8],
-    out: &mut [u8],
-) {
-    let answer = encoder::encode(edition, profile, rule, first, second, out);
-    print_encoded(answer, out);
-}
-
-// Converts into the output, and prints the word or the refusal.
-fn convert_and_print(edition: usize, profile: usize, word: &[u8], out: &mut [u8]) {
-    let answer = converter::convert(edition, profile, word, out);
-    print_encoded(answer, out);
-}
-
-// The messages and how many positions were tried, each after a space.
-fn print_read(first: &[u8], second: &[u8], tried: usize) {
-    io::write_all(STDOUT_FILENO, b" ");
-    print_word(first);
-    io::write_all(STDOUT_FILENO, b" ");
-    print_word(second);
-    print_number(tried);
-}
-
-fn print_corrected(c: Correction) {
-    io::write_all(STDOUT_FILENO, b"M");
-    print_change(c.position, c.symbol);
-    print_error(c.error);
-}
-
-fn print_filled(changes: Changes) {
-    io::write_all(STDOUT_FILENO, b"F");
-    match changes {
-        Changes::One(c) => print_change(c.position, c.symbol),
-        Changes::Two(c, d) => {
-            print_change(c.position, c.symbol);
-            print_change(d.position, d.symbol);
-        }
-    }
-    print_error(0);
-}
-
-// What a word was read as.
-fn print_decoded(decoded: Decoded) {
-    match decoded {
-        Decoded::Clean => {
-            io::write_all(STDOUT_FILENO, b"C 0 0 0");
-        }
-        Decoded::Corrected(c) => print_corrected(c),
-        Decoded::Filled(changes) => print_filled(changes),
-    }
-}
-
-// An unreadable word has a count, which is left out where an output was changed.
-fn print_unread(refusal: Refusal, tried: usize, first: &[u8], second: &[u8]) {
-    let is_kept = is_untouched(first) && is_untouched(second);
-    print_refusal(refusal, is_kept);
-    if is_kept && refusal == Refusal::Unreadable {
-        print_number(tried);
-    }
-}
-
-// Decodes into the outputs, and prints the answer and the messages, or the refusal.
-fn decode_and_print(
-    edition: usize,
-    profile: usize,
-    word: &[u8],
-    first: &mut [u8],
-    second: &mut [u8],
-) {
-    let decoding = decoder::decode(edition, profile, word, first, second);
-    match decoding.answer {
-        Ok(decoded) => {
-            print_decoded(decoded);
-            print_read(first, second, decoding.tried);
-        }
-        Err(refusal) => print_unread(refusal, decoding.tried, first, second),
-    }
-}
-
-fn answer_pair(line: &[u8]) {
+// Encodes a pair, and prints the word or the refusal. Here and below, a write that fails is passed over.
+fn answer_pair(rt: &impl Print, line: &[u8]) {
     let mut first = [0u8; 64];
     let first = parse_symbols(field(line, 3), &mut first);
     let mut second = [0u8; 64];
     let second = parse_symbols(field(line, 4), &mut second);
     let mut out = [FILL; 128];
     let n = parse_number(field(line, 5)).min(128);
+    let out = &mut out[..n];
     let edition = parse_number(field(line, 0));
     let profile = parse_number(field(line, 1));
     let rule = parse_number(field(line, 2));
-    encode_and_print(edition, profile, rule, first, second, &mut out[..n]);
+    let answer = encoder::encode(edition, profile, rule, first, second, out);
+    let _ = println!(rt; "{}", Written { answer, out });
 }
 
-fn answer_word(line: &[u8]) {
+// Decodes a word, and prints the answer and the messages, or the refusal.
+fn answer_word(rt: &impl Print, line: &[u8]) {
     let mut word = [0u8; 128];
     let word = parse_symbols(field(line, 2), &mut word);
     let mut first = [FILL; 64];
     let k = parse_number(field(line, 3)).min(64);
+    let first = &mut first[..k];
     let mut second = [FILL; 64];
     let l = parse_number(field(line, 4)).min(64);
+    let second = &mut second[..l];
     let edition = parse_number(field(line, 0));
     let profile = parse_number(field(line, 1));
-    decode_and_print(edition, profile, word, &mut first[..k], &mut second[..l]);
+    let decoding = decoder::decode(edition, profile, word, first, second);
+    let _ = println!(rt;
+        "{}",
+        Reading {
+            decoding,
+            first,
+            second
+        }
+    );
 }
 
-fn answer_conversion(line: &[u8]) {
+// Converts a word, and prints that of the other edition, or the refusal.
+fn answer_conversion(rt: &impl Print, line: &[u8]) {
     let mut word = [0u8; 128];
     let word = parse_symbols(field(line, 2), &mut word);
     let mut out = [FILL; 128];
     let l = parse_number(field(line, 3)).min(128);
+    let out = &mut out[..l];
     let edition = parse_number(field(line, 0));
     let profile = parse_number(field(line, 1));
-    convert_and_print(edition, profile, word, &mut out[..l]);
+    let answer = converter::convert(edition, profile, word, out);
+    let _ = println!(rt; "{}", Written { answer, out });
 }
 
 // Answers each line of a file.
@@ -156,7 +75,6 @@ fn answer_all<F: Fn(&[u8])>(input: &[u8], answer: F)
 {
     for line in input.split_inclusive(|b| *b == b'\n') {
         answer(line.strip_suffix(b"\n").unwrap_or(line));
-        io::write_all(STDOUT_FILENO, b"\n");
     }
 }
 
@@ -197,12 +115,14 @@ fn run_file<F: Fn(&[u8])>(rt: &HostRuntime, name: &str, answer: F)
 {
     match File::open(rt, name) {
         Ok(mut file) => run(&mut file, answer),
-        Err(_) => print_unopened(name),
+        Err(_) => {
+            let _ = eprintln!(rt; "{name}: cannot be opened");
+        }
     }
 }
 
 fn main(rt: HostRuntime) {
-    run(&mut rt.stdin(), answer_pair);
-    run_file(&rt, "words", answer_word);
-    run_file(&rt, "conversions", answer_conversion);
+    run(&mut rt.stdin(), |line| answer_pair(&rt, line));
+    run_file(&rt, "words", |line| answer_word(&rt, line));
+    run_file(&rt, "conversions", |line| answer_conversion(&rt, line));
 }

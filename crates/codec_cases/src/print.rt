@@ -1,60 +1,119 @@
 // Answers in print.
+use decoder::{Changes, Decoded, Decoding};
 use refusals::Refusal;
-
-// The streams that are written to, by POSIX's numbers.
-pub(crate) const STDOUT_FILENO: i32 = 1;
-
-const STDERR_FILENO: i32 = 2;
-
-// The name of a file that can't be opened, on standard error.
-pub(crate) fn print_unopened(name: &str) {
-    io::write_all(STDERR_FILENO, name.as_bytes());
-    io::write_all(STDERR_FILENO, b": cannot be opened\n");
-}
+use std::fmt;
 
 // What an output holds before a call.
 pub(crate) const FILL: u8 = 170;
 
-// The digits of a word.
-pub(crate) fn print_word(s: &[u8]) {
-    let mut text = [0u8; 128];
-    for (y, x) in text.iter_mut().zip(s) {
-        *y = if *x < 10 { b'0' + *x } else { b'?' };
-    }
-    io::write_all(STDOUT_FILENO, &text[..s.len().min(128)]);
-}
-
-pub(crate) fn is_untouched(s: &[u8]) -> bool {
+fn is_untouched(s: &[u8]) -> bool {
     s.iter().all(|x| *x == FILL)
 }
 
-// A number after a space.
-pub(crate) fn print_number(n: usize) {
-    io::write_all(STDOUT_FILENO, b" ");
-    io::print_decimal(STDOUT_FILENO, n as u64);
-}
+// The digits of a word.
+#[derive(Drop)]
+struct Digits<'a>(&'a [u8]);
 
-// A changed position and the symbol sent there, each after a space.
-pub(crate) fn print_change(position: usize, symbol: u8) {
-    print_number(position);
-    print_number(usize::from(symbol));
-}
-
-// An error after a space, with its sign; 0 has none.
-pub(crate) fn print_error(error: i16) {
-    io::write_all(STDOUT_FILENO, b" ");
-    if error < 0 {
-        io::write_all(STDOUT_FILENO, b"-");
+impl fmt::Display for Digits<'_> {
+    fn fmt<W: fmt::Write>(&self, f: &mut fmt::Formatter<W>) -> fmt::Result {
+        for x in self.0 {
+            f.write_char(if *x < 10 { char::from(b'0' + *x) } else { '?' })?;
+        }
+        Ok(())
     }
-    if 0 < error {
-        io::write_all(STDOUT_FILENO, b"+");
-    }
-    io::print_decimal(STDOUT_FILENO, u64::from(error.unsigned_abs()));
 }
 
-// A refusal that changed a byte of an output begins with X.
-pub(crate) fn print_refusal(refusal: Refusal, is_kept: bool) {
-    let letter = if is_kept { b'R' } else { b'X' };
-    io::write_all(STDOUT_FILENO, &[letter, b' ']);
-    io::print_decimal(STDOUT_FILENO, u64::from(u8::from(refusal)));
+// An error with its sign; 0 has none.
+#[derive(Drop)]
+struct Signed(i16);
+
+impl fmt::Display for Signed {
+    fn fmt<W: fmt::Write>(&self, f: &mut fmt::Formatter<W>) -> fmt::Result {
+        let error = self.0;
+        if error == 0 {
+            write!(f, "0")
+        } else {
+            write!(f, "{error:+}")
+        }
+    }
+}
+
+// A refusal; one that changed a byte of an output begins with X.
+#[derive(Drop)]
+struct Refused {
+    refusal: Refusal,
+    is_kept: bool,
+}
+
+impl fmt::Display for Refused {
+    fn fmt<W: fmt::Write>(&self, f: &mut fmt::Formatter<W>) -> fmt::Result {
+        let letter = if self.is_kept { 'R' } else { 'X' };
+        write!(f, "{letter} {}", u8::from(self.refusal))
+    }
+}
+
+// What encode or convert answered: the word in the output, or the refusal.
+#[derive(Drop)]
+pub(crate) struct Written<'a> {
+    pub(crate) answer: Result<(), Refusal>,
+    pub(crate) out: &'a [u8],
+}
+
+impl fmt::Display for Written<'_> {
+    fn fmt<W: fmt::Write>(&self, f: &mut fmt::Formatter<W>) -> fmt::Result {
+        match self.answer {
+            Ok(()) => write!(f, "{}", Digits(self.out)),
+            Err(refusal) => {
+                let is_kept = is_untouched(self.out);
+                write!(f, "{}", Refused { refusal, is_kept })
+            }
+        }
+    }
+}
+
+// What a word was read as.
+#[derive(Drop)]
+struct Found(Decoded);
+
+impl fmt::Display for Found {
+    fn fmt<W: fmt::Write>(&self, f: &mut fmt::Formatter<W>) -> fmt::Result {
+        match self.0 {
+            Decoded::Clean => write!(f, "C 0 0 0"),
+            Decoded::Corrected(c) => write!(f, "M {} {} {}", c.position, c.symbol, Signed(c.error)),
+            Decoded::Filled(Changes::One(c)) => write!(f, "F {} {} 0", c.position, c.symbol),
+            Decoded::Filled(Changes::Two(c, d)) => {
+                write!(f, "F {} {} ", c.position, c.symbol)?;
+                write!(f, "{} {} 0", d.position, d.symbol)
+            }
+        }
+    }
+}
+
+// What decode answered: the reading, the messages and how many positions were tried, or the refusal. An unreadable word has
+// that count too, which is left out where an output was changed.
+#[derive(Drop)]
+pub(crate) struct Reading<'a> {
+    pub(crate) decoding: Decoding,
+    pub(crate) first: &'a [u8],
+    pub(crate) second: &'a [u8],
+}
+
+impl fmt::Display for Reading<'_> {
+    fn fmt<W: fmt::Write>(&self, f: &mut fmt::Formatter<W>) -> fmt::Result {
+        let tried = self.decoding.tried;
+        match self.decoding.answer {
+            Ok(decoded) => {
+                write!(f, "{} {} ", Found(decoded), Digits(self.first))?;
+                write!(f, "{} {tried}", Digits(self.second))
+            }
+            Err(refusal) => {
+                let is_kept = is_untouched(self.first) && is_untouched(self.second);
+                write!(f, "{}", Refused { refusal, is_kept })?;
+                if is_kept && refusal == Refusal::Unreadable {
+                    write!(f, " {tried}")?;
+                }
+                Ok(())
+            }
+        }
+    }
 }
