@@ -46,14 +46,12 @@ fn answer_word(rt: &impl Print, line: &[u8]) {
     let edition = parse_number(field(line, 0));
     let profile = parse_number(field(line, 1));
     let decoding = decoder::decode(edition, profile, word, first, second);
-    let _ = println!(rt;
-        "{}",
-        Reading {
-            decoding,
-            first,
-            second
-        }
-    );
+    let reading = Reading {
+        decoding,
+        first,
+        second,
+    };
+    let _ = println!(rt; "{reading}");
 }
 
 // Converts a word, and prints that of the other edition, or the refusal.
