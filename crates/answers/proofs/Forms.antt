@@ -1,39 +1,14 @@
 -- Reading a line: what the functions of src/form.rt find.
 -- Assumes nothing.
-use Rattle.std.proofs.Common.{◌≡◌, ℕ, Option, Some, None, max, ◌+◌, ◌-◌, ◌%◌, ◌<◌, ◌≤◌, true, false, ◌&&◌, T, eqb, leb, List, [], ◌∷◌, ◌++◌, map, length, get_or, take, drop, set, sym, refl, ap, ◌∙◌, subst, ⊎_elim, zero-le, add-one, arith, le→leb, eqb→eq, leb→le, length-drop, length-set, take_all, take-suc, take-suc-set, ne_eqb}
+use Rattle.std.proofs.Common.{◌≡◌, ℕ, Option, Some, None, max, ◌+◌, ◌-◌, ◌<◌, ◌≤◌, true, false, ◌&&◌, T, eqb, leb, List, [], ◌∷◌, ◌++◌, map, length, get_or, take, drop, set, sym, ap, ◌∙◌, subst, add-one, arith, eqb→eq, leb→le, length-drop, length-set, take_all, take-suc, take-suc-set}
 use mathlib.Core.List.{map-append}
-use Rattle.modular_theory.proofs.Search.{and_intro, and_left, and_right, and_four, and_parts, or_left, or_cases}
+use Rattle.modular_theory.proofs.Search.{and_intro, and_left, and_right, and_four, and_parts}
 use Rattle.modular_theory.proofs.Search.{eq_test, passes, fails}
 use Rattle.code_theory.proofs.Merge.{cases}
-use Rattle.lines_theory.specs.Line.{is_digit, is_question_mark, is_symbol, symbols_only, symbol_value, symbols_of, has_form, is_short, profile_of}
+use Rattle.lines_theory.specs.Line.{is_digit, is_symbol, symbols_only, symbol_value, symbols_of, has_form, is_short, profile_of}
 use Rattle.answers.specs.Forms.{form_of, Valued, SymbolRead, SymbolValues, Parsed}
 
--- The value of a byte: 48 less, and round from 0 to 255.
-
-pub valued : (b r : ℕ) → r < 256 → (r + 48) % 256 ≡ b → Valued b r
-valued b r h e =
-    record {
-      low =
-          λ t.
-          let l : 48 ≤ b = leb→le 48 b (and_left (leb 48 b) (leb b 57) t) in
-          let k : b ≤ 57 = leb→le b 57 (and_right (leb 48 b) (leb b 57) t) in
-          omega arith;
-      digit = λ k. and_intro (leb 48 b) (leb b 57) (le→leb 48 b (omega arith)) (le→leb b 57 (omega arith));
-      is = λ k. omega arith;
-    }
-
 -- The symbols, one by one.
-
-pub erasure_read : (b : ℕ) → b ≡ 63 → SymbolRead b 255 0
-erasure_read b e = rw e (record { low = λ t. zero-le; symbol = λ h. tt; is = λ h. refl })
-
-pub digit_read : (b v : ℕ) → (b ≡ 63 → ⊥) → Valued b v → SymbolRead b v v
-digit_read b v n w =
-    record {
-      low = λ t. ⊎_elim (λ d. w.low d) (λ m. absurd (n (eqb→eq b 63 m))) (or_cases (is_digit b) (is_question_mark b) t);
-      symbol = λ h. or_left (is_digit b) (is_question_mark b) (w.digit h);
-      is = λ h. rw (ne_eqb b 63 n, symbol_value) (w.is h);
-    }
 
 symbols_snoc : (x : List ℕ) (b : ℕ) → T (symbols_only x) → T (is_symbol b) → T (symbols_only (x ++ b ∷ []))
 symbols_snoc [] b h k = and_intro (is_symbol b) true k tt

@@ -1,14 +1,15 @@
--- Writing field after field: what the functions of src/text.rt leave in the buffer.
+-- Writing field after field: what the methods of src/text.rt leave in the buffer.
 -- Assumes nothing.
-use Rattle.std.proofs.Common.{◌≡◌, ℕ, zero, suc, ◌+◌, ◌/◌, ◌%◌, ◌<◌, ◌≤◌, ltb, List, [], ◌∷◌, ◌++◌, map, length, get_or, take, drop, set, ℤ, pos, negsuc, sym, refl, ap, ◌∙◌, append_assoc, zero-add, add-one, arith, length-append, length-drop, length-set, take-append-drop, length-take-le, take_all, take-suc, drop-drop, take_at, le-ltb, lt-ltb}
+use Rattle.std.proofs.Common.{◌≡◌, ◌≢◌, ℕ, zero, suc, ◌+◌, ◌/◌, ◌%◌, ◌<◌, ◌≤◌, true, false, ltb, List, [], ◌∷◌, ◌++◌, map, length, get_or, take, drop, set, ℤ, pos, negsuc, nat_abs, sym, refl, ap, ◌∙◌, append_assoc, zero-add, add-one, arith, length-append, length-drop, length-take-le, take_all, take-suc, drop-drop, take_at, ltb-true, le-ltb, lt-ltb}
 use mathlib.Core.List.{map-append}
-use lib.ListN.{length-map}
+use lib.Signed.{lt_z}
 use lib.Seq.{set_split, drop-append-add}
 use Rattle.code_theory.specs.Reading.{Change}
 use Rattle.lines_theory.specs.Line.{digit_byte, decimal_before, decimal, signed_decimal, refusal_line, changes_before, reading_line}
 use Rattle.lines_theory.specs.Feed.{overwritten}
 use Rattle.code_theory.proofs.Merge.{cases}
-use Rattle.answers.specs.Writing.{Written, heading_of}
+use Rattle.answers.specs.declared.text.Writer.{Writer}
+use Rattle.answers.specs.Writing.{Written, Wrote, heading_of}
 
 module _ {a b : List ℕ} {i j : ℕ} {x : List ℕ} (w : Written a b i j x) where
   head_length : length (take i a ++ x) ≡ j
@@ -32,10 +33,8 @@ module _ {a b : List ℕ} {i j : ℕ} {x : List ℕ} (w : Written a b i j x) whe
       ∙ drop-append-add (take i a ++ x) (drop j a) m
       ∙ drop-drop m j a
 
--- one field after another
-infixl 20 ◌followed_by◌
-pub ◌followed_by◌ : {a b c : List ℕ} {i j k : ℕ} {x y : List ℕ} → Written a b i j x → Written b c j k y → Written a c i k (x ++ y)
-◌followed_by◌ {a} {b} {c} {i} {j} {k} {x} {y} f g =
+followed : {a b c : List ℕ} {i j k : ℕ} {x y : List ℕ} → Written a b i j x → Written b c j k y → Written a c i k (x ++ y)
+followed {a} {b} {c} {i} {j} {k} {x} {y} f g =
     let rest : drop k b ≡ drop k a = ap (λ (n : ℕ). drop n b) g.ends ∙ back f (length y) ∙ ap (λ (n : ℕ). drop n a) (sym g.ends) in
     record {
       text =
@@ -48,20 +47,10 @@ pub ◌followed_by◌ : {a b c : List ℕ} {i j k : ℕ} {x y : List ℕ} → Wr
       fits = omega (arith, kept f, g.fits);
     }
 
--- one byte
-pub one : (out : List ℕ) (at a : ℕ) → at < length out → Written out (set out at a) at (suc at) (a ∷ [])
-one out at a h = record { text = set_split out at a h; ends = omega arith; fits = h }
-
--- and what is written after it
-onward : (out : List ℕ) {new x : List ℕ} {end : ℕ} (at a : ℕ) → at < length out → Written (set out at a) new (at + 1) end x
-    → Written out new at end (a ∷ x)
-onward out at a h w = one out at a h followed_by (rw (add-one at) at w)
-
--- two bytes
-pub two : (out : List ℕ) (at a b : ℕ) → suc at < length out → Written out (set (set out at a) (at + 1) b) at (at + 2) (a ∷ b ∷ [])
-two out at a b h =
-    let e : at + 2 ≡ suc (suc at) = omega arith in
-    rw (add-one at, e) (one out at a (omega arith) followed_by one (set out at a) (suc at) b (rw length-set h))
+-- one field after another
+infixl 20 ◌followed_by◌
+pub ◌followed_by◌ : {u v w : Writer} {x y : List ℕ} → Wrote u v x → Wrote v w y → Wrote u w (x ++ y)
+f followed_by g = record { written = followed f.written g.written; same = g.same ∙ f.same }
 
 -- A number.
 
@@ -75,49 +64,62 @@ decimal_two n after h k =
     let e : n / 10 < 10 = omega arith in
     rw (le-ltb n 10 h, decimal_before, lt-ltb (n / 10) 10 e, decimal_before)
 
-pub number_one : {out new : List ℕ} {at end n last : ℕ} → n < 10 → Written out new at end ((48 + n) ∷ last ∷ [])
-    → Written out new at end (decimal n (last ∷ []))
+pub number_one : {u v : Writer} {n last : ℕ} → n < 10 → Wrote u v ((48 + n) ∷ last ∷ []) → Wrote u v (decimal n (last ∷ []))
 number_one {n} {last} h w = rw (decimal_one n (last ∷ []) h) w
 
--- the first of two digits, and what the function pair writes after it
-pub number_two : (out : List ℕ) {new : List ℕ} {end n last : ℕ} (at : ℕ) → at < length out → 10 ≤ n → n ≤ 99
-    → Written (set out at (48 + n / 10)) new (at + 1) end ((48 + n % 10) ∷ last ∷ []) → Written out new at end (decimal n (last ∷ []))
-number_two out {n} {last} at h k l w = rw (decimal_two n (last ∷ []) k l) (onward out at (48 + n / 10) h w)
+pub number_two : {u v w : Writer} {n last : ℕ} → 10 ≤ n → n ≤ 99 → Wrote u v ((48 + n / 10) ∷ [])
+    → Wrote v w ((48 + n % 10) ∷ last ∷ []) → Wrote u w (decimal n (last ∷ []))
+number_two {n} {last} h k f g = rw (decimal_two n (last ∷ []) h k) (f followed_by g)
+
+-- A number with its sign.
+
+pub minus_written : {u v w : Writer} {b : ℕ} (z : ℤ) → b ≡ 45 → lt_z z (pos 0) ≡ true → Wrote u v (b ∷ [])
+    → Wrote v w (decimal (nat_abs z) (32 ∷ [])) → Wrote u w (signed_decimal z (32 ∷ []))
+minus_written (pos n) e t f g = absurd (let l : n < 0 = ltb-true n 0 t in omega arith)
+minus_written (negsuc n) e t f g = (rw e at f) followed_by g
+
+pub plus_written : {u v w : Writer} {b : ℕ} (z : ℤ) → b ≡ 43 → z ≢ pos 0 → lt_z z (pos 0) ≡ false → Wrote u v (b ∷ [])
+    → Wrote v w (decimal (nat_abs z) (32 ∷ [])) → Wrote u w (signed_decimal z (32 ∷ []))
+plus_written (pos zero) e n t f g = absurd (n refl)
+plus_written (pos (suc k)) e n t f g = (rw e at f) followed_by g
+plus_written (negsuc k) e n t f g = absurd (let e : ◌≡◌ {A = ℕ} 0 1 = cc in omega arith)
 
 -- A word.
 
+-- one byte
+one : (out : List ℕ) (at a : ℕ) → at < length out → Written out (set out at a) at (suc at) (a ∷ [])
+one out at a h = record { text = set_split out at a h; ends = omega arith; fits = h }
+
 -- after i turns the digits of the first i symbols are written
-pub record Filled (out₀ : List ℕ) (at : ℕ) (symbols out : List ℕ) (i : ℕ) : Type 0 where
+pub record Filled (u : Writer) (symbols : List ℕ) (v : Writer) (i : ℕ) : Type 0 where
   pub within : i ≤ length symbols
-  pub same : length out ≡ length out₀
-  pub text : Written out₀ out at (at + i) (map digit_byte (take i symbols))
+  pub still : v.at ≡ u.at
+  pub same : v.out.ghost_name ≡ u.out.ghost_name
+  pub text : Written u.out.now v.out.now u.at (u.at + i) (map digit_byte (take i symbols))
 
-pub first_none : (out symbols : List ℕ) (at : ℕ) → at ≤ length out → Written out out at (at + 0) (map digit_byte (take 0 symbols))
-first_none out symbols at h =
-    let e : at + 0 ≡ at = omega arith in rw e (record { text = sym (take-append-drop at out); ends = omega arith; fits = h })
+pub filled_length : {u v : Writer} {symbols : List ℕ} {i : ℕ} → Filled u symbols v i → length v.out.now ≡ length u.out.now
+filled_length f = kept f.text
 
-pub word_more : (out new symbols : List ℕ) (at i : ℕ) → i < length symbols → at + i < length new
+pub digit_put : (out new symbols : List ℕ) (at at' i : ℕ) → at' ≡ at → i < length symbols → at + i < length new
     → Written out new at (at + i) (map digit_byte (take i symbols))
-    → Written out (set new (at + i) (48 + get_or symbols i 0)) at (at + (i + 1)) (map digit_byte (take (i + 1) symbols))
-word_more out new symbols at i h k w =
+    → Written out (set new (at' + i) (48 + get_or symbols i 0)) at (at + (i + 1)) (map digit_byte (take (i + 1) symbols))
+digit_put out new symbols at at' i q h k w =
     let e : at + (i + 1) ≡ suc (at + i) = omega arith in
     let f : map digit_byte (take (suc i) symbols) ≡ map digit_byte (take i symbols) ++ (48 + get_or symbols i 0) ∷ [] =
     ap (map digit_byte) (take-suc symbols i 0 h) ∙ map-append digit_byte (take i symbols) (get_or symbols i 0 ∷ [])
     in
-    rw (e, add-one i, f) (w followed_by one new (at + i) (48 + get_or symbols i 0) k)
+    rw (q, e, add-one i, f) (followed w (one new (at + i) (48 + get_or symbols i 0) k))
 
-pub word_end : (out new symbols : List ℕ) (at i last : ℕ) → length symbols ≤ i → at + i < length new
-    → Written out new at (at + i) (map digit_byte (take i symbols))
-    → Written out (set new (at + i) last) at (at + i + 1) (map digit_byte symbols ++ last ∷ [])
-word_end out new symbols at i last h k w = rw add-one ((rw (take_all i symbols h) at w) followed_by one new (at + i) last k)
-
-pub words_length : (symbols : List ℕ) (last : ℕ) → length (map digit_byte symbols ++ last ∷ []) ≡ length symbols + 1
-words_length symbols last = length-append (map digit_byte symbols) (last ∷ []) ∙ ap (λ (n : ℕ). n + 1) (length-map symbols digit_byte)
+-- the writer stands after them
+pub filled_all : {u v w : Writer} {symbols : List ℕ} {i : ℕ} → Filled u symbols v i → length symbols ≤ i → w.out.now ≡ v.out.now
+    → w.out.ghost_name ≡ v.out.ghost_name → w.at ≡ v.at + length symbols → Wrote u w (map digit_byte symbols)
+filled_all {u} {v} {w} {symbols} {i} f h now name at =
+    let e : u.at + i ≡ w.at = omega (arith, f.within, f.still, at) in
+    record { written = rw (now, ← e) (rw (take_all i symbols h) at f.text); same = name ∙ f.same }
 
 -- the two lines, from their fields
 
-pub refusal_written : {a b c : List ℕ} {i j : ℕ} (n : ℕ) → Written a b 0 i (82 ∷ 32 ∷ []) → Written b c i j (decimal n (10 ∷ []))
-    → Written a c 0 j (refusal_line n)
+pub refusal_written : {u v w : Writer} (n : ℕ) → Wrote u v (82 ∷ 32 ∷ []) → Wrote v w (decimal n (10 ∷ [])) → Wrote u w (refusal_line n)
 unfolding refusal_line
 refusal_written n f g = f followed_by g
 
@@ -143,20 +145,20 @@ changes_before_lem (c ∷ cs) x y =
     ∙ ap (λ (l : List ℕ). decimal c.position (32 ∷ l)) (number_before c.symbol rest y)
     ∙ number_before c.position (32 ∷ decimal c.symbol rest) y
 
-pub change_written : {a b c : List ℕ} {i j k : ℕ} (d : Change) → d.symbol ≤ 9 → Written a b i j (decimal d.position (32 ∷ []))
-    → Written b c j k ((48 + d.symbol) ∷ 32 ∷ []) → Written a c i k (changes_before (d ∷ []) [])
+pub change_written : {u v w : Writer} (d : Change) → d.symbol ≤ 9 → Wrote u v (decimal d.position (32 ∷ []))
+    → Wrote v w ((48 + d.symbol) ∷ 32 ∷ []) → Wrote u w (changes_before (d ∷ []) [])
 change_written d h f g =
     rw (decimal_one d.symbol (32 ∷ []) (omega arith), number_before d.position (32 ∷ []) ((48 + d.symbol) ∷ 32 ∷ []))
     (f followed_by g)
 
-pub changes_written : {a b c : List ℕ} {i j k : ℕ} (d e : Change) → Written a b i j (changes_before (d ∷ []) [])
-    → Written b c j k (changes_before (e ∷ []) []) → Written a c i k (changes_before (d ∷ e ∷ []) [])
+pub changes_written : {u v w : Writer} (d e : Change) → Wrote u v (changes_before (d ∷ []) []) → Wrote v w (changes_before (e ∷ []) [])
+    → Wrote u w (changes_before (d ∷ e ∷ []) [])
 changes_written d e f g = rw (changes_before_lem (d ∷ []) [] (changes_before (e ∷ []) [])) (f followed_by g)
 
-pub heading_written : {a b c d : List ℕ} {i j k : ℕ} (p v : ℕ) (cs : List Change) → Written a b 0 i ((48 + p) ∷ 32 ∷ [])
-    → Written b c i j (v ∷ 32 ∷ []) → Written c d j k (changes_before cs []) → Written a d 0 k (heading_of p v cs)
+pub heading_written : {t u v w : Writer} (p k : ℕ) (cs : List Change) → Wrote t u ((48 + p) ∷ 32 ∷ []) → Wrote u v (k ∷ 32 ∷ [])
+    → Wrote v w (changes_before cs []) → Wrote t w (heading_of p k cs)
 unfolding heading_of
-heading_written p v cs f g h = f followed_by (g followed_by h)
+heading_written p k cs f g h = f followed_by (g followed_by h)
 
 fields : (p v : ℕ) (cs : List Change) (z : ℤ) (s t : List ℕ)
     → heading_of p v cs ++ (signed_decimal z (32 ∷ []) ++ ((map digit_byte s ++ 32 ∷ []) ++ (map digit_byte t ++ 10 ∷ [])))
@@ -169,10 +171,10 @@ fields p v cs z s t =
     ∙ ap (λ (l : List ℕ). heading_of p v cs ++ l) (sym (signed_before z (32 ∷ []) words))
     ∙ ap (λ (l : List ℕ). digit_byte p ∷ 32 ∷ v ∷ 32 ∷ l) (sym (changes_before_lem cs [] (signed_decimal z (32 ∷ words))))
 
-pub reading_written : {a b c d e : List ℕ} {i j k l : ℕ} (p v : ℕ) (cs : List Change) (z : ℤ) (s t : List ℕ)
-    → Written a b 0 i (heading_of p v cs) → Written b c i j (signed_decimal z (32 ∷ [])) → Written c d j k (map digit_byte s ++ 32 ∷ [])
-    → Written d e k l (map digit_byte t ++ 10 ∷ []) → Written a e 0 l (reading_line p v cs z s t)
-reading_written p v cs z s t f e g h = rw (fields p v cs z s t) at (f followed_by (e followed_by (g followed_by h)))
+pub reading_written : {a b c d e : Writer} (p k : ℕ) (cs : List Change) (z : ℤ) (s t : List ℕ) → Wrote a b (heading_of p k cs)
+    → Wrote b c (signed_decimal z (32 ∷ [])) → Wrote c d (map digit_byte s ++ 32 ∷ []) → Wrote d e (map digit_byte t ++ 10 ∷ [])
+    → Wrote a e (reading_line p k cs z s t)
+reading_written p k cs z s t f e g h = rw (fields p k cs z s t) at (f followed_by (e followed_by (g followed_by h)))
 
 pub reworded : {old new x y : List ℕ} {at end : ℕ} → x ≡ y → Written old new at end x → Written old new at end y
 reworded e w = rw e at w

@@ -6,12 +6,18 @@ use Rattle.code_theory.specs.Reading.{Change, changes_of, error_of}
 use Rattle.code_theory.specs.Operations.{Report, refusal, failure, success}
 use Rattle.lines_theory.specs.Line.{digit_byte, letter, refusal_line, changes_before, reading_line}
 use Rattle.lines_theory.specs.Sizes.{FindingWithin}
+use Rattle.answers.specs.declared.text.Writer.{Writer}
 
 -- bytes stand from index at on, up to end, and all else is as it was
 pub record Written (old new : List ℕ) (at end : ℕ) (bytes : List ℕ) : Type 0 where
   pub text : new ≡ take at old ++ (bytes ++ drop end old)
   pub ends : end ≡ at + length bytes
   pub fits : end ≤ length old
+
+-- a writer has put bytes into its buffer, and stands after them
+pub record Wrote (old new : Writer) (bytes : List ℕ) : Type 0 where
+  pub written : Written old.out.now new.out.now old.at new.at bytes
+  pub same : new.out.ghost_name ≡ old.out.ghost_name
 
 -- the fields of a reading before its error, each with a space: profile, the kind's letter, place and sent symbol of each change
 unfoldable pub heading_of : ℕ → ℕ → List Change → List ℕ

@@ -9,6 +9,7 @@ ghost use Rattle.std.specs.Prelude.{◌≡◌, ◌≤◌, length};
 ghost use Rattle.lines_theory.specs.Line.{line_answer};
 ghost use Rattle.lines_theory.specs.Feed.{overwritten};
 
+use crate::text::Writer;
 use refusals::Refusal;
 
 // What an answer is written into. The longest, of profile 4 with two filled places of two digits, has 108 bytes, byte 10 included.
@@ -22,9 +23,17 @@ pub fn answer(line: &[u8], out: &mut AnswerBuffer) -> usize
     ensures bytes { out.new ≡ overwritten (line_answer line.now) out.old }
 {
     let mut word = [0u8; 99];
-    let Some(profile) = form::parse(line, &mut word) else {
-        return text::refusal_line(out, Refusal::Form);
+    let parsed = form::parse(line, &mut word);
+    let mut answer = Writer {
+        out: &mut out[..],
+        at: 0,
     };
-    let n = line.len() - 2;
-    respond::respond(profile, &word[..n], out)
+    match parsed {
+        Some(profile) => {
+            let n = line.len() - 2;
+            respond::respond(profile, &word[..n], &mut answer);
+        }
+        None => answer.refusal_line(Refusal::Form),
+    }
+    answer.at
 }

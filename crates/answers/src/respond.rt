@@ -1,13 +1,14 @@
 // What Read answers of a word, as a line.
-ghost use Rattle.std.specs.Prelude.{◌≡◌, ◌≤◌, length};
+ghost use Rattle.std.specs.Prelude.{◌≡◌, ◌+◌, ◌≤◌, length};
 ghost use Rattle.code_theory.specs.Parameters.{message_length};
 ghost use Rattle.code_theory.specs.Profiles as Profiles;
 ghost use Rattle.code_theory.specs.Reading.{changes_of, error_of};
 ghost use Rattle.decoder.specs.Decode.{changes_in, finding_of};
 ghost use Rattle.decoder.specs.SyndromeDecode.{syndrome_report};
 ghost use Rattle.lines_theory.specs.Line.{letter, answer_line, read_answer};
-ghost use Rattle.answers.specs.Writing.{Written, shown_line, Small};
+ghost use Rattle.answers.specs.Writing.{Wrote, shown_line, Small};
 
+use crate::text::Writer;
 use decoder::{Change, Changes, Decoded};
 use profiles::row_of;
 use refusals::Refusal;
@@ -46,38 +47,34 @@ fn write_decoded(
     profile: usize,
     first: &[u8],
     second: &[u8],
-    out: &mut [u8],
-) -> usize
-    requires profile_bound { (profile ≤ 9) × (length out.old ≡ 128) × (length first.now ≤ 45) × (length second.now ≤ 45) }
+    line: &mut Writer,
+)
+    requires profile_bound { (profile ≤ 9) × (length first.now ≤ 45) × (length second.now ≤ 45) }
     requires small { Small (syndrome_report decoded) first.now second.now }
-    ensures { Written out.old out.new 0 result
+    requires room { line.old.at + 110 ≤ length line.old.out.now }
+    ensures { Wrote line.old line.new
         (shown_line profile (syndrome_report decoded) first.now second.now) }
 {
     match decoded {
         Ok(read) => {
             let (kind, changes, error) = fields(read);
-            crate::text::reading_line(out, profile, kind, changes, error, first, second)
+            line.reading_line(profile, kind, changes, error, first, second);
         }
-        Err(refusal) => crate::text::refusal_line(out, refusal),
+        Err(refusal) => line.refusal_line(refusal),
     }
 }
 
 // Read, into two words of the profile's length, and its answer as a line. By the syndromes (02, T-09), which is quicker: no count is
 // printed.
-fn respond_with(
-    profile: usize,
-    word: &[u8],
-    first: &mut [u8],
-    second: &mut [u8],
-    out: &mut [u8],
-) -> usize
-    requires profile_bound { (profile ≤ 9) × (length out.old ≡ 128) × (message_length (Profiles.profile profile) ≤ 45) }
+fn respond_with(profile: usize, word: &[u8], first: &mut [u8], second: &mut [u8], line: &mut Writer)
+    requires profile_bound { (profile ≤ 9) × (message_length (Profiles.profile profile) ≤ 45) }
+    requires room { line.old.at + 110 ≤ length line.old.out.now }
     requires first_len { length first.old ≡ message_length (Profiles.profile profile) }
     requires second_len { length second.old ≡ message_length (Profiles.profile profile) }
-    ensures { Written out.old out.new 0 result (answer_line profile (read_answer profile word.now)) }
+    ensures { Wrote line.old line.new (answer_line profile (read_answer profile word.now)) }
 {
     let decoded = decoder::syndrome_decode(EDITION, profile, word, first, second);
-    write_decoded(decoded, profile, first, second, out)
+    write_decoded(decoded, profile, first, second, line);
 }
 
 // 01: k, and 0 for a number that is no profile's.
@@ -91,12 +88,12 @@ fn message_length(profile: usize) -> usize
 }
 
 // The same, with the words, of k symbols each.
-pub(crate) fn respond(profile: usize, word: &[u8], out: &mut [u8]) -> usize
-    requires { (profile ≤ 9) × (length out.old ≡ 128) }
-    ensures { Written out.old out.new 0 result (answer_line profile (read_answer profile word.now)) }
+pub(crate) fn respond(profile: usize, word: &[u8], line: &mut Writer)
+    requires { (profile ≤ 9) × (line.old.at + 110 ≤ length line.old.out.now) }
+    ensures { Wrote line.old line.new (answer_line profile (read_answer profile word.now)) }
 {
     let k = message_length(profile);
     let mut first = [0u8; 45];
     let mut second = [0u8; 45];
-    respond_with(profile, word, &mut first[..k], &mut second[..k], out)
+    respond_with(profile, word, &mut first[..k], &mut second[..k], line);
 }

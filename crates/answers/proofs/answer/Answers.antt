@@ -6,20 +6,16 @@ use Rattle.answers.proofs.Forms.{GoodLine, bad_line, good_line}
 use Rattle.answers.proofs.Writing.{reworded, overwrites}
 use Rattle.answers.proofs.Answers.{line_read}
 use Rattle.answers.proofs.answer.Goals as goal
-use Rattle.answers.proofs.answer.Goals.{In-Some}
+use Rattle.answers.proofs.answer.Goals.{In-Some, Joined-parsed, in-Some, in-None}
+use Rattle.answers.specs.Writing.{Written}
+use Rattle.lines_theory.specs.Line.{line_answer}
 
-good : (c : In-Some) → GoodLine c.args.line.now c.in-Some.profile c.parse.new.word
-good c = good_line c.parse.ensures c.in-Some.is
+good : (c : In-Some) → GoodLine c.args.line.now c.in-Some.profile c.parse-parsed.new.word
+good c = good_line c.parse-parsed.ensures c.in-Some.is
 
 -- the line's symbols lie within the word
-within : (c : In-Some) → length c.args.line.now - 2 ≤ length c.parse.new.word
-within c = omega (arith, c.parse.auto.word, (good c).high)
-
-pub returns-in_default : goal.returns-in_default
-returns-in_default c =
-    let bad = bad_line c.parse.ensures c.in_default.is in
-    let written = overwrites (search rules) (reworded (sym (line_bad _ bad)) c.refusal_line.ensures) in
-    record { length = written.0; fits = written.1.0; bytes = written.1.1 }
+within : (c : In-Some) → length c.args.line.now - 2 ≤ length c.parse-parsed.new.word
+within c = omega (arith, c.parse-parsed.auto.word, (good c).high)
 
 pub overflow_sub-n : goal.overflow_sub-n
 overflow_sub-n c = omega (arith, (good (goal.at.overflow_sub-n c).In-Some).low)
@@ -31,9 +27,20 @@ pub slice_bounds-respond-end : goal.slice_bounds-respond-end
 slice_bounds-respond-end c = sym (length-take-le _ _ (within (goal.at.slice_bounds-respond-end c).In-Some))
 
 pub respond-requires : goal.respond-requires
-respond-requires c = ((good (goal.at.respond-requires c).In-Some).small, search rules)
+respond-requires c = ((good (goal.at.respond-requires c).In-Some).small, omega arith)
+
+-- either way
+line_written : (c : Joined-parsed)
+    → Written c.args.out.now c.match-parsed.answer.out.now 0 c.match-parsed.answer.at (line_answer c.args.line.now)
+line_written c =
+    elim c.match-parsed.branch [
+      | in-Some w ↦
+          rw w.answer-is (reworded (line_read (good_line c.parse-parsed.ensures w.in-Some.is)) w.respond.ensures.written)
+      | in-None w ↦
+          rw w.answer-is (reworded (sym (line_bad _ (bad_line c.parse-parsed.ensures w.in-None.is))) w.refusal_line.ensures.written)
+    ]
 
 pub returns : goal.returns
 returns c =
-    let written = overwrites (search rules) (reworded (line_read (good (goal.at.returns c).In-Some)) c.respond.ensures) in
+    let written = overwrites (search rules) (line_written c) in
     record { length = written.0; fits = written.1.0; bytes = written.1.1 }

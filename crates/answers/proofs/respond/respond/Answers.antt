@@ -13,4 +13,4 @@ pub respond_with-requires : goal.respond_with-requires
 respond_with-requires c =
     let (long, few) = c.message_length-k.ensures in
     let e = length-take-le _ _ few ∙ long in
-    record { profile_bound = (c.requires.0, c.requires.1, rw long at few); first_len = e; second_len = e }
+    record { profile_bound = (c.requires.0, rw long at few); room = c.requires.1; first_len = e; second_len = e }

@@ -14,11 +14,11 @@ write_decoded-requires c =
     record {
       profile_bound = (
         small.0,
-        small.1,
-        omega (arith, auto.first, small.2, c.requires.first_len),
-        omega (arith, auto.second, small.2, c.requires.second_len),
+        omega (arith, auto.first, small.1, c.requires.first_len),
+        omega (arith, auto.second, small.1, c.requires.second_len),
       );
       small = small_shown a.profile a.word.now a.first.now a.second.now _ _ _ e.answer e.first_out e.second_out;
+      room = c.requires.room;
     }
 
 pub returns : goal.returns

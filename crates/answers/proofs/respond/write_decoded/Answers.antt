@@ -15,9 +15,9 @@ reading_line-requires c =
     let e = c.fields-kind.ensures in
     let ((changes, error), first, second) = rw c.in-Ok.is at c.requires.small in
     record {
-      profile_bound = (sizes.0, rw e.changes changes, sizes.1);
-      error_bound = rw (e.error, error_read _ error) error;
-      first_len_bound = search rules;
+      small = (sizes.0, rw e.changes changes, rw (e.error, error_read _ error) error);
+      words = search rules;
+      room = c.requires.room;
     }
 
 pub returns-in-Ok : goal.returns-in-Ok
