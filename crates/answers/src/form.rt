@@ -16,7 +16,7 @@ fn has_length(line: &[u8]) -> bool
 fn digit_value(byte: u8) -> u8
     ensures { Valued byte result }
 {
-    std::num::wrapping_sub_u8(byte, b'0')
+    byte.wrapping_sub(b'0')
 }
 
 // The symbol that a byte stands for. Its height is past 9 where it stands for none.
