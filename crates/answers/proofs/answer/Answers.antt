@@ -1,6 +1,6 @@
 -- `answers::answer` meets its contract: the form decides between refusal 9 and Read, which gets the symbols of the line.
 -- Assumes nothing.
-use Rattle.std.proofs.Common.{◌-◌, ◌≤◌, length, sym, arith, length-take-le, rules}
+use Rattle.std.proofs.Common.{sym, arith, rules}
 use Rattle.lines_theory.proofs.Order.{line_bad}
 use Rattle.answers.proofs.Forms.{GoodLine, bad_line, good_line}
 use Rattle.answers.proofs.Writing.{reworded, overwrites}
@@ -13,18 +13,8 @@ use Rattle.lines_theory.specs.Line.{line_answer}
 good : (c : In-Some) → GoodLine c.args.line.now c.in-Some.profile c.parse-parsed.new.word
 good c = good_line c.parse-parsed.ensures c.in-Some.is
 
--- the line's symbols lie within the word
-within : (c : In-Some) → length c.args.line.now - 2 ≤ length c.parse-parsed.new.word
-within c = omega (arith, c.parse-parsed.auto.word, (good c).high)
-
 pub overflow_sub-n : goal.overflow_sub-n
 overflow_sub-n c = omega (arith, (good (goal.at.overflow_sub-n c).In-Some).low)
-
-pub slice_bounds-word-end : goal.slice_bounds-word-end
-slice_bounds-word-end c = within (goal.at.slice_bounds-word-end c).In-Some
-
-pub slice_bounds-respond-end : goal.slice_bounds-respond-end
-slice_bounds-respond-end c = sym (length-take-le _ _ (within (goal.at.slice_bounds-respond-end c).In-Some))
 
 pub respond-requires : goal.respond-requires
 respond-requires c = ((good (goal.at.respond-requires c).In-Some).small, omega arith)

@@ -14,9 +14,6 @@ returns-then-not-has_length c =
     let l = c.args.line.now in
     parsed_bad l _ (bad_length l (sym c.has_length.ensures ∙ c.if-not-has_length.true))
 
-pub bounds-line-0 : goal.bounds-line-0
-bounds-line-0 c = omega (arith, (long_enough (goal.at.bounds-line-0 c).Else-not-has_length).0)
-
 pub returns-then-profile-gt9 : goal.returns-then-profile-gt9
 returns-then-profile-gt9 c =
     let l = c.args.line.now in
@@ -27,9 +24,6 @@ returns-then-profile-gt9 c =
       | then-profile-gt9-via-else-profile-gt9+else-line-ne32+then-symbol_values-gt9 w ↦
           bad_symbols l _ _ (rw take_rest at w.symbol_values.ensures) w.if-symbol_values-gt9.true
     ])
-
-pub bounds-line-1 : goal.bounds-line-1
-bounds-line-1 c = omega (arith, (long_enough (goal.at.bounds-line-1 c).Else-not-has_length).0)
 
 pub symbol_values-requires : goal.symbol_values-requires
 symbol_values-requires c =
