@@ -13,7 +13,7 @@ use profiles::{edition_of, encode_refusal, row_in};
 use refusals::Refusal;
 
 // 01: Write. The word of two messages, in edition 13 or 18 (02, T-03) and a profile from 1 to 4, by line rule 1 or 2 (02, T-06). The output
-// then holds it, or the call is refused (02, T-04) and the output is as it was.
+// then holds it, or the call is refused and the output is as it was.
 pub fn encode(
     edition: usize,
     profile: usize,

@@ -13,7 +13,7 @@ use cells::CELL_SIZE;
 pub use refusals::{Refusal, number};
 use soundness::check;
 
-// Makes an empty queue of all the bytes (01: lay out). Refused is a wrong length (5).
+// Makes an empty queue of all the bytes (01: lay out). A refusal, here and below, has changed no byte.
 pub fn format(queue: &mut [u8]) -> Result<(), Refusal>
     ensures { FormatAllows queue.old (number_of result) queue.new }
 {
@@ -23,7 +23,7 @@ pub fn format(queue: &mut [u8]) -> Result<(), Refusal>
     Ok(())
 }
 
-// Adds a record at the end of the queue (01: enter). The word is kept as received. A refusal, here and below, has changed no byte.
+// Adds a record at the end of the queue (01: enter). The word is kept as received.
 pub fn enqueue(queue: &mut [u8], boxno: usize, profile: usize, word: &[u8]) -> Result<(), Refusal>
     ensures { EnqueueAllows queue.old boxno profile word.now (number_of result) queue.new }
 {
