@@ -8,10 +8,10 @@ use Rattle.symbols.specs.declared.sums.Syndrome.{Syndrome}
 use Rattle.syndromes.specs.Rows.{FourRows, rows_of}
 use Rattle.decoder.specs.Multiples.{Multiples}
 
--- r is column a of the n columns, if there is one
-abbrev pub ColumnAt : ℕ → List (List ℕ) → ℕ → Option (List ℕ) → Type 0
-ColumnAt n columns a (Some r) = (a ≢ 0) × (a ≤ n) × (r ≡ get_or columns (a - 1) [])
-ColumnAt n columns a None = (a ≡ 0) ⊎ (n < a)
+-- r is the index of column a of n columns, if there is one
+abbrev pub ColumnIndex : ℕ → ℕ → Option ℕ → Type 0
+ColumnIndex n a (Some r) = (a ≢ 0) × (a ≤ n) × (r ≡ a - 1)
+ColumnIndex n a None = (a ≡ 0) ⊎ (n < a)
 
 -- the four rows with f times a column of three digits and a 1 added
 abbrev pub moved_rows : ℕ → ℕ → List ℕ → List ℕ → List ℕ
