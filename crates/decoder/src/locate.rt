@@ -3,7 +3,7 @@
 ghost use Rattle.std.specs.Prelude.{◌≡◌, ◌≢◌, pos, ◌≤◌};
 ghost use Rattle.profiles.specs.Edition.{edition_is};
 ghost use Rattle.profiles.specs.Row.{RowOf};
-ghost use Rattle.decoding_theory.specs.Decoded.{position_count, balancing_symbol, off_by_lack, near_after, fits};
+ghost use Rattle.decoding_theory.specs.Decoded.{position_count, balancing_symbol, in_range, off_by_lack, near_after, fits};
 ghost use Rattle.decoder.specs.Totals.{WholeWord};
 ghost use Rattle.decoder.specs.Search.{parameters_of, sums_in, parity_of, Tries};
 ghost use Rattle.decoder.specs.Locate.{ErrorLocated, FirstFit};
@@ -34,6 +34,15 @@ impl Search {
         ensures { result ≡ balancing_symbol (parameters_of self) (sums_in self) x }
     {
         less(self.row.q, x, self.s.excess)
+    }
+
+    // Whether that symbol is a level. Both tests are made, which the compiler takes for one.
+    #[tactic(auto, unfolding(decoding_theory::specs::Decoded::in_range, decoding_theory::specs::Decoded::balancing_symbol))]
+    fn in_range(self, x: u8) -> bool
+        ensures { result ≡ in_range (parameters_of self) (sums_in self) x }
+    {
+        let y = i32::from(x) - self.s.excess;
+        (0 <= y) & (y < i32::from(self.row.q))
     }
 
     // Whether the check symbol of the parity is off by as much as the weight, mod q.
@@ -79,7 +88,7 @@ impl Search {
     }
 
     // Whether the symbol x at index k of the parity can be the one that changed: the three tests of a position.
-    #[tactic(auto, using(crate::proofs::Sent::sent_none, crate::proofs::Sent::sent_some), unfolding(decoding_theory::specs::Decoded::fits))]
+    #[tactic(auto, unfolding(decoding_theory::specs::Decoded::fits))]
     fn fits(
         self,
         columns: &Matrix,
@@ -91,9 +100,7 @@ impl Search {
         requires { Tries self columns.now by_first.now by_second.now × (k ≤ 48) }
         ensures { result ≡ fits (parameters_of self) (sums_in self) (parity_of self) k x }
     {
-        self.balancing_symbol(x) != self.row.q
-            && self.off_by_lack()
-            && self.near_after(columns, by_first, by_second, k)
+        self.in_range(x) && self.off_by_lack() && self.near_after(columns, by_first, by_second, k)
     }
 
     // The first index of the parity that fits.
@@ -157,9 +164,6 @@ impl Search {
             return None;
         }
         let i = self.locate_error(profile)? - 1;
-        if self.balancing_symbol(word[i]) == self.row.q {
-            return None;
-        }
-        Some(i / 2)
+        self.in_range(word[i]).then_some(i / 2)
     }
 }

@@ -93,6 +93,7 @@ fn wrong_parity(s: Totals) -> Option<Parity>
 
 // The symbol at index k of the parity corrected, where that is the first that fits, and the syndromes are then those given. The components
 // of the word are in x.
+#[inline]
 fn correct(
     search: Search,
     after: Syndromes,
@@ -149,6 +150,7 @@ fn decode_unbalanced<M: Method>(
 }
 
 // What follows the balance test of a balanced word, whose components are in x.
+#[inline]
 fn decode_balanced(
     row: Row,
     s: Totals,
@@ -191,6 +193,7 @@ fn decode_word<M: Method>(
 
 // The row of the profile of that number, in the edition of that number, and the erased symbols of the word; or what refuses the call, where
 // the outputs have so many symbols.
+#[inline(always)]
 fn admit(
     edition: usize,
     profile: usize,

@@ -1,8 +1,10 @@
 -- `decoder::search::Search::fit_located` meets its contract: an index that fits explains the syndromes, and at most one does, the one located.
 -- Assumes nothing.
-use mathlib.Core.Path.{◌≡◌, sym, ◌∙◌}
+use Rattle.std.specs.Bool.{then_some}
+use mathlib.Core.Bool.{Bool, true, false}
+use mathlib.Core.Path.{◌≡◌, refl, sym, ◌∙◌}
 use mathlib.Core.List.{List}
-use Prim.Native.Nat.{ℕ, ◌-◌, ◌≤◌, ◌<◌}
+use Prim.Native.Nat.{ℕ, ◌-◌, ◌/◌, ◌≤◌, ◌<◌}
 use native.Mathlib.Omega.{arith}
 use Rattle.code_theory.specs.Parameters.{balanced_length}
 use Rattle.locating_theory.specs.ErrorPosition as model
@@ -11,7 +13,7 @@ use Rattle.locating_theory.proofs.Located.{fit_none_off, fit_nowhere, fit_out_of
 use Rattle.locator.proofs.Answering.{row_prime}
 use Rattle.decoder.specs.declared.search.Search.{Search}
 use Rattle.decoder.specs.Search.{parameters_of, sums_in, parity_of}
-use Rattle.decoder.proofs.Sent.{sent_none, sent_some}
+use Rattle.decoder.specs.Locate.{FirstFit}
 use Rattle.decoder.proofs.Locating.{word_levels, position_within}
 use Rattle.decoder.proofs.search.Search.fit_located.Goals as goal
 use Rattle.decoder.proofs.search.Search.fit_located.Goals.{In_ok-i, Start}
@@ -59,19 +61,20 @@ overflow_sub-i c = (within (goal.at.overflow_sub-i c).In_ok-i).0
 pub bounds-word-i : goal.bounds-word-i
 bounds-word-i c = omega (arith, (within (goal.at.bounds-word-i c).In_ok-i).1, c.requires.0.long)
 
-pub returns-then-balancing_symbol-self : goal.returns-then-balancing_symbol-self
-returns-then-balancing_symbol-self c =
-    let at = (goal.at.returns-then-balancing_symbol-self c).In_ok-i in
-    let start = begun at in
-    let (_, _, of) = c.requires in
-    let none = sent_none _ _ _ (sym c.balancing_symbol.ensures ∙ c.if-balancing_symbol-self.true) in
-    fit_out_of_range (parameters_of (x start)) (sums_in (x start)) (parity_of (x start)) (word start) (named at) (is_at at) (x start).valid.sized
-    (row_prime of) none
-
 pub returns : goal.returns
-returns c =
-    let at = (goal.at.returns c).In_ok-i in
-    let start = begun at in
-    let by_lack = sym c.off_by_lack.ensures ∙ c.if-not-off_by_lack.false in
-    let in_range_lem = sent_some _ _ _ (λ e. c.if-balancing_symbol-self.false (c.balancing_symbol.ensures ∙ e)) in
-    fit_at (parameters_of (x start)) (sums_in (x start)) (parity_of (x start)) (word start) (named at) (is_at at) by_lack in_range_lem
+returns c = rw c.then_some.ensures (go c.in_range.result refl)
+  where
+    at : In_ok-i
+    at = (goal.at.returns c).In_ok-i
+
+    start : Start
+    start = begun at
+
+    go : (b : Bool) → c.in_range.result ≡ b → FirstFit (x start) (word start) (then_some b ((named at - 1) / 2))
+    go true e =
+        let by_lack = sym c.off_by_lack.ensures ∙ c.if-not-off_by_lack.false in
+        fit_at (parameters_of (x start)) (sums_in (x start)) (parity_of (x start)) (word start) (named at) (is_at at) by_lack
+        (sym c.in_range.ensures ∙ e)
+    go false e =
+        fit_out_of_range (parameters_of (x start)) (sums_in (x start)) (parity_of (x start)) (word start) (named at) (is_at at)
+        (x start).valid.sized (row_prime c.requires.2) (sym c.in_range.ensures ∙ e)
