@@ -58,21 +58,13 @@ module _ {x : Search} {columns : List (List ℕ)} {F G : List ℕ} (a : Tries x 
 
 -- A position fits where it passes the three tests.
 module _ (p : Parameters) (S : Sums) (b : Bool) (k x : ℕ) where
-  pub fits_range : in_range p S x ≡ false → false ≡ fits p S b k x
-  unfolding fits
-  fits_range e = rw e
-
-  pub fits_check : in_range p S x ≡ true → off_by_lack p S b ≡ false → false ≡ fits p S b k x
-  unfolding fits
-  fits_check e f = rw (e, f)
-
   fits_off : off_by_lack p S b ≡ false → fits p S b k x ≡ false
   unfolding fits
   fits_off e = cases (in_range p S x) (λ f. rw (f, e)) (λ f. rw f)
 
-  pub fits_near : in_range p S x ≡ true → off_by_lack p S b ≡ true → {c : Bool} → c ≡ near_after p S b k → c ≡ fits p S b k x
+  pub fits_all : in_range p S x ≡ true → off_by_lack p S b ≡ true → near_after p S b k ≡ true → fits p S b k x ≡ true
   unfolding fits
-  fits_near e f g = rw (e, f) g
+  fits_all e f g = rw (e, f, g)
 
 pub near_after_lem : (p : Parameters) (S : Sums) (b : Bool) (k : ℕ) {c : Bool} {F G : List ℕ} → c ≡ near_syndromes p F G
     → F ≡ moved_of p true b k (gain p S) S.first → G ≡ moved_of p false b k (gain p S) S.second → c ≡ near_after p S b k

@@ -87,42 +87,9 @@ impl Search {
         near(row.q, row.n, first, second)
     }
 
-    // Whether the symbol x at index k of the parity can be the one that changed: the three tests of a position.
+    // The first index of the parity that fits. Where the check symbol is off by something else than the weight, none does, and none has to be
+    // tried.
     #[tactic(auto, unfolding(decoding_theory::specs::Decoded::fits))]
-    fn fits(
-        self,
-        columns: &Matrix,
-        by_first: &[u8; 16],
-        by_second: &[u8; 16],
-        k: usize,
-        x: u8,
-    ) -> bool
-        requires { Tries self columns.now by_first.now by_second.now × (k ≤ 48) }
-        ensures { result ≡ fits (parameters_of self) (sums_in self) (parity_of self) k x }
-    {
-        self.in_range(x) && self.off_by_lack() && self.near_after(columns, by_first, by_second, k)
-    }
-
-    // The first index of the parity that fits.
-    fn first_fit(
-        self,
-        columns: &Matrix,
-        by_first: &[u8; 16],
-        by_second: &[u8; 16],
-        word: &[u8],
-    ) -> Option<usize>
-        requires { Tries self columns.now by_first.now by_second.now × WholeWord self.row word.now }
-        ensures { FirstFit self word.now result }
-    {
-        for k in 0..self.position_count() {
-            if self.fits(columns, by_first, by_second, k, word[self.parity.index(k)]) {
-                return Some(k);
-            }
-        }
-        None
-    }
-
-    // The same. Where the check symbol is off by something else than the weight, no position fits, and none has to be tried.
     pub(crate) fn locate(
         self,
         columns: &Matrix,
@@ -136,7 +103,14 @@ impl Search {
         if !self.off_by_lack() {
             return None;
         }
-        self.first_fit(columns, by_first, by_second, word)
+        for k in 0..self.position_count() {
+            if self.in_range(word[self.parity.index(k)])
+                && self.near_after(columns, by_first, by_second, k)
+            {
+                return Some(k);
+            }
+        }
+        None
     }
 
     // The position that the syndromes name (02, T-09): no symbol of the word is looked at.

@@ -1,10 +1,10 @@
--- `decoder::search::Search::first_fit` meets its contract. The invariant: no index passed fits.
+-- `decoder::search::Search::locate` meets its contract. The invariant: no index passed fits.
 -- Assumes nothing.
 use Rattle.std.specs.Prelude.{◌≡◌, false, ℕ, ◌<◌, get_or}
 use Rattle.decoding_theory.specs.Syndromes.{index}
 use Rattle.decoding_theory.specs.Decoded.{fits}
 use Rattle.decoder.specs.Search.{parameters_of, sums_in, parity_of}
-use Rattle.decoder.proofs.search.Search.first_fit.Given as goal
+use Rattle.decoder.proofs.search.Search.locate.Given as goal
 
 abbrev pub invariant-loop-k : goal.invariant-loop-k
 invariant-loop-k l =
