@@ -167,7 +167,9 @@ fn decode_balanced(
     Ok(found)
 }
 
-// A word of levels that numbers 1 to 3 let through, by its sums. The columns are built once.
+// A word of levels that numbers 1 to 3 let through, by its sums. The columns are built once. A call, so that the room on the stack for its
+// tables is not taken where a symbol is erased too.
+#[inline(never)]
 fn decode_word<M: Method>(
     profile: usize,
     row: Row,
@@ -221,13 +223,17 @@ pub(crate) fn decode_by<M: Method>(
         (decode_answer edition profile word.now (length first.old) (length second.old))) result
         first.old first.new second.old second.new }
 {
-    let answer = match admit(edition, profile, word, first.len(), second.len()) {
-        Ok((row, Erasures::Whole)) => {
-            return decode_word::<M>(profile, row, word, first, second);
+    let (row, erasures) = match admit(edition, profile, word, first.len(), second.len()) {
+        Ok(admitted) => admitted,
+        Err(refusal) => {
+            let answer = Err(refusal);
+            return Decoding { answer, tried: 0 };
         }
-        Ok((row, Erasures::One(i))) => decode_one(row, word, i, first, second),
-        Ok((row, Erasures::Two(i, j))) => decode_two(row, word, i, j, first, second),
-        Err(refusal) => Err(refusal),
+    };
+    let answer = match erasures {
+        Erasures::Whole => return decode_word::<M>(profile, row, word, first, second),
+        Erasures::One(i) => decode_one(row, word, i, first, second),
+        Erasures::Two(i, j) => decode_two(row, word, i, j, first, second),
     };
     Decoding { answer, tried: 0 }
 }

@@ -1,14 +1,14 @@
--- `copy` meets its contract: what is copied is the part of `from` that both have.
+-- `copy` meets its contract: at the end of the loop as much is copied as both have.
 -- Assumes nothing.
-use mathlib.Core.Path.{ap, ◌∙◌}
-use mathlib.Core.List.{List, ◌++◌}
-use Prim.Native.Nat.{ℕ}
-use lib.ListN.{drop}
+use mathlib.Core.Path.{◌≡◌, ◌∙◌}
+use native.Mathlib.Omega.{arith}
 use Rattle.cells.proofs.Bytes.{copied_both}
 use Rattle.cells.proofs.slices.copy.Goals as goal
 
 pub returns : goal.returns
 returns c =
     let to = c.args.to.now in
-    let n = c.min-n.result in
-    ap (λ (l : List ℕ). l ++ drop n to) c.copy_from_slice.ensures.after ∙ copied_both to c.args.from.now n c.min-n.ensures
+    let from = c.args.from.now in
+    let l = c.loop-i in
+    let n : l.i ≡ c.min-i-end.result = omega arith in
+    l.invariant.0 ∙ copied_both to from l.i (n ∙ c.min-i-end.ensures)

@@ -11,44 +11,44 @@ use Rattle.decoder.proofs.word.decode_by.Goals as goal
 
 pub decode_word-requires : goal.decode_word-requires
 decode_word-requires g c =
-    let m = c.in-Ok-default-Whole in
-    let known = whole_known _ _ _ _ _ m.field-0-1 m.ensures g.M.Method.count m.field-0-1-is in (
-      word_known _ _ _ _ _ m.field-0-1 m.ensures g.M.Method.count m.field-0-1-is,
-      outputs_known _ _ _ _ _ m.field-0-1 m.ensures g.M.Method.count known,
+    let m = c.in-Ok in
+    let known = whole_known _ _ _ _ _ m.admitted.1 m.ensures g.M.Method.count c.in-Whole.is in (
+      word_known _ _ _ _ _ m.admitted.1 m.ensures g.M.Method.count c.in-Whole.is,
+      outputs_known _ _ _ _ _ m.admitted.1 m.ensures g.M.Method.count known,
       row_own m.ensures.1,
     )
 
-pub returns-in-Ok-default-Whole : goal.returns-in-Ok-default-Whole
-returns-in-Ok-default-Whole g c =
-    let m = c.in-Ok-default-Whole in
-    answers_as (decoded_answer _ _ _ _ _ m.field-0-1 m.ensures g.M.Method.count m.field-0-1-is) c.decode_word.ensures
+pub returns-in-Whole : goal.returns-in-Whole
+returns-in-Whole g c =
+    let m = c.in-Ok in
+    answers_as (decoded_answer _ _ _ _ _ m.admitted.1 m.ensures g.M.Method.count c.in-Whole.is) c.decode_word.ensures
 
 pub decode_one-answer-requires : goal.decode_one-answer-requires
 decode_one-answer-requires g c =
-    let m = c.in-Ok-default-One in
-    let (known, erased) = one_known _ _ _ _ _ m.field-0-1 m.ensures g.M.Method.count m.field-0-1-is in (
-      erased_known _ _ _ _ _ m.field-0-1 m.ensures g.M.Method.count known erased (omega arith),
-      outputs_known _ _ _ _ _ m.field-0-1 m.ensures g.M.Method.count known,
+    let m = c.in-Ok in
+    let (known, erased) = one_known _ _ _ _ _ m.admitted.1 m.ensures g.M.Method.count c.in-One.is in (
+      erased_known _ _ _ _ _ m.admitted.1 m.ensures g.M.Method.count known erased (omega arith),
+      outputs_known _ _ _ _ _ m.admitted.1 m.ensures g.M.Method.count known,
     )
 
 pub decode_two-answer-requires : goal.decode_two-answer-requires
 decode_two-answer-requires g c =
-    let m = c.in-Ok-default-Two in
-    let (known, erased) = two_known _ _ _ _ _ m.field-0-1 m.ensures g.M.Method.count m.field-0-1-is in (
-      erased_known _ _ _ _ _ m.field-0-1 m.ensures g.M.Method.count known erased (omega arith),
-      outputs_known _ _ _ _ _ m.field-0-1 m.ensures g.M.Method.count known,
+    let m = c.in-Ok in
+    let (known, erased) = two_known _ _ _ _ _ m.admitted.1 m.ensures g.M.Method.count c.in-Two.is in (
+      erased_known _ _ _ _ _ m.admitted.1 m.ensures g.M.Method.count known erased (omega arith),
+      outputs_known _ _ _ _ _ m.admitted.1 m.ensures g.M.Method.count known,
     )
 
-pub returns-in-Ok-default-One : goal.returns-in-Ok-default-One
-returns-in-Ok-default-One g c =
-    let m = c.in-Ok-default-One in
-    let (known, erased) = one_known _ _ _ _ _ m.field-0-1 m.ensures g.M.Method.count m.field-0-1-is in
-    answers_as (filled_answer _ _ _ _ _ m.field-0-1 m.ensures g.M.Method.count known erased (omega arith) g.met.M.Method.none)
+pub returns-in-One : goal.returns-in-One
+returns-in-One g c =
+    let m = c.in-Ok in
+    let (known, erased) = one_known _ _ _ _ _ m.admitted.1 m.ensures g.M.Method.count c.in-One.is in
+    answers_as (filled_answer _ _ _ _ _ m.admitted.1 m.ensures g.M.Method.count known erased (omega arith) g.met.M.Method.none)
     (answers_read c.decode_one-answer.ensures refl)
 
-pub returns-in-Ok-default-Two : goal.returns-in-Ok-default-Two
-returns-in-Ok-default-Two g c =
-    let m = c.in-Ok-default-Two in
-    let (known, erased) = two_known _ _ _ _ _ m.field-0-1 m.ensures g.M.Method.count m.field-0-1-is in
-    answers_as (filled_answer _ _ _ _ _ m.field-0-1 m.ensures g.M.Method.count known erased (omega arith) g.met.M.Method.none)
+pub returns-in-Two : goal.returns-in-Two
+returns-in-Two g c =
+    let m = c.in-Ok in
+    let (known, erased) = two_known _ _ _ _ _ m.admitted.1 m.ensures g.M.Method.count c.in-Two.is in
+    answers_as (filled_answer _ _ _ _ _ m.admitted.1 m.ensures g.M.Method.count known erased (omega arith) g.met.M.Method.none)
     (answers_read c.decode_two-answer.ensures refl)
