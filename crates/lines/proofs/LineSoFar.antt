@@ -1,10 +1,17 @@
 -- The line so far, and the answer to it: what the methods of src/line.rt leave.
 -- Assumes nothing.
-use Rattle.std.proofs.Common.{◌≡◌, ℕ, ◌+◌, ◌<◌, ◌≤◌, List, [], ◌∷◌, ◌++◌, length, refl, sym, ap, ◌∙◌, append_assoc, append-nil, arith, length-append}
+use Rattle.std.proofs.Common.{◌≡◌, ℕ, ◌+◌, ◌<◌, ◌≤◌, Option, Some, List, [], ◌∷◌, ◌++◌, length, take, refl, sym, ap, ◌∙◌, append_assoc, append-nil, arith, length-append, le-leb}
+use Rattle.std.proofs.lemmas.Bool.{lt-leb}
 use Rattle.lines_theory.specs.Line.{has_form, line_answer}
 use Rattle.lines_theory.specs.Feed.{Partial, held, too_long, answer_to}
 use Rattle.lines_theory.proofs.Whole.{clip, clip_short, clip_long, extended_clip}
-use Rattle.lines.specs.Lines.{extended_by}
+use Rattle.lines.specs.Lines.{partial_of, extended_by}
+
+pub partial_held : (bytes : List ℕ) {len : Option ℕ} {n : ℕ} → len ≡ Some n → n ≤ 101 → partial_of bytes len ≡ held (take n bytes)
+partial_held bytes {n} e h = rw e (rw (partial_of, le-leb n 101 h) refl)
+
+pub partial_over : (bytes : List ℕ) {len : Option ℕ} {n : ℕ} → len ≡ Some n → 101 < n → partial_of bytes len ≡ too_long
+partial_over bytes {n} e h = rw e (rw (partial_of, lt-leb n 101 h) refl)
 
 -- More bytes of it.
 

@@ -1,11 +1,11 @@
 -- The line so far, as a state holds it.
 -- Assumes nothing.
-use Rattle.std.specs.Prelude.{Bool, true, false, Option, Some, None, List, [], ◌∷◌, ℕ, take}
+use Rattle.std.specs.Prelude.{Bool, true, false, Option, Some, None, List, [], ◌∷◌, ℕ, leb, take}
 use Rattle.lines_theory.specs.Feed.{Partial, held, too_long, extended}
 
--- the bytes of its array up to its length, or, where it has none, that it has run over
+-- the bytes of its array up to its length, or, where it has none or one past 101, that it has run over
 abbrev pub partial_of : List ℕ → Option ℕ → Partial
-partial_of bytes (Some n) = held (take n bytes)
+partial_of bytes (Some n) = elim (leb n 101) [ true ↦ held (take n bytes) | false ↦ too_long ]
 partial_of bytes None = too_long
 
 -- no byte of it has come

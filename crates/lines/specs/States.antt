@@ -4,7 +4,7 @@ use Rattle.std.specs.Prelude.{List, ℕ, length}
 use Rattle.lines_theory.specs.Feed.{Model, Fed, feed, finishing}
 use Rattle.lines.specs.declared.State.{State}
 
--- what a state stands for
+-- what a state stands for, whatever its fields hold
 unfoldable pub model_of : State → Model
 model_of s = record { line = s.line; pending = s.pending }
 

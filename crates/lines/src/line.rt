@@ -1,6 +1,5 @@
 // The line so far, and its answer.
-ghost use Rattle.std.specs.Prelude.{◌≡◌, ◌≤◌, []};
-ghost use Rattle.std.specs.Option.{ForSome};
+ghost use Rattle.std.specs.Prelude.{◌≡◌, []};
 ghost use Rattle.lines_theory.specs.Feed.{Partial, held, answer_to};
 ghost use Rattle.lines.specs.Lines.{partial_of, extended_by, is_fresh};
 
@@ -8,7 +7,7 @@ use crate::pending::Pending;
 use std::marker::Model;
 
 // The line so far (01: "a zeroed array of 101 bytes holds the line"), and its length. Past 101 bytes only that it has run over is
-// kept: it has no length then.
+// kept: it has no length then, and one past 101 would mean the same.
 #[derive(Drop)]
 pub(crate) struct Line {
     bytes: [u8; 101],
@@ -19,8 +18,6 @@ impl Model for Line {
     ghost Value = { Partial };
 
     ghost view = { λ l. partial_of l.bytes l.len };
-
-    ghost invariant = { λ l. ForSome l.len (λ n. n ≤ 101) };
 }
 
 impl Line {
@@ -44,8 +41,9 @@ impl Line {
     pub(crate) fn hold(&mut self, bytes: &[u8])
         ensures { self.new ≡ extended_by self.old bytes.now }
     {
-        let Some(len) = self.len else {
-            return;
+        let len = match self.len {
+            Some(len) if len <= 101 => len,
+            _ => return,
         };
         if bytes.len() > 101 - len {
             self.len = None;
@@ -61,7 +59,10 @@ impl Line {
         ensures answer { pending.new ≡ answer_to self.old }
         ensures next { self.new ≡ held [] }
     {
-        let len = self.len.unwrap_or(0);
+        let len = match self.len {
+            Some(len) if len <= 101 => len,
+            _ => 0,
+        };
         pending.answer(&self.bytes[..len]);
         self.len = Some(0);
     }

@@ -1,5 +1,5 @@
 // Putting pending bytes out.
-ghost use Rattle.std.specs.Prelude.{◌≡◌, ◌≤◌, List, ℕ, [], min, length, take, drop};
+ghost use Rattle.std.specs.Prelude.{◌≡◌, List, ℕ, [], min, length, take, drop};
 ghost use Rattle.lines_theory.specs.Line.{line_answer};
 ghost use Rattle.lines_theory.specs.Feed.{is_empty, overwritten};
 
@@ -18,8 +18,6 @@ impl Model for Pending {
     ghost Value = { List ℕ };
 
     ghost view = { λ p. drop p.from (take p.to p.answer) };
-
-    ghost invariant = { λ p. (p.from ≤ p.to) × (p.to ≤ 128) };
 }
 
 impl Pending {
@@ -33,10 +31,18 @@ impl Pending {
         }
     }
 
+    // The bytes not put out yet: indices past the array, or out of order, mean what the nearest ones mean.
+    fn bytes(&self) -> &[u8]
+        ensures { result.now ≡ self.now }
+    {
+        let to = self.to.min(128);
+        &self.answer[self.from.min(to)..to]
+    }
+
     pub(crate) fn is_empty(&self) -> bool
         ensures { result ≡ is_empty self.now }
     {
-        self.from == self.to
+        self.bytes().is_empty()
     }
 
     // The answer to a line, in place of what was pending.
@@ -53,8 +59,9 @@ impl Pending {
         ensures left { self.new ≡ drop result self.old }
         ensures output { output.new ≡ overwritten (take result self.old) output.old }
     {
-        let n = (self.to - self.from).min(output.len());
-        output[..n].copy_from_slice(&self.answer[self.from..self.from + n]);
+        let bytes = self.bytes();
+        let n = bytes.len().min(output.len());
+        output[..n].copy_from_slice(&bytes[..n]);
         self.from += n;
         n
     }

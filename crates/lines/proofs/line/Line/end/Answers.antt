@@ -1,21 +1,18 @@
 -- `lines::line::Line::end` meets its contract: the bytes held are answered, or, of a line that has run over, none.
 -- Assumes nothing.
-use Rattle.std.proofs.Common.{◌≡◌, ℕ, List, Option, Some, None, take, refl, ap, ◌∙◌}
-use Rattle.std.specs.Option.{unwrap_or}
-use Rattle.lines_theory.specs.Line.{line_answer}
+use Rattle.std.proofs.Common.{refl, ap, ◌∙◌}
 use Rattle.lines_theory.specs.Feed.{answer_to}
-use Rattle.lines.specs.Lines.{partial_of}
-use Rattle.lines.proofs.LineSoFar.{over_answer}
+use Rattle.lines.proofs.LineSoFar.{partial_held, partial_over, over_answer}
 use Rattle.lines.proofs.line.Line.end.Goals as goal
-
-answer_is : (bytes : List ℕ) (len : Option ℕ) → line_answer (take (unwrap_or len 0) bytes) ≡ answer_to (partial_of bytes len)
-answer_is bytes (Some n) = refl
-answer_is bytes None = over_answer
+use Rattle.lines.proofs.line.Line.end.Goals.{in-Some, in_default, in_default-2}
 
 pub returns-clause-answer : goal.returns-clause-answer
 returns-clause-answer c =
-    let p = c.self.inside in
+    let bytes = c.self.inside.bytes in
     c.answer.ensures
-    ∙ ap (λ (n : ℕ). line_answer (take n p.bytes)) c.unwrap_or-len.ensures
-    ∙ answer_is p.bytes p.len
+    ∙ (elim c.match-self.branch [
+      | in-Some w ↦ rw (w.len-is, partial_held bytes w.in-Some.is w.if-len-le101.true) refl
+      | in_default-2 w ↦ rw (w.len-is, partial_over bytes w.in-Some.is w.if-len-le101.false) over_answer
+      | in_default w ↦ rw (w.len-is, w.in_default.is) over_answer
+    ])
     ∙ ap answer_to c.self.view_is
