@@ -10,8 +10,10 @@ ghost use Rattle.boxlines.specs.Turns.{AnswersPiece, AnswersEnd, AnswersRead};
 use lines::State;
 use std::io::{Read, Stdin};
 
-// The stream that answers are written to, by POSIX's number.
+// The streams that are written to, by POSIX's numbers.
 const STDOUT_FILENO: i32 = 1;
+
+const STDERR_FILENO: i32 = 2;
 
 // What failed. None of the lines that came with it counts: so a line counts once the answers to all that came with it are
 // written.
@@ -113,13 +115,20 @@ fn turn(
     proceed(state, got, input, output)
 }
 
-// How the program ended, on standard error. That this can't be written is not told.
-fn print_end(rt: &HostRuntime, end: Result<(), Failure>, lines: u64) {
-    let _ = match end {
-        Ok(()) => eprintln!(rt; "boxlines: {lines} lines answered"),
-        Err(Failure::Read) => eprintln!(rt; "boxlines: a read failed after {lines} lines"),
-        Err(Failure::Write) => eprintln!(rt; "boxlines: a write failed after {lines} lines"),
-    };
+// The number of lines between two texts, on standard error. That this can't be written is not told.
+fn tell(before: &str, lines: u64, after: &str) {
+    io::write_all(STDERR_FILENO, before.as_bytes());
+    io::print_decimal(STDERR_FILENO, lines);
+    io::write_all(STDERR_FILENO, after.as_bytes());
+}
+
+// How the program ended.
+fn print_end(end: Result<(), Failure>, lines: u64) {
+    match end {
+        Ok(()) => tell("boxlines: ", lines, " lines answered\n"),
+        Err(Failure::Read) => tell("boxlines: a read failed after ", lines, " lines\n"),
+        Err(Failure::Write) => tell("boxlines: a write failed after ", lines, " lines\n"),
+    }
 }
 
 // Nothing says that the input ends, so the turns are counted, up to a number that no run reaches.
@@ -136,11 +145,11 @@ fn main(rt: HostRuntime) {
                 lines = lines.wrapping_add(answered.lines as u64);
             }
             Ok(Next::Ended(last)) => {
-                print_end(&rt, Ok(()), lines.wrapping_add(last as u64));
+                print_end(Ok(()), lines.wrapping_add(last as u64));
                 return;
             }
             Err(failure) => {
-                print_end(&rt, Err(failure), lines);
+                print_end(Err(failure), lines);
                 return;
             }
         }

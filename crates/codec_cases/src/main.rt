@@ -12,13 +12,16 @@ ghost use Rattle.std.specs.Prelude.{◌≤◌, length};
 mod print;
 mod text;
 
-use print::{FILL, Reading, Written};
+use print::{FILL, Reading, Written, print_line};
 use std::fs::File;
 use std::io::Read;
 use text::{field, parse_number, parse_symbols};
 
-// Encodes a pair, and prints the word or the refusal. Here and below, a write that fails is passed over.
-fn answer_pair(rt: &impl Print, line: &[u8]) {
+// Standard error, by POSIX's number.
+const STDERR_FILENO: i32 = 2;
+
+// Encodes a pair, and prints the word or the refusal.
+fn answer_pair(line: &[u8]) {
     let mut first = [0u8; 64];
     let first = parse_symbols(field(line, 3), &mut first);
     let mut second = [0u8; 64];
@@ -30,11 +33,11 @@ fn answer_pair(rt: &impl Print, line: &[u8]) {
     let profile = parse_number(field(line, 1));
     let rule = parse_number(field(line, 2));
     let answer = encoder::encode(edition, profile, rule, first, second, out);
-    let _ = println!(rt; "{}", Written { answer, out });
+    print_line(Written { answer, out });
 }
 
 // Decodes a word, and prints the answer and the messages, or the refusal.
-fn answer_word(rt: &impl Print, line: &[u8]) {
+fn answer_word(line: &[u8]) {
     let mut word = [0u8; 128];
     let word = parse_symbols(field(line, 2), &mut word);
     let mut first = [FILL; 64];
@@ -51,11 +54,11 @@ fn answer_word(rt: &impl Print, line: &[u8]) {
         first,
         second,
     };
-    let _ = println!(rt; "{reading}");
+    print_line(reading);
 }
 
 // Converts a word, and prints that of the other edition, or the refusal.
-fn answer_conversion(rt: &impl Print, line: &[u8]) {
+fn answer_conversion(line: &[u8]) {
     let mut word = [0u8; 128];
     let word = parse_symbols(field(line, 2), &mut word);
     let mut out = [FILL; 128];
@@ -64,7 +67,7 @@ fn answer_conversion(rt: &impl Print, line: &[u8]) {
     let edition = parse_number(field(line, 0));
     let profile = parse_number(field(line, 1));
     let answer = converter::convert(edition, profile, word, out);
-    let _ = println!(rt; "{}", Written { answer, out });
+    print_line(Written { answer, out });
 }
 
 // Answers each line of a file.
@@ -114,13 +117,14 @@ fn run_file<F: Fn(&[u8])>(rt: &HostRuntime, name: &str, answer: F)
     match File::open(rt, name) {
         Ok(mut file) => run(&mut file, answer),
         Err(_) => {
-            let _ = eprintln!(rt; "{name}: cannot be opened");
+            io::write_all(STDERR_FILENO, name.as_bytes());
+            io::write_all(STDERR_FILENO, b": cannot be opened\n");
         }
     }
 }
 
 fn main(rt: HostRuntime) {
-    run(&mut rt.stdin(), |line| answer_pair(&rt, line));
-    run_file(&rt, "words", |line| answer_word(&rt, line));
-    run_file(&rt, "conversions", |line| answer_conversion(&rt, line));
+    run(&mut rt.stdin(), answer_pair);
+    run_file(&rt, "words", answer_word);
+    run_file(&rt, "conversions", answer_conversion);
 }

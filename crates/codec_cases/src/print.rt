@@ -1,7 +1,27 @@
-// Answers in print.
+// Answers in print, piece by piece: each text and each number of a format is a write of its own.
 use decoder::{Changes, Decoded, Decoding};
 use refusals::Refusal;
 use std::fmt;
+use std::fmt::{InlineText, Write};
+
+// The stream that answers are written to, by POSIX's number.
+const STDOUT_FILENO: i32 = 1;
+
+// Standard output, with no buffer. A write that fails is passed over, and the pieces after it are still written.
+#[derive(Drop)]
+struct Stdout;
+
+impl fmt::Write for Stdout {
+    fn write_str(&mut self, s: &str) -> fmt::Result {
+        io::write_all(STDOUT_FILENO, s.as_bytes());
+        Ok(())
+    }
+}
+
+// A line of the answers.
+pub(crate) fn print_line<D: fmt::Display + Drop>(line: D) {
+    let _ = writeln!(Stdout, "{line}");
+}
 
 // What an output holds before a call.
 pub(crate) const FILL: u8 = 170;
@@ -10,16 +30,17 @@ fn is_untouched(s: &[u8]) -> bool {
     s.iter().all(|x| *x == FILL)
 }
 
-// The digits of a word.
+// The digits of a word, of at most 128 symbols, as one piece.
 #[derive(Drop)]
 struct Digits<'a>(&'a [u8]);
 
 impl fmt::Display for Digits<'_> {
     fn fmt<W: fmt::Write>(&self, f: &mut fmt::Formatter<W>) -> fmt::Result {
+        let mut text = InlineText::<128>::new();
         for x in self.0 {
-            f.write_char(if *x < 10 { char::from(b'0' + *x) } else { '?' })?;
+            let _ = text.write_char(if *x < 10 { char::from(b'0' + *x) } else { '?' });
         }
-        Ok(())
+        f.write_str(text.as_str())
     }
 }
 
@@ -47,8 +68,8 @@ struct Refused {
 
 impl fmt::Display for Refused {
     fn fmt<W: fmt::Write>(&self, f: &mut fmt::Formatter<W>) -> fmt::Result {
-        let letter = if self.is_kept { 'R' } else { 'X' };
-        write!(f, "{letter} {}", u8::from(self.refusal))
+        let letter = if self.is_kept { "R " } else { "X " };
+        write!(f, "{letter}{}", u8::from(self.refusal))
     }
 }
 
@@ -71,7 +92,7 @@ impl fmt::Display for Written<'_> {
     }
 }
 
-// What a word was read as.
+// What a word was read as. The letters M and F are pieces by themselves.
 #[derive(Drop)]
 struct Found(Decoded);
 
@@ -79,11 +100,18 @@ impl fmt::Display for Found {
     fn fmt<W: fmt::Write>(&self, f: &mut fmt::Formatter<W>) -> fmt::Result {
         match self.0 {
             Decoded::Clean => write!(f, "C 0 0 0"),
-            Decoded::Corrected(c) => write!(f, "M {} {} {}", c.position, c.symbol, Signed(c.error)),
-            Decoded::Filled(Changes::One(c)) => write!(f, "F {} {} 0", c.position, c.symbol),
+            Decoded::Corrected(c) => {
+                write!(f, "M")?;
+                write!(f, " {} {} {}", c.position, c.symbol, Signed(c.error))
+            }
+            Decoded::Filled(Changes::One(c)) => {
+                write!(f, "F")?;
+                write!(f, " {} {} {}", c.position, c.symbol, Signed(0))
+            }
             Decoded::Filled(Changes::Two(c, d)) => {
-                write!(f, "F {} {} ", c.position, c.symbol)?;
-                write!(f, "{} {} 0", d.position, d.symbol)
+                write!(f, "F")?;
+                write!(f, " {} {}", c.position, c.symbol)?;
+                write!(f, " {} {} {}", d.position, d.symbol, Signed(0))
             }
         }
     }

@@ -8,8 +8,10 @@ use lines::State;
 use std::fs::File;
 use std::io::Read;
 
-// The stream that answers are written to, by POSIX's number.
+// The streams that are written to, by POSIX's numbers.
 const STDOUT_FILENO: i32 = 1;
+
+const STDERR_FILENO: i32 = 2;
 
 // How a file is cut: into pieces of one size, or of mixed sizes, of 1 to 400: from 16 down, then from 400 down, and again.
 #[derive(Clone, Copy, PartialEq, Eq, Debug)]
@@ -88,7 +90,8 @@ const FILES: [&str; 15] = [
 fn files(rt: &HostRuntime, pieces: Pieces, output: &mut [u8]) {
     for name in FILES {
         let Ok(mut file) = File::open(rt, name) else {
-            let _ = eprintln!(rt; "{name}: cannot be opened");
+            io::write_all(STDERR_FILENO, name.as_bytes());
+            io::write_all(STDERR_FILENO, b": cannot be opened\n");
             return;
         };
         run(&mut file, pieces, output);

@@ -31,9 +31,9 @@ impl Session {
     }
 
     // Takes one byte of input: a line's end runs its call, and any other byte is added to the line, if there is room.
-    fn take(&mut self, rt: &impl Print, byte: u8) {
+    fn take(&mut self, byte: u8) {
         if byte == b'\n' {
-            self.size = calls::run(rt, &self.line[..self.held], &mut self.queue, self.size);
+            self.size = calls::run(&self.line[..self.held], &mut self.queue, self.size);
             self.held = 0;
         } else if self.held < self.line.len() {
             self.line[self.held] = byte;
@@ -43,7 +43,7 @@ impl Session {
 }
 
 // A proved loop has to end, so the reads are counted, up to a number that no run reaches. One that fails is taken for the end of the input.
-fn run(rt: &impl Print, input: &mut Stdin) {
+fn run(input: &mut Stdin) {
     let mut session = Session::new();
     let mut space = io::large_buffer();
     for _ in 0..u64::MAX {
@@ -52,11 +52,11 @@ fn run(rt: &impl Print, input: &mut Stdin) {
             return;
         }
         for byte in &space[..n] {
-            session.take(rt, *byte);
+            session.take(*byte);
         }
     }
 }
 
 fn main(rt: HostRuntime) {
-    run(&rt, &mut rt.stdin());
+    run(&mut rt.stdin());
 }

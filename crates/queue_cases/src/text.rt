@@ -2,6 +2,8 @@
 ghost use Rattle.std.specs.Prelude.{◌<◌, ◌≤◌, length};
 
 use queue::Refusal;
+use std::fmt;
+use std::fmt::Write;
 
 // The decimal number in front, and what follows the byte after it.
 pub(crate) fn number(text: &[u8]) -> (usize, &[u8]) {
@@ -45,10 +47,25 @@ fn digest(bytes: &[u8]) -> u64 {
     h
 }
 
-// Prints what a call answers: its number, and the digests of the queue and of the output. A write that fails is passed over.
-pub(crate) fn report(rt: &impl Print, answer: Result<(), Refusal>, queue: &[u8], output: &[u8]) {
+// The stream that answers are written to, by POSIX's number.
+const STDOUT_FILENO: i32 = 1;
+
+// Standard output, with no buffer: each text and each number of a format is a write of its own. One that fails is passed over,
+// and those after it are still made.
+#[derive(Drop)]
+struct Stdout;
+
+impl fmt::Write for Stdout {
+    fn write_str(&mut self, s: &str) -> fmt::Result {
+        io::write_all(STDOUT_FILENO, s.as_bytes());
+        Ok(())
+    }
+}
+
+// Prints what a call answers: its number, and the digests of the queue and of the output.
+pub(crate) fn report(answer: Result<(), Refusal>, queue: &[u8], output: &[u8]) {
     let number = queue::number(answer);
     let queue = digest(queue);
     let output = digest(output);
-    let _ = println!(rt; "{number} {queue} {output}");
+    let _ = writeln!(Stdout, "{number} {queue} {output}");
 }
